@@ -1,7 +1,63 @@
-// The page layer: virtual pages, frames and the cells of lent memory behind them.
+// The page layer: virtual pages, frames, and the cells of lent memory behind them.
+pub mod capability;
 
 // The number of a virtual page. V is at most 256, so a byte holds every one.
 pub struct VirtualPage(pub u8);
 
 // The number of a frame. It is a counter of its own and never stands for a page's.
 pub struct Frame(pub u8);
+
+// A virtual page shows nothing, must not show anything yet, or shows a frame.
+pub enum PageState {
+    Unmapped,
+    Freed,
+    Mapped(Frame),
+}
+
+// A frame holds what someone left, holds zeros, or is shown by a page.
+pub enum FrameState {
+    Dirty,
+    Free,
+    Mapped,
+}
+
+pub struct PageEntry {
+    pub state: PageState,
+}
+
+pub struct FrameEntry {
+    pub state: FrameState,
+}
+
+// V pages and F frames; entries at V or F and above are unused.
+pub struct Pages {
+    pub v: u16,
+    pub f: u16,
+    pub pages: [PageEntry; 256],
+    pub frames: [FrameEntry; 128],
+}
+
+// A range of virtual cells: `length` of them from `base` on.
+pub struct Range {
+    pub base: u16,
+    pub length: u16,
+}
+
+// What map, unmap and zero answer: 0 or the refusal's number, and the layer after it.
+pub struct Paged {
+    pub code: u8,
+    pub pages: Pages,
+}
+
+// The place of a virtual cell in lent memory.
+pub enum Place {
+    At(usize),
+    Nowhere,
+}
+
+// What a sweep answers: 0 or the refusal's number, the cells left and the place reached.
+pub struct Swept {
+    pub code: u8,
+    pub left: u32,
+    pub place: u32,
+}

@@ -1,0 +1,116 @@
+-- Commands 08, 09 and 0A, the place of a virtual cell, and what becomes of a range's pages. Assumes nothing.
+use Prim.Native.Nat.{ℕ, _+_, _*_, _/_, _%_}
+use mathlib.Core.Bool.{Bool, true, false, not, _&&_, _||_}
+use mathlib.Core.List.{List, [], _∷_, _++_}
+use lib.ListN.{length, take, drop, replicate}
+use lib.Dec.{leb, ltb, eqb}
+use Rattle.pages.specs.declared.Pages.{Pages}
+use Rattle.pages.specs.declared.Paged.{Paged}
+use Rattle.pages.specs.declared.Range.{Range}
+use Rattle.pages.specs.declared.Frame.{Frame}
+use Rattle.pages.specs.declared.VirtualPage.{VirtualPage}
+use Rattle.pages.specs.declared.PageEntry.{PageEntry}
+use Rattle.pages.specs.declared.PageState.{PageState}
+use Rattle.pages.specs.declared.PageState.the-variants.{Unmapped, Freed, Mapped}
+use Rattle.pages.specs.declared.FrameState.the-variants.{Dirty, Free, Mapped as Shown}
+use Rattle.pages.specs.declared.Place.{Place}
+use Rattle.pages.specs.declared.Place.the-variants.{At, Nowhere}
+use Rattle.pages.specs.Entries.{isUnmapped, isMapped, isDirty, isFree, pageEntry}
+use Rattle.pages.specs.Layer.{pageAt, frameAt, withPage, withFrame, serves}
+use Rattle.pages.specs.Lists.{pick, each, mapEach}
+use Rattle.pages.specs.Range.{pageInside}
+use Rattle.pages.specs.Refusals.{Reason, reason, first}
+
+-- A refused operation keeps the layer as it was.
+abbrev pub paged : ℕ → Pages → Pages → Paged
+paged code before after = record { code = code; pages = pick (eqb code 0) after before }
+
+-- "A page is V or more, or a frame F or more." (refusal 12)
+abbrev pub noPage : Pages → VirtualPage → Bool
+noPage s page = leb (s .v) (page .0)
+
+abbrev pub noFrame : Pages → Frame → Bool
+noFrame s frame = leb (s .f) (frame .0)
+
+-- 08 map: refusals 12, 13 (the page is not Unmapped) and 14 (the frame is not Free).
+unfoldable pub mapReasons : Pages → VirtualPage → Frame → List Reason
+mapReasons s page frame =
+    reason 12 (noPage s page || noFrame s frame)
+    ∷ reason 13 (not (isUnmapped (pageAt s (page .0)))) ∷ reason 14 (not (isFree (frameAt s (frame .0)))) ∷ []
+
+unfoldable pub mapped : Pages → VirtualPage → Frame → Pages
+mapped s page frame = withFrame (withPage s (page .0) (Mapped frame)) (frame .0) Shown
+
+unfoldable pub mapOf : Pages → VirtualPage → Frame → Paged
+mapOf s page frame = paged (first (mapReasons s page frame)) s (mapped s page frame)
+
+-- 09 unmap: refusals 12 and 13 (the page is not Mapped). "The page becomes Freed, the frame Dirty."
+unfoldable pub unmapReasons : Pages → VirtualPage → List Reason
+unmapReasons s page = reason 12 (noPage s page) ∷ reason 13 (not (isMapped (pageAt s (page .0)))) ∷ []
+
+unfoldable pub soiled : Pages → PageState → Pages
+soiled s Unmapped = s
+soiled s Freed = s
+soiled s (Mapped frame) = withFrame s (frame .0) Dirty
+
+unfoldable pub unmapped : Pages → VirtualPage → Pages
+unmapped s page = soiled (withPage s (page .0) Freed) (pageAt s (page .0))
+
+unfoldable pub unmapOf : Pages → VirtualPage → Paged
+unmapOf s page = paged (first (unmapReasons s page)) s (unmapped s page)
+
+-- 0A zero: refusals 2 (the lent cells or tags are not 16 × F in number), 12 and 14 (the frame is not Dirty).
+unfoldable pub zeroReasons : Pages → Frame → ℕ → ℕ → List Reason
+zeroReasons s frame cells tags =
+    reason 2 (not (serves s cells tags))
+    ∷ reason 12 (noFrame s frame) ∷ reason 14 (not (isDirty (frameAt s (frame .0)))) ∷ []
+
+-- "Its cells and tags become 0": the sixteen from 16 × frame on.
+unfoldable pub cleared : Frame → List ℕ → List ℕ
+cleared frame l = take (16 * frame .0) l ++ (replicate 16 0 ++ drop (16 * frame .0 + 16) l)
+
+-- What zero answers, together with the lent memory after it.
+pub record Zeroed : Type 0 where
+  pub answer : Paged
+  pub cells : List ℕ
+  pub tags : List ℕ
+
+abbrev pub zeroed : Paged → List ℕ → List ℕ → Zeroed
+zeroed answer cells tags = record { answer = answer; cells = cells; tags = tags }
+
+unfoldable pub zeroOf : Pages → Frame → List ℕ → List ℕ → Zeroed
+zeroOf s frame cells tags =
+    let code = first (zeroReasons s frame (length cells) (length tags)) in
+    zeroed (paged code s (withFrame s (frame .0) Free)) (pick (eqb code 0) (cleared frame cells) cells)
+    (pick (eqb code 0) (cleared frame tags) tags)
+
+-- "Lent memory is 16 × F cells ..; frame f begins at 16 × f": the place of a virtual cell whose page is Mapped.
+abbrev pub placeIn : PageState → ℕ → Place
+placeIn Unmapped offset = Nowhere
+placeIn Freed offset = Nowhere
+placeIn (Mapped frame) offset = At (16 * frame .0 + offset)
+
+-- None where the page is not Mapped, or lies at V or beyond.
+unfoldable pub lookupOf : Pages → ℕ → Place
+lookupOf s cell = pick (ltb (cell / 16) (s .v)) (placeIn (pageAt s (cell / 16)) (cell % 16)) Nowhere
+
+-- A page of the range is Mapped.
+unfoldable pub anyMapped : Pages → Range → Bool
+anyMapped s r = not (each (λ p e. not (pageInside r p && isMapped (e .state))) 0 (s .pages))
+
+abbrev pub withPages : Pages → List PageEntry → Pages
+withPages s l = record { v = s .v; f = s .f; pages = l; frames = s .frames }
+
+-- 05: "its Unmapped pages Freed".
+unfoldable pub freedEntry : Range → ℕ → PageEntry → PageEntry
+freedEntry r p e = pick (pageInside r p && isUnmapped (e .state)) (pageEntry Freed) e
+
+unfoldable pub freedOf : Pages → Range → Pages
+freedOf s r = withPages s (mapEach (freedEntry r) 0 (s .pages))
+
+-- 07: "Its pages become Unmapped".
+unfoldable pub releasedEntry : Range → ℕ → PageEntry → PageEntry
+releasedEntry r p e = pick (pageInside r p) (pageEntry Unmapped) e
+
+unfoldable pub releasedOf : Pages → Range → Pages
+releasedOf s r = withPages s (mapEach (releasedEntry r) 0 (s .pages))
