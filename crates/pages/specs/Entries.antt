@@ -26,6 +26,12 @@ maps Unmapped k = false
 maps Freed k = false
 maps (Mapped f) k = eqb (f .0) k
 
+-- The number of the frame that the page maps, or 256, which is no frame's.
+abbrev pub frameNumber : PageState → ℕ
+frameNumber Unmapped = 256
+frameNumber Freed = 256
+frameNumber (Mapped f) = f .0
+
 -- If the page maps a frame, then one below f.
 abbrev pub mapsBelow : ℕ → PageState → Bool
 mapsBelow f Unmapped = true

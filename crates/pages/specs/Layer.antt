@@ -1,5 +1,6 @@
 -- The page layer: its entries, its fresh form, and when it is well formed. Assumes nothing.
-use Prim.Native.Nat.{ℕ, _+_, _*_}
+use Prim.Native.Nat.{ℕ, _+_, _*_, _<_}
+use mathlib.Core.Path.{_≡_}
 use mathlib.Core.Bool.{Bool, _&&_}
 use mathlib.Core.List.{List, [], _∷_}
 use lib.ListN.{getD, set, replicate}
@@ -29,10 +30,10 @@ unfoldable pub withFrame : Pages → ℕ → FrameState → Pages
 withFrame s k state = record { v = s .v; f = s .f; pages = s .pages; frames = set (s .frames) k (frameEntry state) }
 
 -- "V is the number of virtual pages, 1 to 256. F is the number of frames, 1 to 128."
-unfoldable pub inRange : ℕ → ℕ → Bool
+abbrev pub inRange : ℕ → ℕ → Bool
 inRange v f = (ltb 0 v && leb v 256) && (ltb 0 f && leb f 128)
 
-unfoldable pub blank : ℕ → ℕ → Pages
+abbrev pub blank : ℕ → ℕ → Pages
 blank v f = record { v = v; f = f; pages = replicate 256 (pageEntry Unmapped); frames = replicate 128 (frameEntry Dirty) }
 
 -- "A fresh start, given V and F, has .. pages Unmapped, frames Dirty"; for V or F out of range all is 0.
@@ -44,19 +45,24 @@ unfoldable pub mappings : ℕ → List PageEntry → ℕ
 mappings k [] = 0
 mappings k (e ∷ l) = pick (maps (e .state) k) 1 0 + mappings k l
 
+-- A list that has, for each frame, how many pages map it.
+abbrev pub Tally : List ℕ → List PageEntry → Type 0
+Tally t l = (k : ℕ) → k < 128 → getD t k 0 ≡ mappings k l
+
 -- A page below V maps, if any, a frame below F; a page at V or above is unused.
-unfoldable pub pageSound : Pages → ℕ → PageEntry → Bool
-pageSound s p e = pick (ltb p (s .v)) (mapsBelow (s .f) (e .state)) (isUnmapped (e .state))
+unfoldable pub pageSound : ℕ → ℕ → ℕ → PageEntry → Bool
+pageSound v f p e = pick (ltb p v) (mapsBelow f (e .state)) (isUnmapped (e .state))
 
 -- "No two pages map one frame, and a frame is Mapped if and only if a page maps it": a Mapped frame is mapped by
 -- one page, any other by none. A frame at F or above is unused.
-unfoldable pub frameSound : Pages → ℕ → FrameEntry → Bool
-frameSound s k e = pick (ltb k (s .f)) (eqb (mappings k (s .pages)) (pick (isShown (e .state)) 1 0)) (isDirty (e .state))
+unfoldable pub frameSound : ℕ → List PageEntry → ℕ → FrameEntry → Bool
+frameSound f l k e = pick (ltb k f) (eqb (mappings k l) (pick (isShown (e .state)) 1 0)) (isDirty (e .state))
 
 -- The page layer's part of "A state is well formed".
 unfoldable pub wellFormed : Pages → Bool
-wellFormed s = (inRange (s .v) (s .f) && each (pageSound s) 0 (s .pages)) && each (frameSound s) 0 (s .frames)
+wellFormed s =
+    (inRange (s .v) (s .f) && each (pageSound (s .v) (s .f)) 0 (s .pages)) && each (frameSound (s .f) (s .pages)) 0 (s .frames)
 
 -- "Lent memory is 16 × F cells and 16 × F tag bytes": these are the lengths that the layer serves.
-unfoldable pub serves : Pages → ℕ → ℕ → Bool
+abbrev pub serves : Pages → ℕ → ℕ → Bool
 serves s cells tags = eqb cells (16 * s .f) && eqb tags (16 * s .f)

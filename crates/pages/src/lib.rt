@@ -1,5 +1,9 @@
 // The page layer: virtual pages, frames, and the cells of lent memory behind them.
 pub mod capability;
+pub mod entry;
+pub mod layer;
+pub mod mapping;
+pub mod refusal;
 
 // The number of a virtual page. V is at most 256, so a byte holds every one.
 pub struct VirtualPage(pub u8);

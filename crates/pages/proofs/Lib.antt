@@ -1,0 +1,6 @@
+pub mod Choice
+pub mod Arrays
+pub mod Lists
+pub mod Mappings
+pub mod Refusals
+pub mod Memory

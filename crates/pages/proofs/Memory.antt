@@ -1,0 +1,59 @@
+-- A frame's sixteen cells, lent as a part of memory and cleared. Assumes nothing.
+use Prim.Native.Nat.{ℕ, _+_, _-_, _*_, _≤_, _<_}
+use native.Mathlib.Omega.{arith}
+use mathlib.Core.Bool.{Bool, true, false, not, _&&_}
+use mathlib.Core.List.{List, [], _∷_, _++_}
+use mathlib.Core.Path.{_≡_, refl, sym, ap, _∙_}
+use lib.ListN.{length, take, drop, replicate, length-drop}
+use lib.Seq.{length-take-le, drop-drop}
+use lib.Dec.{eqb, leb}
+use borrow.Author.Tests.{eqb-true, leb-false, not-false, ne-eqb}
+use Rattle.pages.specs.declared.Frame.{Frame}
+use Rattle.pages.specs.declared.Pages.{Pages}
+use Rattle.pages.specs.declared.FrameState.the-variants.{Free}
+use Rattle.pages.specs.Layer.{frameAt, serves, withFrame}
+use Rattle.pages.specs.Mapping.{zeroReasons, noFrame, cleared, zeroed, zeroOf}
+use Rattle.pages.specs.Refusals.{reason, first}
+use Rattle.pages.proofs.Choice.{and-left, and-right}
+use Rattle.pages.proofs.Refusals.{first-clear}
+
+-- The part comes back cleared, between what stood before it and what stood after it.
+pub put-cleared :
+    (frame : Frame) (xs ys : List ℕ) → 16 * frame .0 + 16 ≤ length xs
+    → ys ≡ replicate (length (take (16 * frame .0 + 16 - 16 * frame .0) (drop (16 * frame .0) xs))) 0
+    → take (16 * frame .0) xs ++ (ys ++ drop (16 * frame .0 + 16 - 16 * frame .0) (drop (16 * frame .0) xs)) ≡ cleared frame xs
+unfolding cleared
+put-cleared frame xs ys h e =
+    let a : ℕ = 16 * frame .0 in
+    let n : a + 16 - a ≡ 16 = omega arith in
+    let m : length (take 16 (drop a xs)) ≡ 16 = length-take-le 16 (drop a xs) (simp length-drop (omega arith)) in
+    rw (e, n, m, drop-drop 16 a xs)
+
+-- What a granted zero knows of the lent lengths and the frame.
+pub record Served (s : Pages) (frame : Frame) (cells tags : ℕ) : Type 0 where
+  pub of-cells : cells ≡ 16 * s .f
+  pub of-tags : tags ≡ 16 * s .f
+  pub below : frame .0 < s .f
+
+pub zero-served :
+    (s : Pages) (frame : Frame) (cells tags : ℕ) → first (zeroReasons s frame cells tags) ≡ 0 → Served s frame cells tags
+unfolding zeroReasons
+zero-served s frame cells tags e =
+    let one = first-clear 2 (not (serves s cells tags)) _ (λ x. omega arith) e in
+    let both : serves s cells tags ≡ true = not-false _ (one .0) in
+    let two = first-clear 12 (noFrame s frame) _ (λ x. omega arith) (one .1) in
+    record {
+      of-cells = eqb-true cells (16 * s .f) (and-left (eqb cells (16 * s .f)) _ both);
+      of-tags = eqb-true tags (16 * s .f) (and-right (eqb cells (16 * s .f)) _ both);
+      below = leb-false (s .f) (frame .0) (two .0);
+    }
+
+-- The two ways in which zero returns.
+module _ (s : Pages) (frame : Frame) (cells tags : List ℕ) (k : ℕ) (e : k ≡ first (zeroReasons s frame (length cells) (length tags))) where
+  pub zero-refused : (k ≡ 0 → ⊥) → zeroed (record { code = k; pages = s }) cells tags ≡ zeroOf s frame cells tags
+  unfolding zeroOf
+  zero-refused h = rw (← e, ne-eqb k 0 h)
+
+  pub zero-granted : k ≡ 0 → zeroed (record { code = 0; pages = withFrame s (frame .0) Free }) (cleared frame cells) (cleared frame tags) ≡ zeroOf s frame cells tags
+  unfolding zeroOf
+  zero-granted h = rw (← e, h)

@@ -1,0 +1,88 @@
+use native.Mathlib.Omega.{arith}
+use Prim.Native.Nat.{_≤_, _-_, _+_}
+use borrow.Author.Needs.{needs}
+use mathlib.Core.Path.{_≡_, refl, sym, _∙_, ap, subst}
+use lib.ListN.{length, take, getD, set, getD-replicate, length-set}
+use Rattle.pages.specs.Entries.{pageEntry}
+use Rattle.pages.specs.declared.PageState.the-variants.{Unmapped}
+use Rattle.pages.specs.Layer.{Tally, mappings}
+use Rattle.pages.proofs.Mappings.{mappings-le, tally-hit, tally-miss}
+use Rattle.pages.proofs.Arrays.{length-under}
+use mathlib.Core.Logic.{⊎-elim}
+use lib.Seq.{take-all, length-take-le}
+use Rattle.pages.proofs.Pages.tally.Statement.{statement}
+use Rattle.pages.proofs.Pages.tally.Tie as tie
+
+abbrev Inv-loop : tie.InvT-loop
+Inv-loop pages tally₀ p₀ tally p = (p ≤ 256) × (length pages ≡ 256) × (length tally ≡ 128) × Tally tally (take p pages)
+
+abbrev μ-loop : tie.MeasureT-loop
+μ-loop pages tally₀ p₀ tally p = 256 - p
+
+loop-holds : tie.Need-loop-holds Inv-loop μ-loop
+unfolding mappings
+loop-holds c = let l : length (c .before .args .self .pages) ≡ 256 = let g = c .before .good .0 in search (length-under, g) in (omega arith, l, refl, λ k j. getD-replicate 128 k 0 0 j)
+
+mul-entry : tie.Need-mul-entry Inv-loop μ-loop
+mul-entry c = omega arith
+
+array-copy-out-entry : tie.Need-array-copy-out-entry Inv-loop μ-loop
+array-copy-out-entry c = omega arith
+
+frame-number-requires : tie.Need-frame-number-requires Inv-loop μ-loop
+frame-number-requires c κs = search needs
+
+mul-tally : tie.Need-mul-tally Inv-loop μ-loop
+mul-tally c = omega arith
+
+array-read-tally : tie.Need-array-read-tally Inv-loop μ-loop
+array-read-tally c = omega arith
+
+add-tally : tie.Need-add-tally Inv-loop μ-loop
+add-tally c = omega (arith, c .before .before .before .before .loop .inv .3 (c .before .frame-number .result) (omega arith), mappings-le (c .before .frame-number .result) (take (c .before .before .before .before .loop .p) (c .before .before .before .before .before .before .args .self .pages)), length-take-le (c .before .before .before .before .loop .p) (c .before .before .before .before .before .before .args .self .pages) (omega arith))
+
+mul-tally-2 : tie.Need-mul-tally-2 Inv-loop μ-loop
+mul-tally-2 c = omega arith
+
+array-write-tally : tie.Need-array-write-tally Inv-loop μ-loop
+array-write-tally c = omega arith
+
+add-p : tie.Need-add-p Inv-loop μ-loop
+add-p c = omega arith
+
+loop-less : tie.Need-loop-less Inv-loop μ-loop
+loop-less c = omega arith
+
+loop-again : tie.Need-loop-again Inv-loop μ-loop
+loop-again c = (
+  omega arith,
+  c .before .before .before .before .loop .inv .1,
+  ⊎-elim (λ w. rw (w .1, length-set) (c .before .before .before .before .loop .inv .2)) (λ w. rw (w .1) (c .before .before .before .before .loop .inv .2)) (c .if1 .came),
+  ⊎-elim
+      (λ w. subst (λ t. Tally t (take (c .before .before .before .before .loop .p + 1) (c .before .before .before .before .before .before .args .self .pages))) (sym (w .1)) (tally-hit (c .before .before .before .before .loop .tally) (c .before .before .before .before .before .before .args .self .pages) (c .before .before .before .before .loop .p) (pageEntry Unmapped) (c .before .frame-number .result) (omega arith) (c .before .frame-number .ensures) (w .0 .taken) (c .before .before .before .before .loop .inv .2) (c .before .before .before .before .loop .inv .3)))
+      (λ w. subst (λ t. Tally t (take (c .before .before .before .before .loop .p + 1) (c .before .before .before .before .before .before .args .self .pages))) (sym (w .1)) (tally-miss (c .before .before .before .before .loop .tally) (c .before .before .before .before .before .before .args .self .pages) (c .before .before .before .before .loop .p) (pageEntry Unmapped) (omega arith) (rw (← (c .before .frame-number .ensures)) (w .0 .left)) (c .before .before .before .before .loop .inv .3)))
+      (c .if1 .came),
+)
+
+returns : tie.Need-returns Inv-loop μ-loop
+returns c = subst (Tally (c .before .loop .tally)) (take-all (c .before .loop .p) (c .before .before .before .args .self .pages) (omega arith)) (c .before .loop .inv .3)
+
+pub tally-spec : {M : Type 1} → statement M
+tally-spec =
+    tie.close
+    (tie.spec
+    Inv-loop
+    μ-loop
+    loop-holds
+    mul-entry
+    array-copy-out-entry
+    frame-number-requires
+    mul-tally
+    array-read-tally
+    add-tally
+    mul-tally-2
+    array-write-tally
+    add-p
+    loop-less
+    loop-again
+    returns)

@@ -1,0 +1,49 @@
+use borrow.Author.Needs.{needs}
+use Rattle.pages.proofs.Memory.{put-cleared}
+use Rattle.pages.proofs.mapping.clear_cells_of.Statement.{statement}
+use Rattle.pages.proofs.mapping.clear_cells_of.Tie as tie
+
+cast-start : tie.Need-cast-start
+cast-start c = search needs
+
+mul-start : tie.Need-mul-start
+mul-start c = search needs
+
+add-end : tie.Need-add-end
+add-end c = search needs
+
+mul-clear-cells : tie.Need-mul-clear-cells
+mul-clear-cells c = search needs
+
+sub-clear-cells : tie.Need-sub-clear-cells
+sub-clear-cells c = search needs
+
+part-clear-cells-start : tie.Need-part-clear-cells-start
+part-clear-cells-start c = search needs
+
+part-clear-cells-end : tie.Need-part-clear-cells-end
+part-clear-cells-end c = search needs
+
+clear-cells-requires : tie.Need-clear-cells-requires
+clear-cells-requires c κs = search needs
+
+same-length : tie.Need-same-length
+same-length c = search needs
+
+returns : tie.Need-returns
+returns c = put-cleared (c .before .before .before .before .before .before .args .frame) (c .before .before .before .before .before .before .args .cells .now) _ (c .before .before .before .before .before .before .pre) (c .before .before .clear-cells .ensures)
+
+pub clear-cells-of-spec : {M : Type 1} → statement M
+clear-cells-of-spec =
+    tie.close
+    (tie.spec
+    cast-start
+    mul-start
+    add-end
+    mul-clear-cells
+    sub-clear-cells
+    part-clear-cells-start
+    part-clear-cells-end
+    clear-cells-requires
+    same-length
+    returns)
