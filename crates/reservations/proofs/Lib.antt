@@ -1,0 +1,4 @@
+pub mod Moving
+pub mod Finding
+pub mod Answers
+pub mod Walking

@@ -1,0 +1,4 @@
+pub mod Rows
+pub mod Find
+pub mod Operations
+pub mod Tiling
