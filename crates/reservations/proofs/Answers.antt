@@ -16,13 +16,10 @@ use Rattle.reservations.specs.declared.Taken.{Taken}
 use Rattle.reservations.specs.declared.Reservation.{Reservation}
 use Rattle.reservations.specs.declared.Found.{Found}
 use Rattle.reservations.specs.declared.Found.the-variants.{At}
+use Rattle.reservations.proofs.Truth.{or-right}
 use Rattle.reservations.specs.Rows.{isOpen}
 use Rattle.reservations.specs.Find.{missing, nextOf, rowOf}
-use Rattle.reservations.specs.Operations.{tabled, badSplit, full, mergeable, splitReasonsAt, mergeReasonsAt}
-
-or-right : (a b : Bool) → a || b ≡ false → b ≡ false
-or-right true b e = absurd (true≢false e)
-or-right false b e = e
+use Rattle.reservations.specs.Operations.{tabled, openReasons, badSplit, full, mergeable, splitReasonsAt, mergeReasonsAt}
 
 module _ {A : Type 0} (code told : ℕ) (e : code ≡ told) (x y : A) where
   pub granted : code ≡ 0 → pick (eqb told 0) x y ≡ x
@@ -45,7 +42,13 @@ module _ (code told : ℕ) (e : code ≡ told) (before after : Table) where
 pub split-fits : (r : Reservation) (len : ℕ) → badSplit r len ≡ false → len ≤ r .length
 split-fits r len e = omega (arith, leb-false (r .length) len (or-right (eqb len 0) (leb (r .length) len) e))
 
--- What split and merge need of a reservation that was not refused.
+-- What take, give, split and merge need of a reservation that was not refused.
+pub open-clear : (f : Found) (r : Reservation) → first (openReasons f r) ≡ 0 → (missing f ≡ false) × (isOpen (r .state) ≡ true)
+unfolding openReasons
+open-clear f r e =
+    let after6 = first-clear 6 _ _ (λ z. omega arith) e in
+    (after6 .0, not-false _ (first-clear 7 _ _ (λ z. omega arith) (after6 .1) .0))
+
 pub split-clear : (t : Table) (f : Found) (len : ℕ) → first (splitReasonsAt t f len) ≡ 0 → (badSplit (rowOf t f) len ≡ false) × (full t ≡ false)
 unfolding splitReasonsAt
 split-clear t f len e =

@@ -64,6 +64,10 @@ next-below t i e = go (ltb (i + 1) (length (live t))) refl
     go true p = ltb-true (i + 1) (length (live t)) p
     go false p = absurd (true≢false (sym (ap missing (pick-no (ltb (i + 1) (length (live t))) (At (i + 1)) Nowhere p)) ∙ e))
 
+pub next-at : (t : Table) (i : ℕ) → i + 1 < length (live t) → nextOf t (At i) ≡ At (i + 1)
+unfolding nextOf
+next-at t i h = pick-yes (ltb (i + 1) (length (live t))) (At (i + 1)) Nowhere (lt-ltb (i + 1) (length (live t)) h)
+
 used : (t : Table) (i : ℕ) → i < length (live t) → inUse t (At i) ≡ true
 unfolding inUse
 used t i h = lt-ltb i (length (live t)) h

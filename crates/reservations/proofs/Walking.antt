@@ -1,7 +1,7 @@
 -- The tests of well-formedness, one row more, as their loops go. Assumes nothing.
 use Prim.Native.Nat.{ℕ, suc, _+_, _<_, _≤_}
 use native.Mathlib.Numerals.{add-one}
-use mathlib.Core.Bool.{Bool, true, false, _&&_, true≢false, false≢true}
+use mathlib.Core.Bool.{Bool, true, false, _&&_}
 use mathlib.Core.List.{List, [], _∷_}
 use mathlib.Core.Path.{_≡_, refl, sym, ap, _∙_}
 use lib.ListN.{length, getD, drop, drop-of-length-le}
@@ -37,11 +37,3 @@ module _ (l : List Reservation) (i : ℕ) (h : length l ≤ i) where
   pub revokings-end : revokings (drop i l) ≡ 0
   unfolding revokings
   revokings-end = rw (drop-of-length-le l h)
-
-pub and-yes : (a b : Bool) → a ≡ true → a && b ≡ b
-and-yes true b e = refl
-and-yes false b e = absurd (false≢true e)
-
-pub and-no : (a b : Bool) → a ≡ false → a && b ≡ false
-and-no true b e = absurd (true≢false e)
-and-no false b e = refl

@@ -31,9 +31,12 @@ allBlank [] = true
 allBlank (r ∷ l) = isBlank r && allBlank l
 
 -- How many are Revoking.
+abbrev pub weight : Reservation → ℕ
+weight r = pick (isRevoking (r .state)) 1 0
+
 unfoldable pub revokings : List Reservation → ℕ
 revokings [] = 0
-revokings (r ∷ l) = pick (isRevoking (r .state)) 1 0 + revokings l
+revokings (r ∷ l) = weight r + revokings l
 
 -- The table has 64 rows, of which 1 to 64 are used.
 unfoldable pub sized : Table → Bool

@@ -8,7 +8,8 @@ use borrow.Author.Tests.{not-true, not-false}
 use lib.ListN.{length, drop, getD}
 use Rattle.reservations.specs.Rows.{isBlank, blank}
 use Rattle.reservations.specs.Tiling.{allBlank}
-use Rattle.reservations.proofs.Walking.{blank-more, blank-end, and-yes, and-no}
+use Rattle.reservations.proofs.Walking.{blank-more, blank-end}
+use Rattle.reservations.proofs.Truth.{and-yes, and-no}
 use borrow.Author.Needs.{needs}
 use Rattle.reservations.proofs.Table.rest_blank.Statement.{statement}
 use Rattle.reservations.proofs.Table.rest_blank.Tie as tie

@@ -11,7 +11,8 @@ use Rattle.pages.proofs.Choice.{and-left}
 use Rattle.reservations.specs.Rows.{live, blank}
 use Rattle.reservations.specs.Tiling.{tiles, follows, rowSound}
 use Rattle.reservations.proofs.Moving.{live-length, live-at}
-use Rattle.reservations.proofs.Walking.{tiles-more, tiles-end, and-yes, and-no}
+use Rattle.reservations.proofs.Walking.{tiles-more, tiles-end}
+use Rattle.reservations.proofs.Truth.{and-yes, and-no}
 use borrow.Author.Needs.{needs}
 use Rattle.reservations.proofs.Table.tiled.Statement.{statement}
 use Rattle.reservations.proofs.Table.tiled.Tie as tie
