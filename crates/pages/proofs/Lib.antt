@@ -4,3 +4,5 @@ pub mod Lists
 pub mod Mappings
 pub mod Refusals
 pub mod Memory
+pub mod Replacing
+pub mod Sweeping

@@ -4,10 +4,10 @@ use native.Mathlib.Nat.{add-zero, add-suc, suc-add, zero-add}
 use native.Mathlib.Numerals.{add-one}
 use native.Mathlib.Omega.{arith}
 use mathlib.Core.Bool.{Bool, true, false, _&&_, and-true, and-assoc, true-and}
-use mathlib.Core.List.{List, [], _∷_, _++_}
+use mathlib.Core.List.{List, [], _∷_, _++_, append-nil}
 use mathlib.Core.Path.{_≡_, refl, sym, ap, _∙_}
-use lib.ListN.{length, getD, take, drop, set, length-append, length-take}
-use lib.Seq.{take-suc, length-take-le, set-at, drop-cons, append-snoc}
+use lib.ListN.{length, getD, take, drop, set, drop-of-length-le}
+use lib.Seq.{take-suc, take-all, length-take-le, getD-at, set-at, drop-cons, append-snoc}
 use Rattle.pages.specs.Lists.{pick, each, mapEach}
 use Rattle.pages.proofs.Choice.{and-left, and-right}
 
@@ -62,6 +62,12 @@ module _ {A B : Type 0} (f : ℕ → A → B) where
   mapEach-snoc n [] y = rw add-zero
   mapEach-snoc n (x ∷ l) y = rw (mapEach-snoc (suc n) l y, suc-add n (length l), add-suc n (length l))
 
+pub mapEach-same : {A : Type 0} (f : ℕ → A → A) (n : ℕ) (l : List A) → ((i : ℕ) (x : A) → i < length l → f (n + i) x ≡ x) → mapEach f n l ≡ l
+unfolding mapEach
+mapEach-same f n [] h = refl
+mapEach-same f n (x ∷ l) h =
+    rw (rw add-zero at (h 0 x (omega arith)), mapEach-same f (suc n) l (λ i y k. rw (suc-add, ← add-suc) (h (suc i) y (omega arith))))
+
 -- A loop that replaces one entry a turn: after i + 1 turns.
 module _ {A : Type 0} (f : ℕ → A → A) where
   pub mapEach-more :
@@ -72,3 +78,12 @@ module _ {A : Type 0} (f : ℕ → A → A) where
       rw (add-one, take-suc l i d h, mapEach-snoc f 0 (take i l) (getD l i d), zero-add, e, drop-cons l i d h)
       (set-at (mapEach f 0 (take i l)) (getD l i d) (drop (suc i) l) (f i (getD l i d)) i (length-mapEach f 0 (take i l) ∙ e)
       ∙ sym (append-snoc (mapEach f 0 (take i l)) (f i (getD l i d)) (drop (suc i) l)))
+
+  -- The entry that the loop's next turn reads is still the old one.
+  pub mapEach-next : (l : List A) (i : ℕ) (d : A) → i < length l → getD (mapEach f 0 (take i l) ++ drop i l) i d ≡ getD l i d
+  mapEach-next l i d h =
+      let e : length (take i l) ≡ i = length-take-le i l (omega arith) in
+      rw (drop-cons l i d h) (getD-at (mapEach f 0 (take i l)) (getD l i d) (drop (suc i) l) d i (length-mapEach f 0 (take i l) ∙ e))
+
+  pub mapEach-whole : (l : List A) (i : ℕ) → length l ≤ i → mapEach f 0 (take i l) ++ drop i l ≡ mapEach f 0 l
+  mapEach-whole l i h = rw (take-all i l h, drop-of-length-le l {i = i} h, append-nil)

@@ -29,6 +29,11 @@ put-cleared frame xs ys h e =
     let m : length (take 16 (drop a xs)) ≡ 16 = length-take-le 16 (drop a xs) (simp length-drop (omega arith)) in
     rw (e, n, m, drop-drop 16 a xs)
 
+-- Lent memory of the size that is served.
+pub served : (s : Pages) (cells tags : ℕ) → serves s cells tags ≡ true → (cells ≡ 16 * s .f) × (tags ≡ 16 * s .f)
+served s cells tags e =
+    (eqb-true cells (16 * s .f) (and-left (eqb cells (16 * s .f)) _ e), eqb-true tags (16 * s .f) (and-right (eqb cells (16 * s .f)) _ e))
+
 -- What a granted zero knows of the lent lengths and the frame.
 pub record Served (s : Pages) (frame : Frame) (cells tags : ℕ) : Type 0 where
   pub of-cells : cells ≡ 16 * s .f
@@ -40,13 +45,9 @@ pub zero-served :
 unfolding zeroReasons
 zero-served s frame cells tags e =
     let one = first-clear 2 (not (serves s cells tags)) _ (λ x. omega arith) e in
-    let both : serves s cells tags ≡ true = not-false _ (one .0) in
+    let both = served s cells tags (not-false _ (one .0)) in
     let two = first-clear 12 (noFrame s frame) _ (λ x. omega arith) (one .1) in
-    record {
-      of-cells = eqb-true cells (16 * s .f) (and-left (eqb cells (16 * s .f)) _ both);
-      of-tags = eqb-true tags (16 * s .f) (and-right (eqb cells (16 * s .f)) _ both);
-      below = leb-false (s .f) (frame .0) (two .0);
-    }
+    record { of-cells = both .0; of-tags = both .1; below = leb-false (s .f) (frame .0) (two .0) }
 
 -- The two ways in which zero returns.
 module _ (s : Pages) (frame : Frame) (cells tags : List ℕ) (k : ℕ) (e : k ≡ first (zeroReasons s frame (length cells) (length tags))) where

@@ -94,9 +94,13 @@ placeIn (Mapped frame) offset = At (16 * frame .0 + offset)
 unfoldable pub lookupOf : Pages → ℕ → Place
 lookupOf s cell = pick (ltb (cell / 16) (s .v)) (placeIn (pageAt s (cell / 16)) (cell % 16)) Nowhere
 
--- A page of the range is Mapped.
+-- A page that lies in the range is not Mapped.
+unfoldable pub notMappedIn : Range → ℕ → PageEntry → Bool
+notMappedIn r p e = not (pageInside r p && isMapped (e .state))
+
+-- 13: "a page to revoke is Mapped".
 unfoldable pub anyMapped : Pages → Range → Bool
-anyMapped s r = not (each (λ p e. not (pageInside r p && isMapped (e .state))) 0 (s .pages))
+anyMapped s r = not (each (notMappedIn r) 0 (s .pages))
 
 abbrev pub withPages : Pages → List PageEntry → Pages
 withPages s l = record { v = s .v; f = s .f; pages = l; frames = s .frames }

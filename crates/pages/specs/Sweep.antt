@@ -5,11 +5,13 @@ use mathlib.Core.List.{List}
 use lib.ListN.{length, getD}
 use lib.Dec.{leb, ltb, eqb}
 use Rattle.pages.specs.declared.Pages.{Pages}
+use Rattle.pages.specs.declared.FrameEntry.{FrameEntry}
+use Rattle.pages.specs.declared.FrameState.the-variants.{Dirty}
 use Rattle.pages.specs.declared.Range.{Range}
 use Rattle.pages.specs.declared.Swept.{Swept}
 use Rattle.pages.specs.Capability.{baseOf}
-use Rattle.pages.specs.Entries.{isShown}
-use Rattle.pages.specs.Layer.{frameAt, serves}
+use Rattle.pages.specs.Entries.{isShown, frameEntry}
+use Rattle.pages.specs.Layer.{serves}
 use Rattle.pages.specs.Lists.{pick, mapEach}
 use Rattle.pages.specs.Range.{inside}
 
@@ -17,14 +19,17 @@ use Rattle.pages.specs.Range.{inside}
 unfoldable pub passed : Pages → ℕ → ℕ → ℕ
 passed s place n = min n (16 * s .f - place)
 
--- "In a Mapped frame, a tag is cleared where the capability's base lies in the revoked range .. Cells of other
--- frames are passed untouched." Of cell i, whose tag is t, once those from one place up to another are passed.
-unfoldable pub sweptTag : Pages → Range → ℕ → ℕ → List ℕ → ℕ → ℕ → ℕ
-sweptTag s r from upto cells i t =
-    pick ((leb from i && ltb i upto) && (isShown (frameAt s (i / 16)) && inside r (baseOf (getD cells i 0)))) 0 t
+abbrev pub shownAt : List FrameEntry → ℕ → Bool
+shownAt frames k = isShown (getD frames k (frameEntry Dirty) .state)
 
-unfoldable pub sweptTags : Pages → Range → ℕ → ℕ → List ℕ → List ℕ → List ℕ
-sweptTags s r from upto cells tags = mapEach (sweptTag s r from upto cells) 0 tags
+-- "In a Mapped frame, a tag is cleared where the capability's base lies in the revoked range .. Cells of other
+-- frames are passed untouched." Of cell i, whose tag is t, once the cells from one place up to another are passed.
+unfoldable pub sweptTag : List FrameEntry → Range → ℕ → ℕ → List ℕ → ℕ → ℕ → ℕ
+sweptTag frames r from upto cells i t =
+    pick ((leb from i && ltb i upto) && (shownAt frames (i / 16) && inside r (baseOf (getD cells i 0)))) 0 t
+
+unfoldable pub sweptTags : List FrameEntry → Range → ℕ → ℕ → List ℕ → List ℕ → List ℕ
+sweptTags frames r from upto cells tags = mapEach (sweptTag frames r from upto cells) 0 tags
 
 -- What a sweep answers, together with the tags after it.
 pub record Passed : Type 0 where
@@ -41,5 +46,5 @@ passing answer tags = record { answer = answer; tags = tags }
 unfoldable pub sweepOf : Pages → Range → ℕ → ℕ → List ℕ → List ℕ → Passed
 sweepOf s r place n cells tags =
     let next = place + passed s place n in
-    pick (serves s (length cells) (length tags)) (passing (swept 0 (16 * s .f - next) next) (sweptTags s r place next cells tags))
+    pick (serves s (length cells) (length tags)) (passing (swept 0 (16 * s .f - next) next) (sweptTags (s .frames) r place next cells tags))
     (passing (swept 2 0 place) tags)

@@ -3,7 +3,9 @@ pub mod capability;
 pub mod entry;
 pub mod layer;
 pub mod mapping;
+pub mod ranges;
 pub mod refusal;
+pub mod sweep;
 
 // The number of a virtual page. V is at most 256, so a byte holds every one.
 pub struct VirtualPage(pub u8);

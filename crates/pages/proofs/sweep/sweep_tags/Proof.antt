@@ -1,0 +1,78 @@
+use borrow.Author.Needs.{needs}
+use Prim.Native.Nat.{_≤_, _<_, _-_, _+_}
+use native.Mathlib.Omega.{arith}
+use mathlib.Core.Path.{_≡_, refl, sym, _∙_, ap}
+use lib.ListN.{length, length-set, set, getD}
+use Rattle.pages.specs.Lists.{pick}
+use Rattle.pages.specs.Sweep.{sweptTags}
+use Rattle.pages.proofs.Sweeping.{length-swept, swept-none, swept-next, swept-hit, swept-miss}
+use mathlib.Core.Logic.{⊎-elim}
+use Rattle.pages.proofs.sweep.sweep_tags.Statement.{statement}
+use Rattle.pages.proofs.sweep.sweep_tags.Tie as tie
+
+abbrev Inv-loop : tie.InvT-loop
+Inv-loop frames range from upto cells tags₀ i₀ tags i = (from ≤ i) × (i ≤ upto) × (length tags ≡ length tags₀) × (tags ≡ sweptTags frames range from i cells tags₀)
+
+abbrev μ-loop : tie.MeasureT-loop
+μ-loop frames range from upto cells tags₀ i₀ tags i = upto - i
+
+loop-holds : tie.Need-loop-holds Inv-loop μ-loop
+loop-holds c = (omega arith, c .before .before .pre .1, refl, swept-none _ _ _ _ _)
+
+slice-read-tag : tie.Need-slice-read-tag Inv-loop μ-loop
+slice-read-tag c = omega (arith, c .before .before .before .before .before .pre .2 (omega arith))
+
+shown-at-requires : tie.Need-shown-at-requires Inv-loop μ-loop
+shown-at-requires c κs = search needs
+
+mul-swept-tag : tie.Need-mul-swept-tag Inv-loop μ-loop
+mul-swept-tag c = omega (arith, c .before .before .before .before .before .before .before .pre .2 (omega arith), c .before .before .before .before .before .before .before .good)
+
+shared-slice-read-swept-tag : tie.Need-shared-slice-read-swept-tag Inv-loop μ-loop
+shared-slice-read-swept-tag c = omega (arith, c .before .before .before .before .before .before .before .before .pre .0, c .before .before .before .before .before .before .before .before .pre .2 (omega arith))
+
+swept-tag-requires : tie.Need-swept-tag-requires Inv-loop μ-loop
+swept-tag-requires c κs = search needs
+
+slice-write-tags : tie.Need-slice-write-tags Inv-loop μ-loop
+slice-write-tags c = omega (arith, c .before .before .before .before .before .before .before .before .before .pre .2 (omega arith))
+
+add-i : tie.Need-add-i Inv-loop μ-loop
+add-i c = omega arith
+
+loop-less : tie.Need-loop-less Inv-loop μ-loop
+loop-less c = omega arith
+
+loop-again : tie.Need-loop-again Inv-loop μ-loop
+loop-again c =
+    let h : c .before .before .before .loop .i < length (c .before .before .before .before .before .before .args .tags .now) = omega (arith, c .before .before .before .before .before .before .pre .2 (omega arith)) in
+    let e : c .if1 .tags ≡ sweptTags (c .before .before .before .before .before .before .args .frames) (c .before .before .before .before .before .before .args .range) (c .before .before .before .before .before .before .args .from) (c .before .before .before .loop .i + 1) (c .before .before .before .before .before .before .args .cells .now) (c .before .before .before .before .before .before .args .tags .now) =
+    ⊎-elim (λ w. rw (w .4, w .3 .ensures, w .1 .ensures, c .before .before .before .loop .inv .3, swept-next (c .before .before .before .before .before .before .args .frames) (c .before .before .before .before .before .before .args .range) (c .before .before .before .before .before .before .args .from) (c .before .before .before .before .before .before .args .cells .now) (c .before .before .before .before .before .before .args .tags .now) (c .before .before .before .loop .i) h) (swept-hit (c .before .before .before .before .before .before .args .frames) (c .before .before .before .before .before .before .args .range) (c .before .before .before .before .before .before .args .from) (c .before .before .before .before .before .before .args .cells .now) (c .before .before .before .before .before .before .args .tags .now) (c .before .before .before .loop .i) h (omega arith)))
+    (λ w. rw (w .1) (c .before .before .before .loop .inv .3 ∙ swept-miss (c .before .before .before .before .before .before .args .frames) (c .before .before .before .before .before .before .args .range) (c .before .before .before .before .before .before .args .from) (c .before .before .before .before .before .before .args .cells .now) (c .before .before .before .before .before .before .args .tags .now) (c .before .before .before .loop .i) h (omega arith) (rw (c .before .before .before .loop .inv .3) at (w .0 .left)))) (c .if1 .came)
+    in
+    (omega arith, omega arith, ap length e ∙ length-swept (c .before .before .before .before .before .before .args .frames) (c .before .before .before .before .before .before .args .range) (c .before .before .before .before .before .before .args .from) (c .before .before .before .before .before .before .args .cells .now) (c .before .before .before .before .before .before .args .tags .now) (c .before .before .before .loop .i + 1), e)
+
+same-length : tie.Need-same-length Inv-loop μ-loop
+same-length c = c .before .loop .inv .2
+
+returns : tie.Need-returns Inv-loop μ-loop
+returns c = let e : c .before .loop .i ≡ c .before .before .before .before .args .upto = omega arith in c .before .loop .inv .3 ∙ rw e
+
+pub sweep-tags-spec : {M : Type 1} → statement M
+sweep-tags-spec =
+    tie.close
+    (tie.spec
+    Inv-loop
+    μ-loop
+    loop-holds
+    slice-read-tag
+    shown-at-requires
+    mul-swept-tag
+    shared-slice-read-swept-tag
+    swept-tag-requires
+    slice-write-tags
+    add-i
+    loop-less
+    loop-again
+    same-length
+    returns)

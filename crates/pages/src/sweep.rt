@@ -1,0 +1,96 @@
+// The sweep over lent memory.
+use crate::FrameEntry;
+use crate::Pages;
+use crate::Range;
+use crate::Swept;
+use crate::capability::base_of;
+use crate::entry::is_shown;
+use crate::ranges::inside;
+ghost use mathlib.Core.Path.{_≡_};
+ghost use Prim.Native.Nat.{_+_, _-_, _*_, _/_, _<_, _≤_, min};
+ghost use mathlib.Core.Bool.{_&&_};
+ghost use lib.ListN.{length};
+ghost use Rattle.pages.specs.Capability.{baseOf};
+ghost use Rattle.pages.specs.Lists.{pick};
+ghost use Rattle.pages.specs.Range.{inside};
+ghost use Rattle.pages.specs.Sweep.{shownAt, sweptTags, passing, sweepOf};
+
+fn shown_at(frames: [FrameEntry; 128], frame: usize) -> bool
+    ensures { λ r. ⌜ r ≡ shownAt frames frame ⌝ }
+{
+    if frame < 128 {
+        let entry = frames[frame];
+        let state = entry.state;
+        return is_shown(state);
+    }
+    false
+}
+
+// The tag of a cell that the sweep passes.
+fn swept_tag(shown: bool, range: Range, cell: u64, tag: u8) -> u8
+    ensures { λ r. ⌜ r ≡ pick (shown && inside range (baseOf cell)) 0 tag ⌝ }
+{
+    let dying = inside(range, base_of(cell) as u32);
+    if shown & dying { 0 } else { tag }
+}
+
+// Passes the cells from one place up to another. Most are untagged, so the tag is looked at first.
+fn sweep_tags(
+    frames: [FrameEntry; 128],
+    range: Range,
+    from: usize,
+    upto: usize,
+    cells: &[u64],
+    tags: &mut [u8],
+)
+    requires { ⌜ (length (now cells) ≡ length (now tags)) × (from ≤ upto) × (from < upto → upto ≤ length (now tags)) ⌝ }
+    ensures { λ _. ⌜ now (tags .exit) ≡ sweptTags frames range from upto (now (cells .entry)) (now (tags .entry)) ⌝ }
+{
+    let mut i: usize = from;
+    while i < upto {
+        let tag = tags[i];
+        if tag != 0 {
+            let shown = shown_at(frames, i / 16);
+            tags[i] = swept_tag(shown, range, cells[i], tag);
+        }
+        i += 1;
+    }
+}
+
+// How many of n cells are passed from a place on in memory of a size.
+fn count_passed(size: u32, place: u32, n: u16) -> u32
+    ensures { λ r. ⌜ r ≡ min n (size - place) ⌝ }
+{
+    let left = cells_left(size, place);
+    if (n as u32) < left { n as u32 } else { left }
+}
+
+fn cells_left(size: u32, place: u32) -> u32
+    ensures { λ r. ⌜ r ≡ size - place ⌝ }
+{
+    if place < size { size - place } else { 0 }
+}
+
+impl Pages {
+    // 06: passes the next n cells from a place, or as many as are left, and clears the tags of capabilities into the range.
+    pub fn sweep(self, range: Range, place: u32, n: u16, cells: &[u64], tags: &mut [u8]) -> Swept
+        ensures { λ r. ⌜ passing r (now (tags .exit)) ≡ sweepOf self range place n (now (cells .entry)) (now (tags .entry)) ⌝ }
+    {
+        if !self.serves(cells.len(), tags.len()) {
+            return Swept {
+                code: 2,
+                left: 0,
+                place,
+            };
+        }
+        let size = 16 * (self.f as u32);
+        let next = place + count_passed(size, place, n);
+        let frames = self.frames;
+        sweep_tags(frames, range, place as usize, next as usize, cells, tags);
+        Swept {
+            code: 0,
+            left: cells_left(size, next),
+            place: next,
+        }
+    }
+}
