@@ -2,3 +2,4 @@ pub mod Rows
 pub mod Find
 pub mod Operations
 pub mod Tiling
+pub mod Revocation

@@ -1,11 +1,9 @@
+use Rattle.reservations.specs.Operations.{openReasons}
+use Rattle.reservations.proofs.Answers.{took-refused, took-granted}
 use mathlib.Core.Path.{_≡_, refl, sym, ap, _∙_}
 use Rattle.pages.specs.Refusals.{first}
-use Rattle.reservations.specs.declared.Taken.{Taken}
-use Rattle.reservations.specs.declared.Table.{Table}
-use Prim.Native.Nat.{ℕ}
 use Rattle.reservations.specs.Operations.{takeReasons, takeOf, takenRow}
 use Rattle.reservations.specs.Find.{withRow, findOf, rowOf}
-use Rattle.reservations.proofs.Answers.{refused, granted}
 use borrow.Author.Needs.{needs}
 use Rattle.reservations.proofs.Table.take.Statement.{statement}
 use Rattle.reservations.proofs.Table.take.Tie as tie
@@ -20,14 +18,11 @@ open-code-requires : tie.Need-open-code-requires
 open-code-requires c κs = search needs
 
 returns : tie.Need-returns
-unfolding takeOf
+unfolding takeOf takeReasons
 returns c =
     let s = c .before .before .before .before .args in
-    let told : c .before .open-code .result ≡ first (takeReasons (s .self) (s .party) (s .base)) = unfold takeReasons in cc in
-    let code = c .before .open-code .result in
-    let told-length = refused code _ told (rowOf (s .self) (findOf (s .self) (s .party) (s .base)) .length) 0 (c .if1 .taken) in
-    let told-table = refused code _ told (withRow (s .self) (findOf (s .self) (s .party) (s .base)) (takenRow (rowOf (s .self) (findOf (s .self) (s .party) (s .base))))) (s .self) (c .if1 .taken) in
-    cc
+    let told = c .before .open-code .ensures ∙ ap (λ r. first (openReasons (c .before .before .before .find .result) r)) (c .before .before .row .ensures) ∙ ap (λ f. first (openReasons f (rowOf (s .self) f))) (c .before .before .before .find .ensures) in
+    took-refused _ _ told _ _ _ (c .if1 .taken)
 
 taken-row-requires : tie.Need-taken-row-requires
 taken-row-requires c κs = search needs
@@ -36,14 +31,14 @@ with-row-requires : tie.Need-with-row-requires
 with-row-requires c κs = search needs
 
 returns-2 : tie.Need-returns-2
-unfolding takeOf
+unfolding takeOf takeReasons
 returns-2 c =
     let s = c .before .before .before .before .before .before .args in
-    let told : c .before .before .before .open-code .result ≡ first (takeReasons (s .self) (s .party) (s .base)) = unfold takeReasons in cc in
-    let code = c .before .before .before .open-code .result in
-    let told-length = granted code _ told (rowOf (s .self) (findOf (s .self) (s .party) (s .base)) .length) 0 (c .before .before .if1 .left) in
-    let told-table = granted code _ told (withRow (s .self) (findOf (s .self) (s .party) (s .base)) (takenRow (rowOf (s .self) (findOf (s .self) (s .party) (s .base))))) (s .self) (c .before .before .if1 .left) in
-    cc
+    let t = s .self in
+    let f = c .before .before .before .before .before .find .ensures in
+    let told = c .before .before .before .open-code .ensures ∙ ap (λ r. first (openReasons (c .before .before .before .before .before .find .result) r)) (c .before .before .before .before .row .ensures) ∙ ap (λ f. first (openReasons f (rowOf (s .self) f))) (c .before .before .before .before .before .find .ensures) in
+    took-granted _ _ told _ _ _ _ _ (c .before .before .if1 .left) (ap (λ r. r .length) (c .before .before .before .before .row .ensures ∙ ap (rowOf t) f))
+    (c .with-row .ensures ∙ ap (withRow t (c .before .before .before .before .before .find .result)) (c .before .taken-row .ensures ∙ ap takenRow (c .before .before .before .before .row .ensures)) ∙ ap (λ f. withRow t f (takenRow (rowOf t f))) f)
 
 pub take-spec : {M : Type 1} → statement M
 take-spec =

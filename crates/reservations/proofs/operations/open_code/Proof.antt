@@ -1,4 +1,6 @@
-use Rattle.pages.specs.Refusals.{first}
+use mathlib.Core.Path.{_≡_, refl, sym, ap, _∙_}
+use mathlib.Core.Bool.{not, _&&_, _||_}
+use Rattle.reservations.proofs.Answers.{judged, judged-last}
 use Rattle.reservations.specs.Operations.{openReasons}
 use borrow.Author.Needs.{needs}
 use Rattle.reservations.proofs.operations.open_code.Statement.{statement}
@@ -17,8 +19,8 @@ first-requires-2 : tie.Need-first-requires-2
 first-requires-2 c κs = search needs
 
 returns : tie.Need-returns
-unfolding first openReasons
-returns c = cc
+unfolding openReasons
+returns c = judged 6 _ _ _ _ _ (c .first2 .ensures) (c .before .before .before .missing .ensures) (judged-last 7 _ _ _ (c .before .first .ensures) (ap not (c .before .before .is-open .ensures)))
 
 pub open-code-spec : {M : Type 1} → statement M
 open-code-spec =
