@@ -6,3 +6,4 @@ pub mod Entries
 pub mod Layer
 pub mod Mapping
 pub mod Sweep
+pub mod Freed

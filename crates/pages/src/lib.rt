@@ -1,6 +1,7 @@
 // The page layer: virtual pages, frames, and the cells of lent memory behind them.
 pub mod capability;
 pub mod entry;
+pub mod freed;
 pub mod layer;
 pub mod mapping;
 pub mod ranges;

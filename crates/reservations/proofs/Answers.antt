@@ -1,0 +1,107 @@
+-- A refused operation answers its number and the table as it was; a granted one answers 0 and the new table. Assumes nothing.
+use Prim.Native.Nat.{ℕ, _+_, _<_, _≤_}
+use native.Mathlib.Omega.{arith}
+use lib.ListN.{length}
+use mathlib.Core.Bool.{Bool, true, false, not, _&&_, _||_, true≢false, false≢true}
+use mathlib.Core.List.{List, [], _∷_}
+use mathlib.Core.Path.{_≡_, refl, sym, ap, _∙_}
+use borrow.Author.Tests.{eq-eqb, ne-eqb, leb-false, not-true, not-false}
+use lib.Dec.{eqb, leb}
+use Rattle.pages.specs.Lists.{pick}
+use Rattle.pages.specs.Refusals.{Reason, reason, first}
+use Rattle.pages.proofs.Choice.{pick-yes, pick-no, and-left}
+use Rattle.pages.proofs.Refusals.{first-clear}
+use Rattle.reservations.specs.declared.Table.{Table}
+use Rattle.reservations.specs.declared.Tabled.{Tabled}
+use Rattle.reservations.specs.declared.Taken.{Taken}
+use Rattle.reservations.specs.declared.Reservation.{Reservation}
+use Rattle.reservations.specs.declared.Found.{Found}
+use Rattle.reservations.specs.declared.Found.the-variants.{At}
+use Rattle.reservations.proofs.Truth.{or-right}
+use Rattle.reservations.specs.Rows.{isOpen}
+use Rattle.reservations.specs.Find.{missing, nextOf, rowOf}
+use Rattle.reservations.specs.declared.Core.{Core}
+use Rattle.reservations.specs.declared.Cored.{Cored}
+use Rattle.reservations.specs.Revocation.{cored}
+use Rattle.reservations.specs.Operations.{tabled, openReasons, badSplit, full, mergeable, splitReasonsAt, mergeReasonsAt}
+
+module _ {A : Type 0} (code told : ℕ) (e : code ≡ told) (x y : A) where
+  pub granted : code ≡ 0 → pick (eqb told 0) x y ≡ x
+  granted z = pick-yes _ _ _ (eq-eqb told 0 (sym e ∙ z))
+
+  pub refused : (code ≡ 0 → ⊥) → pick (eqb told 0) x y ≡ y
+  refused z = pick-no _ _ _ (ne-eqb told 0 (λ k. z (e ∙ k)))
+
+abbrev answer : ℕ → Table → Tabled
+answer code t = record { code = code; table = t }
+
+module _ (code told : ℕ) (e : code ≡ told) (before after : Table) where
+  pub tabled-refused : (code ≡ 0 → ⊥) → answer code before ≡ tabled told before after
+  tabled-refused z = ap (λ k. answer k before) e ∙ ap (answer told) (sym (refused code told e after before z))
+
+  pub tabled-granted : (t : Table) → code ≡ 0 → t ≡ after → answer code t ≡ tabled told before after
+  tabled-granted t z p = ap (λ k. answer k t) e ∙ ap (answer told) (p ∙ sym (granted code told e after before z))
+
+abbrev take-answer : ℕ → ℕ → Table → Taken
+take-answer code length t = record { code = code; length = length; table = t }
+
+module _ (code told : ℕ) (e : code ≡ told) (before after : Table) (length : ℕ) where
+  pub took-refused : (code ≡ 0 → ⊥) → take-answer code 0 before ≡ take-answer told (pick (eqb told 0) length 0) (pick (eqb told 0) after before)
+  took-refused z =
+      ap (λ k. take-answer k 0 before) e
+      ∙ ap (λ n. take-answer told n before) (sym (refused code told e length 0 z))
+      ∙ ap (take-answer told (pick (eqb told 0) length 0)) (sym (refused code told e after before z))
+
+  pub took-granted : (n : ℕ) (t : Table) → code ≡ 0 → n ≡ length → t ≡ after → take-answer code n t ≡ take-answer told (pick (eqb told 0) length 0) (pick (eqb told 0) after before)
+  took-granted n t z p q =
+      ap (λ k. take-answer k n t) e
+      ∙ ap (λ n. take-answer told n t) (p ∙ sym (granted code told e length 0 z))
+      ∙ ap (take-answer told (pick (eqb told 0) length 0)) (q ∙ sym (granted code told e after before z))
+
+abbrev core-answer : ℕ → Core → Cored
+core-answer code c = record { code = code; core = c }
+
+module _ (code told : ℕ) (e : code ≡ told) (before after : Core) where
+  pub cored-refused : (code ≡ 0 → ⊥) → core-answer code before ≡ cored told before after
+  cored-refused z = ap (λ k. core-answer k before) e ∙ ap (core-answer told) (sym (refused code told e after before z))
+
+  pub cored-granted : (c : Core) → code ≡ 0 → c ≡ after → core-answer code c ≡ cored told before after
+  cored-granted c z p = ap (λ k. core-answer k c) e ∙ ap (core-answer told) (p ∙ sym (granted code told e after before z))
+
+-- What was not refused under 8 fits.
+pub split-fits : (r : Reservation) (len : ℕ) → badSplit r len ≡ false → len ≤ r .length
+split-fits r len e = omega (arith, leb-false (r .length) len (or-right (eqb len 0) (leb (r .length) len) e))
+
+-- What take, give, split and merge need of a reservation that was not refused.
+pub open-clear : (f : Found) (r : Reservation) → first (openReasons f r) ≡ 0 → (missing f ≡ false) × (isOpen (r .state) ≡ true)
+unfolding openReasons
+open-clear f r e =
+    let after6 = first-clear 6 _ _ (λ z. omega arith) e in
+    (after6 .0, not-false _ (first-clear 7 _ _ (λ z. omega arith) (after6 .1) .0))
+
+pub split-clear : (t : Table) (f : Found) (len : ℕ) → first (splitReasonsAt t f len) ≡ 0 → (badSplit (rowOf t f) len ≡ false) × (full t ≡ false)
+unfolding splitReasonsAt
+split-clear t f len e =
+    let after6 = first-clear 6 _ _ (λ z. omega arith) e .1 in
+    let after7 = first-clear 7 _ _ (λ z. omega arith) after6 .1 in
+    let after8 = first-clear 8 _ _ (λ z. omega arith) after7 in
+    (after8 .0, first-clear 9 _ _ (λ z. omega arith) (after8 .1) .0)
+
+pub merge-clear : (t : Table) (f : Found) (party : ℕ) → first (mergeReasonsAt t f party) ≡ 0 → mergeable t f party ≡ true
+unfolding mergeReasonsAt
+merge-clear t f party e =
+    let after6 = first-clear 6 _ _ (λ z. omega arith) e .1 in
+    not-false _ (first-clear 7 _ _ (λ z. omega arith) after6 .0)
+
+pub merge-next : (t : Table) (f : Found) (party : ℕ) → mergeable t f party ≡ true → missing (nextOf t f) ≡ false
+unfolding mergeable
+merge-next t f party m = not-true _ (and-left (not (missing (nextOf t f))) _ m)
+
+-- A code as it is nested in the code is the first of a list of reasons, reason by reason.
+pub judged : (number : ℕ) (applies told : Bool) (later : ℕ) (rest : List Reason) (code : ℕ) → code ≡ pick applies number later → applies ≡ told → later ≡ first rest → code ≡ first (reason number told ∷ rest)
+unfolding first
+judged number applies told later rest code e p q = e ∙ ap (λ b. pick b number later) p ∙ ap (pick told number) q
+
+pub judged-last : (number : ℕ) (applies told : Bool) (code : ℕ) → code ≡ pick applies number 0 → applies ≡ told → code ≡ first (reason number told ∷ [])
+unfolding first
+judged-last number applies told code e p = e ∙ ap (λ b. pick b number 0) p

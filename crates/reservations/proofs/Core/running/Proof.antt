@@ -1,0 +1,20 @@
+use mathlib.Core.Path.{_≡_, refl, sym, ap, _∙_}
+use mathlib.Core.Bool.{true, false, not, _&&_, _||_}
+use Rattle.reservations.specs.Revocation.{running}
+use Rattle.reservations.specs.Find.{missing}
+use borrow.Author.Needs.{needs}
+use Rattle.reservations.proofs.Core.running.Statement.{statement}
+use Rattle.reservations.proofs.Core.running.Tie as tie
+
+revoking-requires : tie.Need-revoking-requires
+revoking-requires c κs = search needs
+
+missing-requires : tie.Need-missing-requires
+missing-requires c κs = search needs
+
+returns : tie.Need-returns
+unfolding running
+returns c = ap not (c .missing .ensures ∙ ap missing (c .before .revoking .ensures))
+
+pub running-spec : {M : Type 1} → statement M
+running-spec = tie.close (tie.spec revoking-requires missing-requires returns)

@@ -1,0 +1,43 @@
+use mathlib.Core.Path.{_≡_, refl, sym, ap, _∙_}
+use Rattle.pages.specs.Refusals.{first}
+use lib.ListN.{length}
+use Prim.Native.Nat.{ℕ}
+use mathlib.Core.List.{List}
+use Rattle.reservations.specs.Revocation.{core, coreSwept, passing, sweptCore, sweepReasons, sweepCoreOf, revoked}
+use Rattle.pages.specs.Sweep.{sweepOf}
+use Rattle.reservations.proofs.Answers.{refused, granted}
+use borrow.Author.Needs.{needs}
+use Rattle.reservations.proofs.Core.sweep.Statement.{statement}
+use Rattle.reservations.proofs.Core.sweep.Tie as tie
+
+sweep-code-requires : tie.Need-sweep-code-requires
+sweep-code-requires c κs = search needs
+
+returns : tie.Need-returns
+unfolding sweepCoreOf
+returns c =
+    let a = c .before .before .before .before .args in
+    let told = c .before .sweep-code .ensures in
+    ap (λ k. passing (coreSwept k 0 (a .self)) (a .tags .now)) told ∙ sym (refused _ _ told _ _ (c .if1 .taken))
+
+revoked-requires : tie.Need-revoked-requires
+revoked-requires c κs = search needs
+
+sweep-requires : tie.Need-sweep-requires
+sweep-requires c κs = search needs
+
+same-length : tie.Need-same-length
+same-length c = search needs
+
+returns-2 : tie.Need-returns-2
+unfolding sweepCoreOf sweptCore
+returns-2 c =
+    let a = c .before .before .before .before .before .before .before .before .before .before .before .args in
+    let told = c .before .before .before .before .before .before .before .before .sweep-code .ensures in
+    let passed = c .before .before .sweep .ensures ∙ ap (λ r. sweepOf (a .self .pages) r (a .self .place) (a .n) (a .cells .now) (a .tags .now)) (c .before .before .before .before .revoked .ensures) in
+    ap (sweptCore (a .self)) passed ∙ sym (granted _ _ told _ _ (c .before .before .before .before .before .before .before .if1 .left))
+
+pub sweep-spec : {M : Type 1} → statement M
+sweep-spec =
+    tie.close
+    (tie.spec sweep-code-requires returns revoked-requires sweep-requires same-length returns-2)

@@ -1,0 +1,81 @@
+-- A search as its loop goes, and what it found. Assumes nothing.
+use Prim.Native.Nat.{ℕ, zero, suc, _+_, _<_, _≤_}
+use native.Mathlib.Numerals.{add-one}
+use native.Mathlib.Omega.{arith}
+use mathlib.Core.Bool.{Bool, true, false, true≢false}
+use lib.Dec.{ltb}
+use mathlib.Core.List.{List, [], _∷_}
+use mathlib.Core.Path.{_≡_, refl, sym, ap, subst, _∙_}
+use lib.ListN.{length, getD, drop, drop-of-length-le}
+use lib.Seq.{drop-cons}
+use Rattle.pages.specs.Lists.{pick}
+use Rattle.pages.proofs.Choice.{pick-yes, pick-no}
+use Rattle.reservations.specs.declared.Reservation.{Reservation}
+use Rattle.reservations.specs.declared.Found.{Found}
+use Rattle.reservations.specs.declared.Found.the-variants.{At, Nowhere}
+use Rattle.reservations.specs.declared.Table.{Table}
+use Rattle.reservations.specs.Rows.{live, blank}
+use Rattle.reservations.specs.Find.{seek, missing, nextOf, findOf, begins, inUse}
+use borrow.Author.Tests.{ltb-true, lt-ltb}
+
+at-same : {i j : ℕ} → At i ≡ At j → i ≡ j
+at-same e = cc
+
+seek-at : (P : Reservation → Bool) (k : ℕ) (l : List Reservation) (i : ℕ) (d : Reservation) → seek P k l ≡ At i → (j : ℕ) × (i ≡ k + j) × (j < length l) × (P (getD l j d) ≡ true)
+unfolding seek
+seek-at P k [] i d e = let z : _≡_ {A = ℕ} 0 1 = cc in absurd (omega arith)
+seek-at P k (r ∷ l) i d e = go (P r) refl (seek-at P (suc k) l i d)
+  where
+    go : (b : Bool) → P r ≡ b → (seek P (suc k) l ≡ At i → (j : ℕ) × (i ≡ suc k + j) × (j < length l) × (P (getD l j d) ≡ true)) → (j : ℕ) × (i ≡ k + j) × (j < length (r ∷ l)) × (P (getD (r ∷ l) j d) ≡ true)
+    go true p f = (0, (let z : k ≡ i = at-same (sym (pick-yes (P r) (At k) (seek P (suc k) l) p) ∙ e) in omega arith), omega arith, p)
+    go false p f =
+        let (j, s, h, q) = f (sym (pick-no (P r) (At k) (seek P (suc k) l) p) ∙ e) in
+        (suc j, omega arith, omega arith, q)
+
+module _ (P : Reservation → Bool) (l : List Reservation) where
+  step : (i : ℕ) (d : Reservation) → i < length l → seek P i (drop i l) ≡ pick (P (getD l i d)) (At i) (seek P (suc i) (drop (suc i) l))
+  unfolding seek
+  step i d h = rw (drop-cons l i d h)
+
+  -- One turn of a search that did not find, one that did, and its end.
+  pub seek-more : (i : ℕ) (d : Reservation) → i < length l → P (getD l i d) ≡ false → seek P i (drop i l) ≡ seek P (i + 1) (drop (i + 1) l)
+  seek-more i d h e = step i d h ∙ pick-no _ _ _ e ∙ sym (ap (λ (k : ℕ). seek P k (drop k l)) (add-one i))
+
+  pub seek-here : (i : ℕ) (d : Reservation) → i < length l → P (getD l i d) ≡ true → seek P i (drop i l) ≡ At i
+  seek-here i d h e = step i d h ∙ pick-yes _ _ _ e
+
+  pub seek-end : (i : ℕ) → length l ≤ i → seek P i (drop i l) ≡ Nowhere
+  unfolding seek
+  seek-end i h = rw (drop-of-length-le l h)
+
+  -- What a search from the first entry on found is an entry that passes the test.
+  pub found-at : (i : ℕ) (d : Reservation) → seek P 0 l ≡ At i → (i < length l) × (P (getD l i d) ≡ true)
+  found-at i d e =
+      let (j, s, h, p) = seek-at P 0 l i d e in
+      let k : j ≡ i = omega arith in
+      (omega arith, subst (λ (n : ℕ). P (getD l n d) ≡ true) k p)
+
+-- There is a next one only where the rows in use go on.
+pub next-below : (t : Table) (i : ℕ) → missing (nextOf t (At i)) ≡ false → i + 1 < length (live t)
+unfolding nextOf
+next-below t i e = go (ltb (i + 1) (length (live t))) refl
+  where
+    go : (b : Bool) → ltb (i + 1) (length (live t)) ≡ b → i + 1 < length (live t)
+    go true p = ltb-true (i + 1) (length (live t)) p
+    go false p = absurd (true≢false (sym (ap missing (pick-no (ltb (i + 1) (length (live t))) (At (i + 1)) Nowhere p)) ∙ e))
+
+pub next-at : (t : Table) (i : ℕ) → i + 1 < length (live t) → nextOf t (At i) ≡ At (i + 1)
+unfolding nextOf
+next-at t i h = pick-yes (ltb (i + 1) (length (live t))) (At (i + 1)) Nowhere (lt-ltb (i + 1) (length (live t)) h)
+
+used : (t : Table) (i : ℕ) → i < length (live t) → inUse t (At i) ≡ true
+unfolding inUse
+used t i h = lt-ltb i (length (live t)) h
+
+-- What was found is in use.
+pub found-used : (t : Table) (party base : ℕ) → inUse t (findOf t party base) ≡ true
+found-used t party base = go (findOf t party base) refl
+  where
+    go : (f : Found) → findOf t party base ≡ f → inUse t f ≡ true
+    go (At i) e = used t i (found-at (begins party base) (live t) i blank (unfold findOf in e) .0)
+    go Nowhere e = unfold inUse in refl

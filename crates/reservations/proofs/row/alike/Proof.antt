@@ -1,0 +1,23 @@
+use borrow.Author.Needs.{needs}
+use Rattle.reservations.proofs.row.alike.Statement.{statement}
+use Rattle.reservations.proofs.row.alike.Tie as tie
+
+is-open-requires : tie.Need-is-open-requires
+is-open-requires c κs = search needs
+
+is-open-requires-2 : tie.Need-is-open-requires-2
+is-open-requires-2 c κs = search needs
+
+is-taken-requires : tie.Need-is-taken-requires
+is-taken-requires c κs = search needs
+
+is-taken-requires-2 : tie.Need-is-taken-requires-2
+is-taken-requires-2 c κs = search needs
+
+returns : tie.Need-returns
+returns c = cc
+
+pub alike-spec : {M : Type 1} → statement M
+alike-spec =
+    tie.close
+    (tie.spec is-open-requires is-open-requires-2 is-taken-requires is-taken-requires-2 returns)

@@ -1,0 +1,12 @@
+use borrow.Author.Needs.{needs}
+use Rattle.reservations.proofs.row.begins.Statement.{statement}
+use Rattle.reservations.proofs.row.begins.Tie as tie
+
+held-requires : tie.Need-held-requires
+held-requires c κs = search needs
+
+returns : tie.Need-returns
+returns c = cc
+
+pub begins-spec : {M : Type 1} → statement M
+begins-spec = tie.close (tie.spec held-requires returns)

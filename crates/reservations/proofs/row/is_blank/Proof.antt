@@ -1,0 +1,12 @@
+use borrow.Author.Needs.{needs}
+use Rattle.reservations.proofs.row.is_blank.Statement.{statement}
+use Rattle.reservations.proofs.row.is_blank.Tie as tie
+
+is-open-requires : tie.Need-is-open-requires
+is-open-requires c κs = search needs
+
+returns : tie.Need-returns
+returns c = cc
+
+pub is-blank-spec : {M : Type 1} → statement M
+is-blank-spec = tie.close (tie.spec is-open-requires returns)

@@ -1,0 +1,12 @@
+use borrow.Author.Needs.{needs}
+use Rattle.reservations.proofs.row.row_sound.Statement.{statement}
+use Rattle.reservations.proofs.row.row_sound.Tie as tie
+
+is-open-requires : tie.Need-is-open-requires
+is-open-requires c κs = search needs
+
+returns : tie.Need-returns
+returns c = cc
+
+pub row-sound-spec : {M : Type 1} → statement M
+row-sound-spec = tie.close (tie.spec is-open-requires returns)

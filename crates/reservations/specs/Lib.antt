@@ -1,0 +1,5 @@
+pub mod Rows
+pub mod Find
+pub mod Operations
+pub mod Tiling
+pub mod Revocation
