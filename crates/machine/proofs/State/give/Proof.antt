@@ -1,0 +1,45 @@
+use borrow.Author.Needs.{needs}
+use mathlib.Core.Path.{_∙_}
+use Rattle.pages.specs.Refusals.{first}
+use Rattle.reservations.specs.Operations.{giveOf}
+use Rattle.machine.specs.Effects.{effect}
+use Rattle.machine.specs.Reasons.{reasons}
+use Rattle.machine.proofs.Ruled.{ruled-down, ruled-done, done-core}
+use Rattle.calls.specs.declared.Call.the-variants.{Give}
+use Rattle.machine.proofs.State.give.Statement.{statement}
+use Rattle.machine.proofs.State.give.Tie as tie
+
+give-requires : tie.Need-give-requires
+give-requires c κs = search needs
+
+first-requires : tie.Need-first-requires
+first-requires c κs = search needs
+
+refused-requires : tie.Need-refused-requires
+refused-requires c κs = search needs
+
+returns : tie.Need-returns
+unfolding first reasons giveOf
+returns c = rw (c .refused .ensures) (ruled-down (c .before .before .before .before .before .before .args .self) (Give (c .before .before .before .before .before .before .args .party) (c .before .before .before .before .before .before .args .base) (c .before .before .before .before .before .before .args .to)) _ (c .before .before .first .ensures ∙ rw (c .before .before .before .give .ensures)) (c .before .if1 .taken))
+
+with-table-requires : tie.Need-with-table-requires
+with-table-requires c κs = search needs
+
+granted-requires : tie.Need-granted-requires
+granted-requires c κs = search needs
+
+returns-2 : tie.Need-returns-2
+unfolding first reasons effect giveOf
+returns-2 c = λ cells tags. ruled-done (c .before .before .before .before .before .before .before .before .args .self) (Give (c .before .before .before .before .before .before .before .before .args .party) (c .before .before .before .before .before .before .before .before .args .base) (c .before .before .before .before .before .before .before .before .args .to)) _ (c .before .before .before .before .first .ensures ∙ rw (c .before .before .before .before .before .give .ensures)) (c .before .before .before .if1 .left) cells tags _ (rw (c .granted .ensures, c .before .with-table .ensures, c .before .before .before .before .before .give .ensures) (done-core _ _ _ _ _))
+
+pub give-spec : {M : Type 1} → statement M
+give-spec =
+    tie.close
+    (tie.spec
+    give-requires
+    first-requires
+    refused-requires
+    returns
+    with-table-requires
+    granted-requires
+    returns-2)

@@ -1,0 +1,29 @@
+use borrow.Author.Needs.{needs}
+use native.Mathlib.Omega.{arith}
+use lib.ListN.{length, List·getD-eq-default}
+use mathlib.Core.Path.{_≡_, refl, sym, _∙_}
+use Rattle.pages.proofs.Arrays.{length-under}
+use Rattle.machine.specs.Words.{mailboxOf}
+use Rattle.machine.proofs.State.mailbox.Statement.{statement}
+use Rattle.machine.proofs.State.mailbox.Tie as tie
+
+mul-result : tie.Need-mul-result
+mul-result c = search needs
+
+element-copy-out-result : tie.Need-element-copy-out-result
+element-copy-out-result c = search needs
+
+returns : tie.Need-returns
+unfolding mailboxOf
+returns c = refl
+
+empty-requires : tie.Need-empty-requires
+empty-requires c κs = search needs
+
+returns-2 : tie.Need-returns-2
+unfolding mailboxOf
+returns-2 c = let l : length (c .before .before .args .t1 .mailboxes) ≡ 8 = let g = c .before .before .good .0 in search (length-under, g) in c .empty .ensures ∙ sym (List·getD-eq-default (c .before .before .args .t1 .mailboxes) _ (omega arith))
+
+pub mailbox-spec : {M : Type 1} → statement M
+mailbox-spec =
+    tie.close (tie.spec mul-result element-copy-out-result returns empty-requires returns-2)

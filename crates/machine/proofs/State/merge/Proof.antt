@@ -1,0 +1,45 @@
+use borrow.Author.Needs.{needs}
+use mathlib.Core.Path.{_∙_}
+use Rattle.machine.proofs.Ruled.{ruled-down, ruled-done, done-core}
+use Rattle.pages.specs.Refusals.{first}
+use Rattle.reservations.specs.Operations.{mergeOf}
+use Rattle.machine.specs.Effects.{effect}
+use Rattle.machine.specs.Reasons.{reasons}
+use Rattle.calls.specs.declared.Call.the-variants.{Merge}
+use Rattle.machine.proofs.State.merge.Statement.{statement}
+use Rattle.machine.proofs.State.merge.Tie as tie
+
+merge-requires : tie.Need-merge-requires
+merge-requires c κs = search needs
+
+first-requires : tie.Need-first-requires
+first-requires c κs = search needs
+
+refused-requires : tie.Need-refused-requires
+refused-requires c κs = search needs
+
+returns : tie.Need-returns
+unfolding first reasons mergeOf
+returns c = rw (c .refused .ensures) (ruled-down (c .before .before .before .before .before .before .args .self) (Merge (c .before .before .before .before .before .before .args .party) (c .before .before .before .before .before .before .args .base)) _ (c .before .before .first .ensures ∙ rw (c .before .before .before .merge .ensures)) (c .before .if1 .taken))
+
+with-table-requires : tie.Need-with-table-requires
+with-table-requires c κs = search needs
+
+granted-requires : tie.Need-granted-requires
+granted-requires c κs = search needs
+
+returns-2 : tie.Need-returns-2
+unfolding first reasons effect mergeOf
+returns-2 c = λ cells tags. ruled-done (c .before .before .before .before .before .before .before .before .args .self) (Merge (c .before .before .before .before .before .before .before .before .args .party) (c .before .before .before .before .before .before .before .before .args .base)) _ (c .before .before .before .before .first .ensures ∙ rw (c .before .before .before .before .before .merge .ensures)) (c .before .before .before .if1 .left) cells tags _ (rw (c .granted .ensures, c .before .with-table .ensures, c .before .before .before .before .before .merge .ensures) (done-core _ _ _ _ _))
+
+pub merge-spec : {M : Type 1} → statement M
+merge-spec =
+    tie.close
+    (tie.spec
+    merge-requires
+    first-requires
+    refused-requires
+    returns
+    with-table-requires
+    granted-requires
+    returns-2)

@@ -1,0 +1,118 @@
+-- Document 01, 'Commands': what a granted call does, as data: the new core, at most one change each of registers,
+-- mailboxes and memory, and the answer. It depends on the core, the mailboxes and the registers that the call reads, and on
+-- nothing else. Assumes nothing.
+use Prim.Native.Nat.{ℕ, _+_, _-_, _*_}
+use mathlib.Core.Bool.{Bool, true, false}
+use mathlib.Core.List.{List}
+use Rattle.calls.specs.declared.Call.{Call}
+use Rattle.calls.specs.declared.Call.the-variants.{Take, Split, Merge, Give, Revoke, Sweep, Collect, Map, Unmap, Zero, Load, Store, Narrow, Number, Grant, Receive}
+use Rattle.pages.specs.declared.Frame.{Frame}
+use Rattle.pages.specs.declared.FrameState.the-variants.{Free}
+use Rattle.pages.specs.declared.Pages.{Pages}
+use Rattle.pages.specs.declared.Place.{Place}
+use Rattle.pages.specs.declared.Place.the-variants.{At, Nowhere}
+use Rattle.pages.specs.declared.Range.{Range}
+use Rattle.pages.specs.Capability.{capability, narrowed, permits}
+use Rattle.pages.specs.Layer.{withFrame}
+use Rattle.pages.specs.Mapping.{mapOf, unmapOf}
+use Rattle.pages.specs.Sweep.{passed}
+use Rattle.reservations.specs.declared.Core.{Core}
+use Rattle.reservations.specs.declared.Table.{Table}
+use Rattle.reservations.specs.Operations.{takeOf, splitOf, mergeOf, giveOf}
+use Rattle.reservations.specs.Revocation.{core, revoked, revokeOf, collectOf}
+use Rattle.machine.specs.declared.Slot.{Slot}
+use Rattle.machine.specs.Words.{slot, empty, mailboxOf, stored}
+use Rattle.machine.specs.Reasons.{Reads, addressed}
+
+-- What becomes of the registers: nothing; a word is put into one of a party's; the word at a place of lent memory is,
+-- its tag kept or not; or the capabilities that die lose their tags.
+pub data RegisterChange : Type 0 where
+  keepRegisters : RegisterChange
+  putRegister : ℕ → ℕ → Slot → RegisterChange
+  fetchInto : ℕ → ℕ → ℕ → Bool → RegisterChange
+  collectRegisters : RegisterChange
+
+-- What becomes of the mailboxes: nothing; a word is put into a party's; or the capabilities that die are gone.
+pub data MailboxChange : Type 0 where
+  keepMailboxes : MailboxChange
+  putMailbox : ℕ → Slot → MailboxChange
+  collectMailboxes : MailboxChange
+
+-- What becomes of lent memory: nothing; a word is written at a place; a frame is cleared; or the cells from one place
+-- up to another are swept of capabilities into a range.
+pub data MemoryChange : Type 0 where
+  keepMemory : MemoryChange
+  writeWord : ℕ → Slot → MemoryChange
+  clearFrame : Frame → MemoryChange
+  sweepCells : Range → ℕ → ℕ → MemoryChange
+
+-- The answer is a number and a tag; where a word is fetched, the word as it was put into the register.
+pub record Effect : Type 0 where
+  pub core : Core
+  pub registers : RegisterChange
+  pub mailboxes : MailboxChange
+  pub memory : MemoryChange
+  pub answer : Slot
+
+abbrev pub effectOf : Core → RegisterChange → MailboxChange → MemoryChange → Slot → Effect
+effectOf c r m l w = record { core = c; registers = r; mailboxes = m; memory = l; answer = w }
+
+abbrev pub withTable : Core → Table → Core
+withTable c t = core (c .pages) t (c .place)
+
+abbrev pub withPages : Core → Pages → Core
+withPages c p = core p (c .table) (c .place)
+
+-- "An answer is a code, a number and a tag .. number and tag are 0 where nothing above names them."
+abbrev pub tableChange : Core → Table → Effect
+tableChange c t = effectOf (withTable c t) keepRegisters keepMailboxes keepMemory empty
+
+abbrev pub pageChange : Core → Pages → Effect
+pageChange c p = effectOf (withPages c p) keepRegisters keepMailboxes keepMemory empty
+
+-- The number of a place that is there.
+abbrev pub placeNumber : Place → ℕ
+placeNumber (At at) = at
+placeNumber Nowhere = 0
+
+-- 06: the place that a sweep of n cells reaches.
+abbrev pub sweptTo : Core → ℕ → ℕ
+sweptTo c n = c .place + passed (c .pages) (c .place) n
+
+unfoldable pub effect : Core → List Slot → Reads → Call → Effect
+-- 01 take: "reg gets a capability for it with permissions 15. Answers the length."
+effect c mail r (Take p base reg) =
+    let taken = takeOf (c .table) p base in
+    effectOf (withTable c (taken .table)) (putRegister p reg (slot (capability base (taken .length) 15) true)) keepMailboxes keepMemory
+    (slot (taken .length) false)
+-- 02 split, 03 merge, 04 give: the table's own rules.
+effect c mail r (Split p base len) = tableChange c (splitOf (c .table) p base len .table)
+effect c mail r (Merge p base) = tableChange c (mergeOf (c .table) p base .table)
+effect c mail r (Give p base to) = tableChange c (giveOf (c .table) p base to .table)
+-- 05 revoke: the core's own rule.
+effect c mail r (Revoke p base) = effectOf (revokeOf c p base .core) keepRegisters keepMailboxes keepMemory empty
+-- 06 sweep: "Passes the next n cells of lent memory .. Answers the cells left."
+effect c mail r (Sweep p n) =
+    effectOf (core (c .pages) (c .table) (sweptTo c n)) keepRegisters keepMailboxes (sweepCells (revoked c) (c .place) (sweptTo c n))
+    (slot (16 * c .pages .f - sweptTo c n) false)
+-- 07 collect: "Clears, in all registers and mailboxes, the tag of capabilities with base in the range."
+effect c mail r (Collect p) = effectOf (collectOf c .core) collectRegisters collectMailboxes keepMemory empty
+-- 08 map, 09 unmap: the page layer's own rules. 0A zero: "its cells and tags become 0, and the frame Free."
+effect c mail r (Map p page frame) = pageChange c (mapOf (c .pages) page frame .pages)
+effect c mail r (Unmap p page) = pageChange c (unmapOf (c .pages) page .pages)
+effect c mail r (Zero p frame) =
+    effectOf (withPages c (withFrame (c .pages) (frame .0) Free)) keepRegisters keepMailboxes (clearFrame frame) empty
+-- 0B load: "The cell at base + off of the capability in a goes to d and is the answer; its tag is dropped without permission 4."
+effect c mail r (Load p a off d) =
+    effectOf c (fetchInto p d (placeNumber (addressed c (r .one) off)) (permits (r .one .cell) 4)) keepMailboxes keepMemory empty
+-- 0C store: "Register s goes to that cell."
+effect c mail r (Store p a off s) =
+    effectOf c keepRegisters keepMailboxes (writeWord (placeNumber (addressed c (r .one) off)) (stored c (r .two))) empty
+-- 0D narrow: "d gets base + off, len, and the permissions that are also in mask."
+effect c mail r (Narrow p s off len mask d) =
+    effectOf c (putRegister p d (slot (narrowed (r .one .cell) off len mask) true)) keepMailboxes keepMemory empty
+-- 0E number: "d holds the value, untagged."
+effect c mail r (Number p d value) = effectOf c (putRegister p d (slot value false)) keepMailboxes keepMemory empty
+-- 0F grant: "Copies into the mailbox of `to`." 10 receive: "Moves the caller's mailbox to d; answers it."
+effect c mail r (Grant p s to) = effectOf c keepRegisters (putMailbox to (r .one)) keepMemory empty
+effect c mail r (Receive p d) = effectOf c (putRegister p d (mailboxOf mail p)) (putMailbox p empty) keepMemory (mailboxOf mail p)

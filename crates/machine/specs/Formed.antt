@@ -1,0 +1,39 @@
+-- Document 01, 'Things and their sizes': "A state is well formed if the four lines above hold, V and F are in range,
+-- and all unused entries are 0." Registers are in none of those lines. Assumes nothing.
+use Prim.Native.Nat.{ℕ}
+use mathlib.Core.Bool.{Bool, _&&_, _||_}
+use lib.ListN.{length, replicate}
+use lib.Dec.{eqb}
+use Rattle.pages.specs.Layer.{inRange}
+use Rattle.pages.specs.Lists.{pick, each}
+use Rattle.reservations.specs.Revocation.{freshCore, coreSound}
+use Rattle.machine.specs.declared.Slot.{Slot}
+use Rattle.machine.specs.declared.State.{State}
+use Rattle.machine.specs.declared.Answered.{Answered}
+use Rattle.machine.specs.Words.{empty}
+
+-- "One mailbox for one capability, empty and its cell 0 when untagged".
+abbrev pub mailboxSound : ℕ → Slot → Bool
+mailboxSound party w = w .tag || eqb (w .cell) 0
+
+unfoldable pub mailboxesSound : State → Bool
+mailboxesSound s = each mailboxSound 0 (s .mailboxes)
+
+-- There are 64 registers and 8 mailboxes, as the struct's arrays have.
+abbrev pub sized : State → Bool
+sized s = eqb (length (s .registers)) 64 && eqb (length (s .mailboxes)) 8
+
+unfoldable pub wellFormed : State → Bool
+wellFormed s = (coreSound (s .core) && mailboxesSound s) && sized s
+
+abbrev pub answered : ℕ → Slot → State → Answered
+answered code word s = record { code = code; number = word .cell; tag = word .tag; state = s }
+
+-- "A fresh start, given V and F, has one Open reservation held by party 0, pages Unmapped, frames Dirty, registers and
+-- mailboxes empty"; for V or F out of range all is 0.
+unfoldable pub fresh : ℕ → ℕ → State
+fresh v f = record { core = freshCore v f; registers = replicate 64 empty; mailboxes = replicate 8 empty }
+
+-- Refusal 1: "a start names V or F out of range. .. A refused start hands back the all-zero state."
+unfoldable pub startOf : ℕ → ℕ → Answered
+startOf v f = answered (pick (inRange v f) 0 1) empty (fresh v f)
