@@ -1,23 +1,27 @@
 -- The two ways in which a call returns: turned down, or done. Assumes nothing.
-use Prim.Native.Nat.{ℕ}
-use mathlib.Core.Bool.{Bool}
-use mathlib.Core.List.{List}
+use Prim.Native.Nat.{ℕ, _-_, _*_}
+use native.Mathlib.Omega.{arith}
+use mathlib.Core.Bool.{Bool, true, false, not}
+use mathlib.Core.List.{List, map}
 use mathlib.Core.Path.{_≡_, refl, sym, _∙_}
-use lib.ListN.{set}
+use lib.ListN.{length, set}
 use borrow.Author.Tests.{ne-eqb}
 use Rattle.calls.specs.declared.Call.{Call}
 use Rattle.pages.specs.declared.Frame.{Frame}
 use Rattle.pages.specs.declared.Range.{Range}
+use Rattle.pages.specs.Layer.{serves}
+use Rattle.pages.specs.Lists.{pick}
 use Rattle.pages.specs.Mapping.{cleared}
 use Rattle.pages.specs.Refusals.{first}
-use Rattle.pages.specs.Sweep.{sweptTags}
+use Rattle.pages.specs.Sweep.{sweptTags, sweepOf}
 use Rattle.reservations.specs.declared.Core.{Core}
+use Rattle.reservations.specs.Revocation.{core, running, revoked, sweepReasons, coreSwept, passing, sweptCore, sweepCoreOf}
 use Rattle.machine.specs.declared.State.{State}
 use Rattle.machine.specs.declared.Answered.{Answered}
 use Rattle.machine.specs.Formed.{answered}
 use Rattle.machine.specs.declared.Slot.{Slot}
-use Rattle.machine.specs.Words.{empty, byteOf}
-use Rattle.machine.specs.Effects.{effectOf, keepRegisters, putRegister, fetchInto, keepMailboxes, putMailbox, keepMemory, writeWord, clearFrame, sweepCells}
+use Rattle.machine.specs.Words.{empty, byteOf, collectedRegister, collectedMailbox}
+use Rattle.machine.specs.Effects.{effectOf, keepRegisters, putRegister, fetchInto, collectRegisters, keepMailboxes, putMailbox, collectMailboxes, keepMemory, writeWord, clearFrame, sweepCells, sweptTo}
 use Rattle.machine.specs.Step.{Outcome, left, fetched, done, registersAfter, mailboxesAfter, cellsAfter, tagsAfter, wordAfter, reasonsOn, effectOn, ruled, withCore, withRegister, withMailbox}
 
 module _ (s : State) (c : Call) (k : ℕ) (e : k ≡ first (reasonsOn s c)) where
@@ -81,3 +85,32 @@ module _ (s : State) (c : Core) (w : Slot) (cells tags : List ℕ) where
 pub same-core : (s : State) → withCore s (s .core) ≡ s
 unfolding withCore
 same-core s = refl
+
+-- Neither 4 nor 5 applied, nor any reason after them.
+pub manager-clear : (u m : Bool) (k rest : ℕ) → k ≡ pick u 4 (pick m 5 rest) → k ≡ 0 → rest ≡ 0
+manager-clear true m k rest e z = let y : _≡_ {A = ℕ} 4 0 = sym e ∙ z in omega arith
+manager-clear false true k rest e z = let y : _≡_ {A = ℕ} 5 0 = sym e ∙ z in omega arith
+manager-clear false false k rest e z = sym e ∙ z
+
+-- The one reason of a sweep did not apply.
+pub runs : (b : Bool) (rest : ℕ) → rest ≡ pick (not b) 11 0 → rest ≡ 0 → b ≡ true
+runs true rest e z = refl
+runs false rest e z = let y : _≡_ {A = ℕ} 11 0 = sym e ∙ z in let q : ⊥ = omega arith in absurd q
+
+-- The core's sweep, where a revocation runs and memory is of the right size.
+pub sweep-done :
+    (c : Core) (n : ℕ) (cells tags : List ℕ) → running c ≡ true → serves (c .pages) (length cells) (length tags) ≡ true
+    → sweepCoreOf c n cells tags
+    ≡ passing (coreSwept 0 (16 * c .pages .f - sweptTo c n) (core (c .pages) (c .table) (sweptTo c n)))
+    (sweptTags (c .pages .frames) (revoked c) (c .place) (sweptTo c n) cells tags)
+unfolding sweepCoreOf sweepReasons first sweptCore sweepOf
+sweep-done c n cells tags r s = rw (s, r)
+
+-- A granted collect, with the two lists of words as the loops leave them.
+pub done-collect :
+    (s : State) (c : Core) (cells tags : List ℕ)
+    → left (answered 0 empty (record { core = c; registers = map (collectedRegister (s .core)) (s .registers); mailboxes = map (collectedMailbox (s .core)) (s .mailboxes) }))
+    cells tags
+    ≡ done s (effectOf c collectRegisters collectMailboxes keepMemory empty) cells tags
+unfolding done registersAfter mailboxesAfter cellsAfter tagsAfter wordAfter
+done-collect s c cells tags = refl

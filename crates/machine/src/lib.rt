@@ -1,7 +1,10 @@
 // The reservation machine: sixteen calls on one state and the memory that it is lent.
 use reservations::Core;
 
+pub mod page_calls;
+pub mod revocation_calls;
 pub mod table_calls;
+pub mod word_calls;
 pub mod words;
 
 // A word: a cell and its tag. Tagged, it is a capability.

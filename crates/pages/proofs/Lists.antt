@@ -4,7 +4,7 @@ use native.Mathlib.Nat.{add-zero, add-suc, suc-add, zero-add}
 use native.Mathlib.Numerals.{add-one}
 use native.Mathlib.Omega.{arith}
 use mathlib.Core.Bool.{Bool, true, false, _&&_, and-true, and-assoc, true-and}
-use mathlib.Core.List.{List, [], _∷_, _++_, append-nil}
+use mathlib.Core.List.{List, [], _∷_, _++_, append-nil, map}
 use mathlib.Core.Path.{_≡_, refl, sym, ap, _∙_}
 use lib.ListN.{length, getD, take, drop, set, drop-of-length-le}
 use lib.Seq.{take-suc, take-all, length-take-le, getD-at, set-at, drop-cons, append-snoc}
@@ -85,5 +85,18 @@ module _ {A : Type 0} (f : ℕ → A → A) where
       let e : length (take i l) ≡ i = length-take-le i l (omega arith) in
       rw (drop-cons l i d h) (getD-at (mapEach f 0 (take i l)) (getD l i d) (drop (suc i) l) d i (length-mapEach f 0 (take i l) ∙ e))
 
+  -- A whole turn: the entry read, what f makes of it written.
+  pub mapEach-turn :
+      (l t : List A) (i : ℕ) (d x : A) → i < length l → t ≡ mapEach f 0 (take i l) ++ drop i l → x ≡ f i (getD t i d)
+      → set t i x ≡ mapEach f 0 (take (i + 1) l) ++ drop (i + 1) l
+  mapEach-turn l t i d x h e y =
+      rw (y, e) (ap (λ z. set (mapEach f 0 (take i l) ++ drop i l) i (f i z)) (mapEach-next l i d h) ∙ mapEach-more l i d h)
+
   pub mapEach-whole : (l : List A) (i : ℕ) → length l ≤ i → mapEach f 0 (take i l) ++ drop i l ≡ mapEach f 0 l
   mapEach-whole l i h = rw (take-all i l h, drop-of-length-le l {i = i} h, append-nil)
+
+-- A map that doesn't look at the numbers.
+pub mapEach-map : {A B : Type 0} (f : A → B) (n : ℕ) (l : List A) → mapEach (λ i x. f x) n l ≡ map f l
+unfolding mapEach
+mapEach-map f n [] = refl
+mapEach-map f n (x ∷ l) = ap (λ r. f x ∷ r) (mapEach-map f (suc n) l)

@@ -62,3 +62,16 @@ module _ (s : Pages) (frame : Frame) (cells tags : List ℕ) (k : ℕ) (e : k �
   pub zero-granted : k ≡ 0 → zeroed (record { code = 0; pages = withFrame s (frame .0) Free }) (cleared frame cells) (cleared frame tags) ≡ zeroOf s frame cells tags
   unfolding zeroOf
   zero-granted h = rw (← e, h)
+
+granted-reasons : (s : Pages) (frame : Frame) (cells tags : ℕ) → serves s cells tags ≡ true → first (dirtyReasons s frame) ≡ 0
+    → first (zeroReasons s frame cells tags) ≡ 0
+unfolding zeroReasons first
+granted-reasons s frame cells tags h e = rw h e
+
+-- A zero that nothing stands against, with memory of the right size.
+pub zero-done :
+    (s : Pages) (frame : Frame) (cells tags : List ℕ) → serves s (length cells) (length tags) ≡ true → first (dirtyReasons s frame) ≡ 0
+    → zeroOf s frame cells tags
+    ≡ zeroed (record { code = 0; pages = withFrame s (frame .0) Free }) (cleared frame cells) (cleared frame tags)
+zero-done s frame cells tags h e =
+    sym (zero-granted s frame cells tags 0 (sym (granted-reasons s frame (length cells) (length tags) h e)) refl)

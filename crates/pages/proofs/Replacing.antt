@@ -7,7 +7,7 @@ use Rattle.pages.specs.declared.Pages.{Pages}
 use Rattle.pages.specs.declared.PageEntry.{PageEntry}
 use Rattle.pages.specs.Lists.{mapEach}
 use Rattle.pages.specs.Mapping.{withPages}
-use Rattle.pages.proofs.Lists.{mapEach-more, mapEach-next, mapEach-whole}
+use Rattle.pages.proofs.Lists.{mapEach-turn, mapEach-whole}
 
 module _ (f : ℕ → PageEntry → PageEntry) where
   -- The layer after p turns.
@@ -23,10 +23,7 @@ module _ (f : ℕ → PageEntry → PageEntry) where
       → _≡_ {A = Pages} (record { v = t .v; f = t .f; pages = set (t .pages) p x; frames = t .frames }) (replaced s (p + 1))
   unfolding replaced
   replaced-more s t p d x h e y =
-      rw (y, e)
-      (ap (withPages s)
-      (ap (λ z. set (mapEach f 0 (take p (s .pages)) ++ drop p (s .pages)) p (f p z)) (mapEach-next f (s .pages) p d h)
-      ∙ mapEach-more f (s .pages) p d h))
+      rw e (ap (withPages s) (mapEach-turn f (s .pages) (replaced s p .pages) p d x h refl (rw e at y)))
 
   pub replaced-all : (s t : Pages) (p : ℕ) → length (s .pages) ≤ p → t ≡ replaced s p → t ≡ withPages s (mapEach f 0 (s .pages))
   unfolding replaced

@@ -15,7 +15,7 @@ ghost use mathlib.Core.Path.{_≡_};
 ghost use lib.ListN.{length, replicate};
 ghost use Prim.Native.Nat.{_<_, _≤_, _+_, _*_};
 ghost use Rattle.pages.specs.Mapping.{mapReasons, mapped, mapOf, unmapReasons, unmapped, unmapOf, soiled};
-ghost use Rattle.pages.specs.Mapping.{zeroReasons, zeroed, zeroOf, cleared, placeIn, lookupOf};
+ghost use Rattle.pages.specs.Mapping.{dirtyReasons, zeroReasons, zeroed, zeroOf, cleared, placeIn, lookupOf};
 ghost use Rattle.pages.specs.Refusals.{first};
 
 impl Pages {
@@ -73,16 +73,20 @@ impl Pages {
         Paged { code: 0, pages }
     }
 
+    // Refusals 12 and 14 of a zero.
+    pub fn dirty_code(self, frame: Frame) -> u8
+        ensures { λ r. ⌜ r ≡ first (dirtyReasons self frame) ⌝ }
+    {
+        let dirty = is_dirty(self.frame_at(frame));
+        first(12, self.f <= frame.0 as u16, first(14, !dirty, 0))
+    }
+
     fn zero_code(self, frame: Frame, cells: usize, tags: usize) -> u8
         ensures { λ r. ⌜ r ≡ first (zeroReasons self frame cells tags) ⌝ }
     {
         let served = self.serves(cells, tags);
-        let dirty = is_dirty(self.frame_at(frame));
-        first(
-            2,
-            !served,
-            first(12, self.f <= frame.0 as u16, first(14, !dirty, 0)),
-        )
+        let rest = self.dirty_code(frame);
+        first(2, !served, rest)
     }
 
     // 0A: the frame's cells and tags are 0 and the frame is Free, or the refusal.

@@ -1,0 +1,60 @@
+use borrow.Author.Needs.{needs}
+use Rattle.machine.specs.Step.{withCore}
+use Rattle.pages.specs.Refusals.{first}
+use Rattle.machine.specs.Effects.{effect}
+use Rattle.machine.specs.Reasons.{reasons}
+use Rattle.machine.proofs.Ruled.{ruled-down, ruled-done, done-mailbox}
+use Rattle.calls.specs.declared.Call.the-variants.{Grant}
+use Rattle.machine.proofs.State.grant.Statement.{statement}
+use Rattle.machine.proofs.State.grant.Tie as tie
+
+register-requires : tie.Need-register-requires
+register-requires c κs = search needs
+
+mailbox-requires : tie.Need-mailbox-requires
+mailbox-requires c κs = search needs
+
+unnamed-requires : tie.Need-unnamed-requires
+unnamed-requires c κs = search needs
+
+first-requires : tie.Need-first-requires
+first-requires c κs = search needs
+
+first-requires-2 : tie.Need-first-requires-2
+first-requires-2 c κs = search needs
+
+first-requires-3 : tie.Need-first-requires-3
+first-requires-3 c κs = search needs
+
+refused-requires : tie.Need-refused-requires
+refused-requires c κs = search needs
+
+returns : tie.Need-returns
+unfolding first reasons
+returns c = rw (c .refused .ensures) (ruled-down (c .before .before .before .before .before .before .before .before .before .args .self) (Grant (c .before .before .before .before .before .before .before .before .before .args .party) (c .before .before .before .before .before .before .before .before .before .args .s) (c .before .before .before .before .before .before .before .before .before .args .to)) (c .before .before .first3 .result) (rw (c .before .before .first3 .ensures, c .before .before .before .first2 .ensures, c .before .before .before .before .first .ensures, c .before .before .before .before .before .before .unnamed .ensures, c .before .before .before .before .before .before .before .mailbox .ensures, c .before .before .before .before .before .before .before .before .register .ensures)) (c .before .if1 .taken))
+
+with-mailbox-requires : tie.Need-with-mailbox-requires
+with-mailbox-requires c κs = search needs
+
+granted-requires : tie.Need-granted-requires
+granted-requires c κs = search needs
+
+returns-2 : tie.Need-returns-2
+unfolding first reasons effect withCore
+returns-2 c = λ cells tags. ruled-done (c .before .before .before .before .before .before .before .before .before .before .args .self) (Grant (c .before .before .before .before .before .before .before .before .before .before .args .party) (c .before .before .before .before .before .before .before .before .before .before .args .s) (c .before .before .before .before .before .before .before .before .before .before .args .to)) (c .before .before .before .first3 .result) (rw (c .before .before .before .first3 .ensures, c .before .before .before .before .first2 .ensures, c .before .before .before .before .before .first .ensures, c .before .before .before .before .before .before .before .unnamed .ensures, c .before .before .before .before .before .before .before .before .mailbox .ensures, c .before .before .before .before .before .before .before .before .before .register .ensures)) (c .before .before .if1 .left) cells tags _ (rw (c .granted .ensures, c .before .with-mailbox .ensures, c .before .before .before .before .before .before .before .before .before .register .ensures) (done-mailbox (c .before .before .before .before .before .before .before .before .before .before .args .self) (c .before .before .before .before .before .before .before .before .before .before .args .self .core) _ _ _ _ _))
+
+pub grant-spec : {M : Type 1} → statement M
+grant-spec =
+    tie.close
+    (tie.spec
+    register-requires
+    mailbox-requires
+    unnamed-requires
+    first-requires
+    first-requires-2
+    first-requires-3
+    refused-requires
+    returns
+    with-mailbox-requires
+    granted-requires
+    returns-2)

@@ -1,0 +1,44 @@
+use borrow.Author.Needs.{needs}
+use Rattle.pages.specs.Mapping.{mapOf}
+use Rattle.pages.specs.Refusals.{first}
+use Rattle.machine.specs.Effects.{effect}
+use Rattle.machine.specs.Reasons.{reasons}
+use Rattle.machine.proofs.Ruled.{ruled-down, ruled-done, done-core}
+use Rattle.calls.specs.declared.Call.the-variants.{Map}
+use Rattle.machine.proofs.State.map.Statement.{statement}
+use Rattle.machine.proofs.State.map.Tie as tie
+
+map-requires : tie.Need-map-requires
+map-requires c κs = search needs
+
+manager-code-requires : tie.Need-manager-code-requires
+manager-code-requires c κs = search needs
+
+refused-requires : tie.Need-refused-requires
+refused-requires c κs = search needs
+
+returns : tie.Need-returns
+unfolding first reasons mapOf
+returns c = rw (c .refused .ensures) (ruled-down (c .before .before .before .before .before .before .args .self) (Map (c .before .before .before .before .before .before .args .party) (c .before .before .before .before .before .before .args .page) (c .before .before .before .before .before .before .args .frame)) (c .before .before .manager-code .result) (rw (c .before .before .manager-code .ensures, c .before .before .before .map .ensures)) (c .before .if1 .taken))
+
+with-pages-requires : tie.Need-with-pages-requires
+with-pages-requires c κs = search needs
+
+granted-requires : tie.Need-granted-requires
+granted-requires c κs = search needs
+
+returns-2 : tie.Need-returns-2
+unfolding first reasons effect mapOf
+returns-2 c = λ cells tags. ruled-done (c .before .before .before .before .before .before .before .before .args .self) (Map (c .before .before .before .before .before .before .before .before .args .party) (c .before .before .before .before .before .before .before .before .args .page) (c .before .before .before .before .before .before .before .before .args .frame)) (c .before .before .before .before .manager-code .result) (rw (c .before .before .before .before .manager-code .ensures, c .before .before .before .before .before .map .ensures)) (c .before .before .before .if1 .left) cells tags _ (rw (c .granted .ensures, c .before .with-pages .ensures, c .before .before .before .before .before .map .ensures) (done-core _ _ _ _ _))
+
+pub map-spec : {M : Type 1} → statement M
+map-spec =
+    tie.close
+    (tie.spec
+    map-requires
+    manager-code-requires
+    refused-requires
+    returns
+    with-pages-requires
+    granted-requires
+    returns-2)

@@ -1,0 +1,40 @@
+use borrow.Author.Needs.{needs}
+use Rattle.machine.specs.Step.{withCore}
+use Rattle.pages.specs.Refusals.{first}
+use Rattle.machine.specs.Effects.{effect}
+use Rattle.machine.specs.Reasons.{reasons}
+use Rattle.machine.proofs.Ruled.{ruled-down, ruled-done, done-register}
+use Rattle.calls.specs.declared.Call.the-variants.{Number}
+use Rattle.machine.proofs.State.number.Statement.{statement}
+use Rattle.machine.proofs.State.number.Tie as tie
+
+first-requires : tie.Need-first-requires
+first-requires c κs = search needs
+
+refused-requires : tie.Need-refused-requires
+refused-requires c κs = search needs
+
+returns : tie.Need-returns
+unfolding first reasons
+returns c = rw (c .refused .ensures) (ruled-down (c .before .before .before .args .self) (Number (c .before .before .before .args .party) (c .before .before .before .args .d) (c .before .before .before .args .value)) (c .before .before .first .result) (rw (c .before .before .first .ensures)) (c .before .if1 .taken))
+
+with-register-requires : tie.Need-with-register-requires
+with-register-requires c κs = search needs
+
+granted-requires : tie.Need-granted-requires
+granted-requires c κs = search needs
+
+returns-2 : tie.Need-returns-2
+unfolding first reasons effect withCore
+returns-2 c = λ cells tags. ruled-done (c .before .before .before .before .args .self) (Number (c .before .before .before .before .args .party) (c .before .before .before .before .args .d) (c .before .before .before .before .args .value)) (c .before .before .before .first .result) (rw (c .before .before .before .first .ensures)) (c .before .before .if1 .left) cells tags _ (rw (c .granted .ensures, c .before .with-register .ensures) (done-register (c .before .before .before .before .args .self) (c .before .before .before .before .args .self .core) _ _ _ _ _ _))
+
+pub number-spec : {M : Type 1} → statement M
+number-spec =
+    tie.close
+    (tie.spec
+    first-requires
+    refused-requires
+    returns
+    with-register-requires
+    granted-requires
+    returns-2)

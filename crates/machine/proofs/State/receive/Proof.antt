@@ -1,0 +1,56 @@
+use borrow.Author.Needs.{needs}
+use Rattle.machine.specs.Step.{withCore}
+use Rattle.pages.specs.Refusals.{first}
+use Rattle.machine.specs.Effects.{effect}
+use Rattle.machine.specs.Reasons.{reasons}
+use Rattle.machine.proofs.Ruled.{ruled-down, ruled-done, done-both}
+use Rattle.calls.specs.declared.Call.the-variants.{Receive}
+use Rattle.machine.proofs.State.receive.Statement.{statement}
+use Rattle.machine.proofs.State.receive.Tie as tie
+
+mailbox-requires : tie.Need-mailbox-requires
+mailbox-requires c κs = search needs
+
+first-requires : tie.Need-first-requires
+first-requires c κs = search needs
+
+first-requires-2 : tie.Need-first-requires-2
+first-requires-2 c κs = search needs
+
+refused-requires : tie.Need-refused-requires
+refused-requires c κs = search needs
+
+returns : tie.Need-returns
+unfolding first reasons
+returns c = rw (c .refused .ensures) (ruled-down (c .before .before .before .before .before .before .args .self) (Receive (c .before .before .before .before .before .before .args .party) (c .before .before .before .before .before .before .args .d)) (c .before .before .first2 .result) (rw (c .before .before .first2 .ensures, c .before .before .before .first .ensures, c .before .before .before .before .before .mailbox .ensures)) (c .before .if1 .taken))
+
+with-register-requires : tie.Need-with-register-requires
+with-register-requires c κs = search needs
+
+empty-requires : tie.Need-empty-requires
+empty-requires c κs = search needs
+
+with-mailbox-requires : tie.Need-with-mailbox-requires
+with-mailbox-requires c κs = search needs
+
+granted-requires : tie.Need-granted-requires
+granted-requires c κs = search needs
+
+returns-2 : tie.Need-returns-2
+unfolding first reasons effect withCore
+returns-2 c = λ cells tags. ruled-done (c .before .before .before .before .before .before .before .before .before .args .self) (Receive (c .before .before .before .before .before .before .before .before .before .args .party) (c .before .before .before .before .before .before .before .before .before .args .d)) (c .before .before .before .before .before .first2 .result) (rw (c .before .before .before .before .before .first2 .ensures, c .before .before .before .before .before .before .first .ensures, c .before .before .before .before .before .before .before .before .mailbox .ensures)) (c .before .before .before .before .if1 .left) cells tags _ (rw (c .granted .ensures, c .before .with-mailbox .ensures, c .before .before .empty .ensures, c .before .before .before .with-register .ensures, c .before .before .before .before .before .before .before .before .mailbox .ensures) (done-both (c .before .before .before .before .before .before .before .before .before .args .self) (c .before .before .before .before .before .before .before .before .before .args .self .core) _ _ _ _ _ _ _ _))
+
+pub receive-spec : {M : Type 1} → statement M
+receive-spec =
+    tie.close
+    (tie.spec
+    mailbox-requires
+    first-requires
+    first-requires-2
+    refused-requires
+    returns
+    with-register-requires
+    empty-requires
+    with-mailbox-requires
+    granted-requires
+    returns-2)

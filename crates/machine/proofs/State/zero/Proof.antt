@@ -1,0 +1,70 @@
+use borrow.Author.Needs.{needs}
+use mathlib.Core.Path.{_≡_, sym, _∙_, ap}
+use Rattle.machine.specs.Reasons.{unnamed, notManager}
+use Rattle.machine.specs.Words.{empty}
+use Rattle.machine.specs.Step.{left}
+use Rattle.machine.specs.Formed.{answered}
+use Rattle.machine.specs.Effects.{withPages}
+use Rattle.pages.specs.Mapping.{Zeroed}
+use Rattle.pages.proofs.Memory.{zero-done}
+use Rattle.machine.specs.Step.{withCore}
+use Rattle.pages.specs.Refusals.{first}
+use Rattle.machine.specs.Effects.{effect}
+use Rattle.machine.specs.Reasons.{reasons}
+use Rattle.machine.proofs.Ruled.{ruled-down, ruled-done, manager-clear, done-clear}
+use Rattle.calls.specs.declared.Call.the-variants.{Zero}
+use Rattle.machine.proofs.State.zero.Statement.{statement}
+use Rattle.machine.proofs.State.zero.Tie as tie
+
+dirty-code-requires : tie.Need-dirty-code-requires
+dirty-code-requires c κs = search needs
+
+manager-code-requires : tie.Need-manager-code-requires
+manager-code-requires c κs = search needs
+
+refused-requires : tie.Need-refused-requires
+refused-requires c κs = search needs
+
+returns : tie.Need-returns
+unfolding first reasons
+returns c = rw (c .refused .ensures) (ruled-down (c .before .before .before .before .before .before .before .before .args .self) (Zero (c .before .before .before .before .before .before .before .before .args .party) (c .before .before .before .before .before .before .before .before .args .frame)) (c .before .before .manager-code .result) (rw (c .before .before .manager-code .ensures, c .before .before .before .dirty-code .ensures)) (c .before .if1 .taken) (c .before .before .before .before .before .before .before .before .args .cells .now) (c .before .before .before .before .before .before .before .before .args .tags .now))
+
+zero-requires : tie.Need-zero-requires
+zero-requires c κs = search needs
+
+with-pages-requires : tie.Need-with-pages-requires
+with-pages-requires c κs = search needs
+
+granted-requires : tie.Need-granted-requires
+granted-requires c κs = search needs
+
+same-length : tie.Need-same-length
+same-length c = search needs
+
+same-length-2 : tie.Need-same-length-2
+same-length-2 c = search needs
+
+returns-2 : tie.Need-returns-2
+unfolding first reasons effect
+returns-2 c =
+    let clear = sym (c .before .before .before .before .before .before .before .before .before .before .before .before .dirty-code .ensures) ∙ manager-clear (unnamed (c .before .before .before .before .before .before .before .before .before .before .before .before .before .before .before .before .before .args .party)) (notManager (c .before .before .before .before .before .before .before .before .before .before .before .before .before .before .before .before .before .args .party)) _ _ (c .before .before .before .before .before .before .before .before .before .before .before .manager-code .ensures) (c .before .before .before .before .before .before .before .before .before .before .if1 .left) in
+    let z = c .before .before .before .before .before .before .before .zero .ensures ∙ zero-done (c .before .before .before .before .before .before .before .before .before .before .before .before .before .before .before .before .before .args .self .core .pages) (c .before .before .before .before .before .before .before .before .before .before .before .before .before .before .before .before .before .args .frame) (c .before .before .before .before .before .before .before .before .before .before .before .before .before .before .before .before .before .args .cells .now) (c .before .before .before .before .before .before .before .before .before .before .before .before .before .before .before .before .before .args .tags .now) (c .before .before .before .before .before .before .before .before .before .before .before .before .before .before .before .before .before .pre) clear in
+    ruled-done (c .before .before .before .before .before .before .before .before .before .before .before .before .before .before .before .before .before .args .self) (Zero (c .before .before .before .before .before .before .before .before .before .before .before .before .before .before .before .before .before .args .party) (c .before .before .before .before .before .before .before .before .before .before .before .before .before .before .before .before .before .args .frame)) (c .before .before .before .before .before .before .before .before .before .before .before .manager-code .result) (rw (c .before .before .before .before .before .before .before .before .before .before .before .manager-code .ensures, c .before .before .before .before .before .before .before .before .before .before .before .before .dirty-code .ensures)) (c .before .before .before .before .before .before .before .before .before .before .if1 .left) (c .before .before .before .before .before .before .before .before .before .before .before .before .before .before .before .before .before .args .cells .now) (c .before .before .before .before .before .before .before .before .before .before .before .before .before .before .before .before .before .args .tags .now) _
+    (rw (c .granted .ensures, c .before .with-pages .ensures)
+    (ap (λ (y : Zeroed). left (answered 0 empty (withCore (c .before .before .before .before .before .before .before .before .before .before .before .before .before .before .before .before .before .args .self) (withPages (c .before .before .before .before .before .before .before .before .before .before .before .before .before .before .before .before .before .args .self .core) (y .answer .pages)))) (y .cells) (y .tags)) z
+    ∙ done-clear (c .before .before .before .before .before .before .before .before .before .before .before .before .before .before .before .before .before .args .self) _ _ _ _ _))
+
+pub zero-spec : {M : Type 1} → statement M
+zero-spec =
+    tie.close
+    (tie.spec
+    dirty-code-requires
+    manager-code-requires
+    refused-requires
+    returns
+    zero-requires
+    with-pages-requires
+    granted-requires
+    same-length
+    same-length-2
+    returns-2)
