@@ -79,13 +79,20 @@ open-clear f r e =
     let after6 = first-clear 6 _ _ (λ z. omega arith) e in
     (after6 .0, not-false _ (first-clear 7 _ _ (λ z. omega arith) (after6 .1) .0))
 
-pub split-clear : (t : Table) (f : Found) (len : ℕ) → first (splitReasonsAt t f len) ≡ 0 → (badSplit (rowOf t f) len ≡ false) × (full t ≡ false)
+-- What a granted split has found.
+pub record Splits (t : Table) (f : Found) (len : ℕ) : Type 0 where
+  pub found : missing f ≡ false
+  pub isopen : isOpen (rowOf t f .state) ≡ true
+  pub fits : badSplit (rowOf t f) len ≡ false
+  pub room : full t ≡ false
+
+pub split-clear : (t : Table) (f : Found) (len : ℕ) → first (splitReasonsAt t f len) ≡ 0 → Splits t f len
 unfolding splitReasonsAt
 split-clear t f len e =
-    let after6 = first-clear 6 _ _ (λ z. omega arith) e .1 in
-    let after7 = first-clear 7 _ _ (λ z. omega arith) after6 .1 in
-    let after8 = first-clear 8 _ _ (λ z. omega arith) after7 in
-    (after8 .0, first-clear 9 _ _ (λ z. omega arith) (after8 .1) .0)
+    let after6 = first-clear 6 _ _ (λ z. omega arith) e in
+    let after7 = first-clear 7 _ _ (λ z. omega arith) (after6 .1) in
+    let after8 = first-clear 8 _ _ (λ z. omega arith) (after7 .1) in
+    record { found = after6 .0; isopen = not-false _ (after7 .0); fits = after8 .0; room = first-clear 9 _ _ (λ z. omega arith) (after8 .1) .0 }
 
 pub merge-clear : (t : Table) (f : Found) (party : ℕ) → first (mergeReasonsAt t f party) ≡ 0 → mergeable t f party ≡ true
 unfolding mergeReasonsAt

@@ -27,7 +27,7 @@ use Rattle.pages.specs.Refusals.{first}
 use Rattle.reservations.proofs.Truth.{both, or-left, or-right, or-first}
 use Rattle.reservations.proofs.Moving.{live-length, live-at}
 use Rattle.reservations.proofs.Finding.{found-at, next-below, next-at}
-use Rattle.reservations.proofs.Answers.{open-clear, split-clear, merge-clear, merge-next}
+use Rattle.reservations.proofs.Answers.{Splits, open-clear, split-clear, merge-clear, merge-next}
 use Rattle.reservations.proofs.Walking.{blank-more}
 use Rattle.reservations.proofs.Tiled.{Begins, tiles-begin, tiles-made, tiles-swap, revokings-append, revokings-first, row-some, row-holder, row-resized, row-open, tiled-row}
 use Rattle.reservations.proofs.Sound.{Sound, sound, made-sound, with-made}
@@ -160,17 +160,17 @@ module _ (cells : ℕ) (t : Table) (ok : tableSound cells t ≡ true) where
       (omega (arith, s .single))
   with-kept party base Nowhere n e b k w row = unfold withRow in ok
 
-  split-at-kept : cells < 65536 → (party base len : ℕ) (f : Found) → findOf t party base ≡ f → (badSplit (rowOf t f) len ≡ false) × (full t ≡ false) → tableSound cells (splitAt t f len) ≡ true
+  split-at-kept : cells < 65536 → (party base len : ℕ) (f : Found) → findOf t party base ≡ f → Splits t f len → tableSound cells (splitAt t f len) ≡ true
   unfolding splitAt
   split-at-kept fits party base len (At i) e k =
       let s = sound cells t ok in
       let h = found-at (begins party base) (live t) i blank (unfold findOf in e) .0 in
       let r = getD (live t) i blank in
-      let fit : badSplit r len ≡ false = sym (ap (λ x. badSplit x len) (row-live t i h)) ∙ k .0 in
+      let fit : badSplit r len ≡ false = sym (ap (λ x. badSplit x len) (row-live t i h)) ∙ k .fits in
       let some = eqb-false len 0 (or-left (eqb len 0) (leb (r .length) len) fit) in
       let below = leb-false (r .length) len (or-right (eqb len 0) (leb (r .length) len) fit) in
       ap (λ x. tableSound cells (spread t i (lowerPart x len) (upperPart x len))) (row-live t i h)
-      ∙ spread-kept cells t s i (lowerPart r len) (upperPart r len) h (leb-false 64 (t .count) (k .1)) (split-tiles cells fits r len (omega (arith, some)) below) (omega arith)
+      ∙ spread-kept cells t s i (lowerPart r len) (upperPart r len) h (leb-false 64 (t .count) (k .room)) (split-tiles cells fits r len (omega (arith, some)) below) (omega arith)
   split-at-kept fits party base len Nowhere e k = ok
 
   merge-at-kept : cells < 65536 → (party : ℕ) (f : Found) → mergeable t f party ≡ true → tableSound cells (mergeAt t f) ≡ true

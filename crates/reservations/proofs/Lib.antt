@@ -6,3 +6,5 @@ pub mod Walking
 pub mod Tiled
 pub mod Sound
 pub mod Kept
+pub mod Cells
+pub mod Inverse

@@ -24,6 +24,10 @@ pub record Begins (from upto : ℕ) (r : Reservation) (l : List Reservation) : T
   pub rest : tiles (from + r .length) upto l ≡ true
   pub fits : from + r .length ≤ upto
 
+pub tiles-none : (from upto : ℕ) → tiles from upto [] ≡ true → from ≡ upto
+unfolding tiles
+tiles-none from upto e = eqb-true from upto e
+
 pub tiles-le : (from upto : ℕ) (l : List Reservation) → tiles from upto l ≡ true → from ≤ upto
 unfolding tiles
 tiles-le from upto [] e = omega (arith, eqb-true from upto e)
@@ -78,3 +82,19 @@ pub tiled-row : (upto : ℕ) (l : List Reservation) (from i : ℕ) → tiles fro
 tiled-row upto [] from i e h = absurd (omega arith)
 tiled-row upto (r ∷ l) from zero e h = tiles-begin from upto r l e .row
 tiled-row upto (r ∷ l) from (suc i) e h = tiled-row upto l (from + r .length) i (tiles-begin from upto r l e .rest) (omega arith)
+
+-- The next reservation begins where this one ends.
+pub tiled-next : (upto : ℕ) (l : List Reservation) (from i : ℕ) → tiles from upto l ≡ true → suc i < length l → getD l (suc i) blank .base ≡ getD l i blank .base + getD l i blank .length
+tiled-next upto [] from i e h = absurd (omega arith)
+tiled-next upto (r ∷ []) from i e h = absurd (omega arith)
+tiled-next upto (r ∷ (s ∷ l)) from zero e h =
+    let g = tiles-begin from upto r (s ∷ l) e in
+    let k = tiles-begin (from + r .length) upto s l (g .rest) in
+    omega (arith, g, k)
+tiled-next upto (r ∷ (s ∷ l)) from (suc i) e h = tiled-next upto (s ∷ l) (from + r .length) i (tiles-begin from upto r (s ∷ l) e .rest) (omega arith)
+
+-- No reservation of a tiling runs past its end.
+pub tiled-fits : (upto : ℕ) (l : List Reservation) (from i : ℕ) → tiles from upto l ≡ true → i < length l → getD l i blank .base + getD l i blank .length ≤ upto
+tiled-fits upto [] from i e h = absurd (omega arith)
+tiled-fits upto (r ∷ l) from zero e h = let g = tiles-begin from upto r l e in omega (arith, g)
+tiled-fits upto (r ∷ l) from (suc i) e h = tiled-fits upto l (from + r .length) i (tiles-begin from upto r l e .rest) (omega arith)
