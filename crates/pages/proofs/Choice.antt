@@ -1,5 +1,7 @@
 -- Laws of `pick`: what a choice by a test comes to, once the test is known. Assumes nothing.
-use mathlib.Core.Bool.{Bool, true, false, _&&_, true≢false, false≢true}
+use Prim.Native.Nat.{_≤_}
+use native.Mathlib.Omega.{arith}
+use mathlib.Core.Bool.{Bool, true, false, _&&_, _||_, true≢false, false≢true}
 use mathlib.Core.Path.{_≡_, refl}
 use mir.Val.{boolByte}
 use Rattle.pages.specs.Lists.{pick}
@@ -13,6 +15,10 @@ module _ {ℓ} {A : Type ℓ} where
   pick-no true x y e = absurd (true≢false e)
   pick-no false x y e = refl
 
+  pub pick-twice : (b : Bool) (x : A) → pick b x x ≡ x
+  pick-twice true x = refl
+  pick-twice false x = refl
+
 pub and-left : (a b : Bool) → a && b ≡ true → a ≡ true
 and-left true b e = refl
 and-left false b e = e
@@ -25,3 +31,12 @@ and-right false b e = absurd (false≢true e)
 pub byte-pick : (b : Bool) → boolByte b ≡ pick b 1 0
 byte-pick true = refl
 byte-pick false = refl
+
+pub or-false : (a b : Bool) → a || b ≡ false → (a ≡ false) × (b ≡ false)
+or-false true b e = absurd (true≢false e)
+or-false false b e = (refl, e)
+
+-- A flag counts for one at most.
+pub at-most : (b : Bool) → pick b 1 0 ≤ 1
+at-most true = omega arith
+at-most false = omega arith

@@ -6,3 +6,11 @@ pub mod Refusals
 pub mod Memory
 pub mod Replacing
 pub mod Sweeping
+pub mod Formed
+pub mod Kept
+pub mod States
+pub mod Freeing
+pub mod View
+pub mod Shows
+pub mod Sweeps
+pub mod Capabilities

@@ -1,6 +1,6 @@
 -- How many pages map a frame: one page more, one page changed. Assumes nothing.
 use Prim.Native.Nat.{ℕ, zero, suc, _+_, _<_, _≤_}
-use native.Mathlib.Nat.{add-zero, add-assoc}
+use native.Mathlib.Nat.{add-zero, add-assoc, add-suc, suc-add}
 use native.Mathlib.Numerals.{add-one}
 use native.Mathlib.Omega.{arith}
 use mathlib.Core.Bool.{Bool, true, false, true≢false}
@@ -15,8 +15,8 @@ use Rattle.pages.specs.declared.PageState.{PageState}
 use Rattle.pages.specs.declared.PageState.the-variants.{Unmapped, Freed, Mapped}
 use Rattle.pages.specs.Entries.{maps, frameNumber}
 use Rattle.pages.specs.Layer.{mappings, Tally}
-use Rattle.pages.specs.Lists.{pick}
-use Rattle.pages.proofs.Choice.{pick-yes, pick-no}
+use Rattle.pages.specs.Lists.{pick, mapEach}
+use Rattle.pages.proofs.Choice.{pick-yes, pick-no, at-most}
 
 -- One if the page maps the frame, else none.
 abbrev pub one : PageEntry → ℕ → ℕ
@@ -36,14 +36,10 @@ mappings-more : (k : ℕ) (l : List PageEntry) (p : ℕ) (d : PageEntry) → p <
     → mappings k (take (p + 1) l) ≡ mappings k (take p l) + one (getD l p d) k
 mappings-more k l p d h = rw (add-one, take-suc l p d h) (mappings-snoc k (take p l) (getD l p d))
 
-pick-le : (b : Bool) → pick b 1 0 ≤ 1
-pick-le true = omega arith
-pick-le false = omega arith
-
 pub mappings-le : (k : ℕ) (l : List PageEntry) → mappings k l ≤ length l
 unfolding mappings
 mappings-le k [] = omega arith
-mappings-le k (x ∷ l) = omega (arith, mappings-le k l, pick-le (maps (x .state) k))
+mappings-le k (x ∷ l) = omega (arith, mappings-le k l, at-most (maps (x .state) k))
 
 -- A page that maps no counted frame changes no count.
 pub tally-miss :
@@ -72,3 +68,25 @@ tally-hit t l p d n h e b s u k j = go (eqb n k) refl
     go false q =
         rw (mappings-more k l p d h, pick-no {A = ℕ} (maps (getD l p d .state) k) 1 0 (here ∙ q), add-zero, getD-set-other t n k (getD t n 0 + 1) 0 (λ x. eqb-false n k q (sym x)))
         (u k j)
+
+-- One page's entry changed: the count loses what the old one gave and gains what the new one gives.
+pub mappings-set :
+    (k : ℕ) (l : List PageEntry) (p : ℕ) (d e : PageEntry) → p < length l
+    → mappings k (set l p e) + one (getD l p d) k ≡ mappings k l + one e k
+unfolding mappings
+mappings-set k [] p d e h = let z : ⊥ = omega arith in absurd z
+mappings-set k (x ∷ l) zero d e h = omega arith
+mappings-set k (x ∷ l) (suc p) d e h = omega (arith, mappings-set k l p d e (omega arith))
+
+-- Entries changed so that each still maps what it mapped: the count stays.
+pub mappings-mapEach :
+    (k : ℕ) (f : ℕ → PageEntry → PageEntry) (n : ℕ) (l : List PageEntry) (d : PageEntry)
+    → ((i : ℕ) → i < length l → maps (f (n + i) (getD l i d) .state) k ≡ maps (getD l i d .state) k)
+    → mappings k (mapEach f n l) ≡ mappings k l
+unfolding mappings mapEach
+mappings-mapEach k f n [] d h = refl
+mappings-mapEach k f n (x ∷ l) d h =
+    rw (
+      rw add-zero at (h 0 (omega arith)),
+      mappings-mapEach k f (suc n) l d (λ i j. rw (suc-add, ← add-suc) (h (suc i) (omega arith))),
+    )

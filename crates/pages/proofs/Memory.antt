@@ -10,12 +10,14 @@ use lib.Dec.{eqb, leb}
 use borrow.Author.Tests.{eqb-true, leb-false, not-false, ne-eqb}
 use Rattle.pages.specs.declared.Frame.{Frame}
 use Rattle.pages.specs.declared.Pages.{Pages}
-use Rattle.pages.specs.declared.FrameState.the-variants.{Free}
+use Rattle.pages.specs.declared.FrameState.the-variants.{Dirty, Free}
+use Rattle.pages.specs.Entries.{isDirty}
 use Rattle.pages.specs.Layer.{frameAt, serves, withFrame}
-use Rattle.pages.specs.Mapping.{zeroReasons, noFrame, cleared, zeroed, zeroOf}
+use Rattle.pages.specs.Mapping.{zeroReasons, dirtyReasons, noFrame, cleared, zeroed, zeroOf}
 use Rattle.pages.specs.Refusals.{reason, first}
 use Rattle.pages.proofs.Choice.{and-left, and-right}
 use Rattle.pages.proofs.Refusals.{first-clear}
+use Rattle.pages.proofs.States.{is-dirty}
 
 -- The part comes back cleared, between what stood before it and what stood after it.
 pub put-cleared :
@@ -39,15 +41,17 @@ pub record Served (s : Pages) (frame : Frame) (cells tags : ℕ) : Type 0 where
   pub of-cells : cells ≡ 16 * s .f
   pub of-tags : tags ≡ 16 * s .f
   pub below : frame .0 < s .f
+  pub dirty : frameAt s (frame .0) ≡ Dirty
 
 pub zero-served :
     (s : Pages) (frame : Frame) (cells tags : ℕ) → first (zeroReasons s frame cells tags) ≡ 0 → Served s frame cells tags
-unfolding zeroReasons
+unfolding zeroReasons dirtyReasons
 zero-served s frame cells tags e =
     let one = first-clear 2 (not (serves s cells tags)) _ (λ x. omega arith) e in
     let both = served s cells tags (not-false _ (one .0)) in
     let two = first-clear 12 (noFrame s frame) _ (λ x. omega arith) (one .1) in
-    record { of-cells = both .0; of-tags = both .1; below = leb-false (s .f) (frame .0) (two .0) }
+    let three = first-clear 14 (not (isDirty (frameAt s (frame .0)))) _ (λ x. omega arith) (two .1) in
+    record { of-cells = both .0; of-tags = both .1; below = leb-false (s .f) (frame .0) (two .0); dirty = is-dirty _ (not-false _ (three .0)) }
 
 -- The two ways in which zero returns.
 module _ (s : Pages) (frame : Frame) (cells tags : List ℕ) (k : ℕ) (e : k ≡ first (zeroReasons s frame (length cells) (length tags))) where

@@ -15,6 +15,7 @@ use Rattle.pages.specs.Capability.{baseOf}
 use Rattle.pages.specs.Lists.{pick, mapEach}
 use Rattle.pages.specs.Range.{inside}
 use Rattle.pages.specs.Sweep.{shownAt, sweptTag, sweptTags}
+use Rattle.pages.proofs.Choice.{pick-twice}
 use Rattle.pages.proofs.Lists.{length-mapEach, getD-mapEach, mapEach-same}
 
 pub ltb-next : (j i : ℕ) → (j ≡ i → ⊥) → ltb j (i + 1) ≡ ltb j i
@@ -24,10 +25,6 @@ ltb-next j i h = go (ltb j i) refl
     go true e = let k : j < i = ltb-true j i e in lt-ltb j (i + 1) (omega arith)
     go false e = let k : i ≤ j = ltb-false j i e in le-ltb j (i + 1) (omega (arith, h))
 
-pick-twice : (b : Bool) (x : ℕ) → pick b x x ≡ x
-pick-twice true x = refl
-pick-twice false x = refl
-
 nothing-between : (n i : ℕ) → (leb n i && ltb i n) ≡ false
 nothing-between n i = go (ltb i n) refl
   where
@@ -35,17 +32,17 @@ nothing-between n i = go (ltb i n) refl
     go true e = let k : i < n = ltb-true i n e in rw (lt-leb n i k)
     go false e = rw e (and-false (leb n i))
 
-module _ (frames : List FrameEntry) (r : Range) (from : ℕ) (cells tags : List ℕ) where
-  -- The capability in cell i is one that a sweep clears.
-  abbrev pub doomed : ℕ → Bool
-  doomed i = shownAt frames (i / 16) && inside r (baseOf (getD cells i 0))
+-- The capability in cell i is one that a sweep clears.
+abbrev pub doomed : List FrameEntry → Range → List ℕ → ℕ → Bool
+doomed frames r cells i = shownAt frames (i / 16) && inside r (baseOf (getD cells i 0))
 
+module _ (frames : List FrameEntry) (r : Range) (from : ℕ) (cells tags : List ℕ) where
   pub length-swept : (upto : ℕ) → length (sweptTags frames r from upto cells tags) ≡ length tags
   unfolding sweptTags
   length-swept upto = length-mapEach (sweptTag frames r from upto cells) 0 tags
 
   pub getD-swept : (upto i : ℕ) → i < length tags
-      → getD (sweptTags frames r from upto cells tags) i 0 ≡ pick ((leb from i && ltb i upto) && doomed i) 0 (getD tags i 0)
+      → getD (sweptTags frames r from upto cells tags) i 0 ≡ pick ((leb from i && ltb i upto) && doomed frames r cells i) 0 (getD tags i 0)
   unfolding sweptTags sweptTag
   getD-swept upto i h = getD-mapEach (sweptTag frames r from upto cells) 0 tags i 0 0 h ∙ rw zero-add
 
@@ -58,25 +55,25 @@ module _ (frames : List FrameEntry) (r : Range) (from : ℕ) (cells tags : List 
   swept-next i h = getD-swept i i h ∙ rw (le-ltb i i (omega arith), and-false (leb from i))
 
   pub swept-hit : (i : ℕ) → i < length tags → from ≤ i
-      → set (sweptTags frames r from i cells tags) i (pick (doomed i) 0 (getD tags i 0)) ≡ sweptTags frames r from (i + 1) cells tags
+      → set (sweptTags frames r from i cells tags) i (pick (doomed frames r cells i) 0 (getD tags i 0)) ≡ sweptTags frames r from (i + 1) cells tags
   swept-hit i h k =
-      ext-getD 0 (set (sweptTags frames r from i cells tags) i (pick (doomed i) 0 (getD tags i 0))) (sweptTags frames r from (i + 1) cells tags)
+      ext-getD 0 (set (sweptTags frames r from i cells tags) i (pick (doomed frames r cells i) 0 (getD tags i 0))) (sweptTags frames r from (i + 1) cells tags)
       (length-set (sweptTags frames r from i cells tags) i _ ∙ length-swept i ∙ sym (length-swept (i + 1)))
-      (λ j m. at j (rw (length-set (sweptTags frames r from i cells tags) i (pick (doomed i) 0 (getD tags i 0)), length-swept i) at m))
+      (λ j m. at j (rw (length-set (sweptTags frames r from i cells tags) i (pick (doomed frames r cells i) 0 (getD tags i 0)), length-swept i) at m))
     where
       at : (j : ℕ) → j < length tags
-          → getD (set (sweptTags frames r from i cells tags) i (pick (doomed i) 0 (getD tags i 0))) j 0
+          → getD (set (sweptTags frames r from i cells tags) i (pick (doomed frames r cells i) 0 (getD tags i 0))) j 0
           ≡ getD (sweptTags frames r from (i + 1) cells tags) j 0
       at j m = go (eqb j i) refl
         where
           go : (b : Bool) → eqb j i ≡ b
-              → getD (set (sweptTags frames r from i cells tags) i (pick (doomed i) 0 (getD tags i 0))) j 0
+              → getD (set (sweptTags frames r from i cells tags) i (pick (doomed frames r cells i) 0 (getD tags i 0))) j 0
               ≡ getD (sweptTags frames r from (i + 1) cells tags) j 0
           go true e =
               rw (eqb-true j i e, getD-swept (i + 1) i h, le-leb from i k, lt-ltb i (i + 1) (omega arith))
-              (getD-set-same (sweptTags frames r from i cells tags) i (pick (doomed i) 0 (getD tags i 0)) 0 (rw (length-swept i) h))
+              (getD-set-same (sweptTags frames r from i cells tags) i (pick (doomed frames r cells i) 0 (getD tags i 0)) 0 (rw (length-swept i) h))
           go false e =
-              getD-set-other (sweptTags frames r from i cells tags) i j (pick (doomed i) 0 (getD tags i 0)) 0 (eqb-false j i e)
+              getD-set-other (sweptTags frames r from i cells tags) i j (pick (doomed frames r cells i) 0 (getD tags i 0)) 0 (eqb-false j i e)
               ∙ getD-swept i j m ∙ rw (← (ltb-next j i (eqb-false j i e))) (sym (getD-swept (i + 1) j m))
 
   -- An untagged cell needs no write.
@@ -85,5 +82,5 @@ module _ (frames : List FrameEntry) (r : Range) (from : ℕ) (cells tags : List 
   swept-miss i h k e =
       let z : getD tags i 0 ≡ 0 = sym (swept-next i h) ∙ e in
       sym (set-getD (sweptTags frames r from i cells tags) i 0)
-      ∙ ap (λ x. set (sweptTags frames r from i cells tags) i x) (e ∙ rw z (sym (pick-twice (doomed i) 0)))
+      ∙ ap (λ x. set (sweptTags frames r from i cells tags) i x) (e ∙ rw z (sym (pick-twice (doomed frames r cells i) 0)))
       ∙ swept-hit i h k

@@ -3,7 +3,7 @@ use Prim.Native.Nat.{ℕ, _+_, _*_, _<_}
 use mathlib.Core.Path.{_≡_}
 use mathlib.Core.Bool.{Bool, _&&_}
 use mathlib.Core.List.{List, [], _∷_}
-use lib.ListN.{getD, set, replicate}
+use lib.ListN.{length, getD, set, replicate}
 use lib.Dec.{leb, ltb, eqb}
 use Rattle.pages.specs.declared.Pages.{Pages}
 use Rattle.pages.specs.declared.PageEntry.{PageEntry}
@@ -58,10 +58,15 @@ pageSound v f p e = pick (ltb p v) (mapsBelow f (e .state)) (isUnmapped (e .stat
 unfoldable pub frameSound : ℕ → List PageEntry → ℕ → FrameEntry → Bool
 frameSound f l k e = pick (ltb k f) (eqb (mappings k l) (pick (isShown (e .state)) 1 0)) (isDirty (e .state))
 
+-- There are 256 page entries and 128 frame entries, as the struct's arrays have.
+abbrev pub shaped : Pages → Bool
+shaped s = eqb (length (s .pages)) 256 && eqb (length (s .frames)) 128
+
 -- The page layer's part of "A state is well formed".
 unfoldable pub wellFormed : Pages → Bool
 wellFormed s =
-    (inRange (s .v) (s .f) && each (pageSound (s .v) (s .f)) 0 (s .pages)) && each (frameSound (s .f) (s .pages)) 0 (s .frames)
+    ((inRange (s .v) (s .f) && shaped s) && each (pageSound (s .v) (s .f)) 0 (s .pages))
+    && each (frameSound (s .f) (s .pages)) 0 (s .frames)
 
 -- "Lent memory is 16 × F cells and 16 × F tag bytes": these are the lengths that the layer serves.
 abbrev pub serves : Pages → ℕ → ℕ → Bool

@@ -59,11 +59,12 @@ unmapped s page = soiled (withPage s (page .0) Freed) (pageAt s (page .0))
 unfoldable pub unmapOf : Pages → VirtualPage → Paged
 unmapOf s page = paged (first (unmapReasons s page)) s (unmapped s page)
 
--- 0A zero: refusals 2 (the lent cells or tags are not 16 × F in number), 12 and 14 (the frame is not Dirty).
+-- 0A zero: refusals 12 and 14 (the frame is not Dirty); and before them 2, where the lent memory is of another size.
+unfoldable pub dirtyReasons : Pages → Frame → List Reason
+dirtyReasons s frame = reason 12 (noFrame s frame) ∷ reason 14 (not (isDirty (frameAt s (frame .0)))) ∷ []
+
 unfoldable pub zeroReasons : Pages → Frame → ℕ → ℕ → List Reason
-zeroReasons s frame cells tags =
-    reason 2 (not (serves s cells tags))
-    ∷ reason 12 (noFrame s frame) ∷ reason 14 (not (isDirty (frameAt s (frame .0)))) ∷ []
+zeroReasons s frame cells tags = reason 2 (not (serves s cells tags)) ∷ dirtyReasons s frame
 
 -- "Its cells and tags become 0": the sixteen from 16 × frame on.
 unfoldable pub cleared : Frame → List ℕ → List ℕ

@@ -1,4 +1,8 @@
 use borrow.Author.Needs.{needs}
+use lib.ListN.{length}
+use mathlib.Core.Bool.{and-true}
+use mathlib.Core.Path.{_≡_}
+use Rattle.pages.proofs.Arrays.{length-under}
 use Rattle.pages.specs.Layer.{wellFormed}
 use Rattle.pages.proofs.Pages.well_formed.Statement.{statement}
 use Rattle.pages.proofs.Pages.well_formed.Tie as tie
@@ -14,7 +18,7 @@ frames-sound-requires c κs = search needs
 
 returns : tie.Need-returns
 unfolding wellFormed
-returns c = cc
+returns c = let g = c .before .before .before .good .0 in let l : length (c .before .before .before .args .self .pages) ≡ 256 = search (length-under, g) in let m : length (c .before .before .before .args .self .frames) ≡ 128 = search (length-under, g) in rw (l, m, c .frames-sound .ensures, c .before .pages-sound .ensures, c .before .before .in-range .ensures) (rw and-true)
 
 pub well-formed-spec : {M : Type 1} → statement M
 well-formed-spec =

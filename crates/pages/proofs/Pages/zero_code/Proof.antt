@@ -1,6 +1,6 @@
 use borrow.Author.Needs.{needs}
 use Rattle.pages.specs.Refusals.{first}
-use Rattle.pages.specs.Mapping.{zeroReasons}
+use Rattle.pages.specs.Mapping.{zeroReasons, dirtyReasons}
 use Rattle.pages.proofs.Pages.zero_code.Statement.{statement}
 use Rattle.pages.proofs.Pages.zero_code.Tie as tie
 
@@ -26,7 +26,7 @@ first-requires-3 : tie.Need-first-requires-3
 first-requires-3 c κs = search needs
 
 returns : tie.Need-returns
-unfolding first zeroReasons
+unfolding first zeroReasons dirtyReasons
 returns c = cc
 
 pub zero-code-spec : {M : Type 1} → statement M

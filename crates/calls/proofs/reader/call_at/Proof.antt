@@ -1,0 +1,139 @@
+-- In each arm the command is the arm's number, so that kind's own function answers; in the last arm only 16 is left.
+use borrow.Author.Needs.{needs}
+use Rattle.calls.specs.Commands.{callAt}
+use Rattle.calls.proofs.Cases.{in-case, last-case}
+use Rattle.calls.proofs.reader.call_at.Statement.{statement}
+use Rattle.calls.proofs.reader.call_at.Tie as tie
+
+take-at-requires : tie.Need-take-at-requires
+take-at-requires c κs = search needs
+
+split-at-requires : tie.Need-split-at-requires
+split-at-requires c κs = search needs
+
+merge-at-requires : tie.Need-merge-at-requires
+merge-at-requires c κs = search needs
+
+give-at-requires : tie.Need-give-at-requires
+give-at-requires c κs = search needs
+
+revoke-at-requires : tie.Need-revoke-at-requires
+revoke-at-requires c κs = search needs
+
+sweep-at-requires : tie.Need-sweep-at-requires
+sweep-at-requires c κs = search needs
+
+collect-at-requires : tie.Need-collect-at-requires
+collect-at-requires c κs = search needs
+
+map-at-requires : tie.Need-map-at-requires
+map-at-requires c κs = search needs
+
+unmap-at-requires : tie.Need-unmap-at-requires
+unmap-at-requires c κs = search needs
+
+zero-at-requires : tie.Need-zero-at-requires
+zero-at-requires c κs = search needs
+
+load-at-requires : tie.Need-load-at-requires
+load-at-requires c κs = search needs
+
+store-at-requires : tie.Need-store-at-requires
+store-at-requires c κs = search needs
+
+narrow-at-requires : tie.Need-narrow-at-requires
+narrow-at-requires c κs = search needs
+
+number-at-requires : tie.Need-number-at-requires
+number-at-requires c κs = search needs
+
+grant-at-requires : tie.Need-grant-at-requires
+grant-at-requires c κs = search needs
+
+receive-at-requires : tie.Need-receive-at-requires
+receive-at-requires c κs = search needs
+
+returns : tie.Need-returns
+returns c = in-case (λ k. callAt k (c .before .before .before .args .s .now)) (c .before .match .keys1) (c .take-at .ensures)
+
+returns-2 : tie.Need-returns-2
+returns-2 c = in-case (λ k. callAt k (c .before .before .before .args .s .now)) (c .before .match .keys2) (c .split-at .ensures)
+
+returns-3 : tie.Need-returns-3
+returns-3 c = in-case (λ k. callAt k (c .before .before .before .args .s .now)) (c .before .match .keys3) (c .merge-at .ensures)
+
+returns-4 : tie.Need-returns-4
+returns-4 c = in-case (λ k. callAt k (c .before .before .before .args .s .now)) (c .before .match .keys4) (c .give-at .ensures)
+
+returns-5 : tie.Need-returns-5
+returns-5 c = in-case (λ k. callAt k (c .before .before .before .args .s .now)) (c .before .match .keys5) (c .revoke-at .ensures)
+
+returns-6 : tie.Need-returns-6
+returns-6 c = in-case (λ k. callAt k (c .before .before .before .args .s .now)) (c .before .match .keys6) (c .sweep-at .ensures)
+
+returns-7 : tie.Need-returns-7
+returns-7 c = in-case (λ k. callAt k (c .before .before .before .args .s .now)) (c .before .match .keys7) (c .collect-at .ensures)
+
+returns-8 : tie.Need-returns-8
+returns-8 c = in-case (λ k. callAt k (c .before .before .before .args .s .now)) (c .before .match .keys8) (c .map-at .ensures)
+
+returns-9 : tie.Need-returns-9
+returns-9 c = in-case (λ k. callAt k (c .before .before .before .args .s .now)) (c .before .match .keys9) (c .unmap-at .ensures)
+
+returns-10 : tie.Need-returns-10
+returns-10 c = in-case (λ k. callAt k (c .before .before .before .args .s .now)) (c .before .match .keys10) (c .zero-at .ensures)
+
+returns-11 : tie.Need-returns-11
+returns-11 c = in-case (λ k. callAt k (c .before .before .before .args .s .now)) (c .before .match .keys11) (c .load-at .ensures)
+
+returns-12 : tie.Need-returns-12
+returns-12 c = in-case (λ k. callAt k (c .before .before .before .args .s .now)) (c .before .match .keys12) (c .store-at .ensures)
+
+returns-13 : tie.Need-returns-13
+returns-13 c = in-case (λ k. callAt k (c .before .before .before .args .s .now)) (c .before .match .keys13) (c .narrow-at .ensures)
+
+returns-14 : tie.Need-returns-14
+returns-14 c = in-case (λ k. callAt k (c .before .before .before .args .s .now)) (c .before .match .keys14) (c .number-at .ensures)
+
+returns-15 : tie.Need-returns-15
+returns-15 c = in-case (λ k. callAt k (c .before .before .before .args .s .now)) (c .before .match .keys15) (c .grant-at .ensures)
+
+returns-16 : tie.Need-returns-16
+returns-16 c = in-case (λ k. callAt k (c .before .before .before .args .s .now)) (last-case 15 (c .before .before .before .pre .0) (c .before .before .before .pre .1) (c .before .match .rest)) (c .receive-at .ensures)
+
+pub call-at-spec : {M : Type 1} → statement M
+call-at-spec =
+    tie.close
+    (tie.spec
+    take-at-requires
+    split-at-requires
+    merge-at-requires
+    give-at-requires
+    revoke-at-requires
+    sweep-at-requires
+    collect-at-requires
+    map-at-requires
+    unmap-at-requires
+    zero-at-requires
+    load-at-requires
+    store-at-requires
+    narrow-at-requires
+    number-at-requires
+    grant-at-requires
+    receive-at-requires
+    returns
+    returns-2
+    returns-3
+    returns-4
+    returns-5
+    returns-6
+    returns-7
+    returns-8
+    returns-9
+    returns-10
+    returns-11
+    returns-12
+    returns-13
+    returns-14
+    returns-15
+    returns-16)

@@ -1,0 +1,5 @@
+-- What the reader and the writer of calls promise, stated apart from their code.
+pub mod Bytes
+pub mod Commands
+pub mod Reader
+pub mod Writer

@@ -1,0 +1,48 @@
+-- What is read at the beginning of an input.
+use Prim.Native.Nat.{ℕ}
+use mathlib.Core.Bool.{Bool, true, false, _&&_}
+use mathlib.Core.List.{List, [], _∷_}
+use mathlib.Core.Path.{_≡_}
+use lib.ListN.{length, getD}
+use lib.Dec.{ltb, leb}
+use Rattle.calls.specs.Commands.{lengthOf, callAt}
+use Rattle.calls.specs.declared.Reading.{Reading}
+use Rattle.calls.specs.declared.Reading.the-variants.{Read, Refused}
+
+abbrev pub pick : {A : Type 0} → Bool → A → A → A
+pick true x y = x
+pick false x y = y
+
+-- The first byte; 0, which is no command, where there is none.
+abbrev pub first : List ℕ → ℕ
+first s = getD s 0 0
+
+-- The first byte is a command, and the input holds all of it.
+unfoldable pub whole : List ℕ → Bool
+whole [] = false
+whole (k ∷ s) = ltb 0 (lengthOf k) && leb (lengthOf k) (length (k ∷ s))
+
+-- A call and the bytes it used, or the refusal.
+unfoldable pub readOf : List ℕ → Reading
+readOf s = pick (whole s) (Read (callAt (first s) s) (lengthOf (first s))) Refused
+
+-- A refusal's number and the bytes used.
+pub record Answer : Type 0 where
+  pub code : ℕ
+  pub used : ℕ
+
+abbrev pub granted : ℕ → Answer
+granted n = record { code = 0; used = n }
+
+abbrev pub refused : Answer
+refused = record { code = 3; used = 0 }
+
+-- The paper's numbers for each case of the answer.
+abbrev pub answerOf : Reading → Answer
+answerOf (Read call used) = granted used
+answerOf Refused = refused
+
+-- What reading `s` promises of its answer.
+pub record Reads (s : List ℕ) (r : Reading) : Type 0 where
+  pub is : r ≡ readOf s
+  pub numbers : answerOf r ≡ pick (whole s) (granted (lengthOf (first s))) refused

@@ -1,0 +1,49 @@
+// The one table of commands: the byte of each, and its length with that byte.
+ghost use mathlib.Core.Path.{_≡_};
+ghost use Rattle.calls.specs.Commands.{lengthOf};
+
+pub(crate) const TAKE: u8 = 0x01;
+
+pub(crate) const SPLIT: u8 = 0x02;
+
+pub(crate) const MERGE: u8 = 0x03;
+
+pub(crate) const GIVE: u8 = 0x04;
+
+pub(crate) const REVOKE: u8 = 0x05;
+
+pub(crate) const SWEEP: u8 = 0x06;
+
+pub(crate) const COLLECT: u8 = 0x07;
+
+pub(crate) const MAP: u8 = 0x08;
+
+pub(crate) const UNMAP: u8 = 0x09;
+
+pub(crate) const ZERO: u8 = 0x0A;
+
+pub(crate) const LOAD: u8 = 0x0B;
+
+pub(crate) const STORE: u8 = 0x0C;
+
+pub(crate) const NARROW: u8 = 0x0D;
+
+pub(crate) const NUMBER: u8 = 0x0E;
+
+pub(crate) const GRANT: u8 = 0x0F;
+
+pub(crate) const RECEIVE: u8 = 0x10;
+
+// The length of the longest.
+pub(crate) const LONGEST: usize = 11;
+
+// At a command's byte; 0 at 0, which is none.
+const LENGTHS: [usize; 17] = [0, 5, 6, 4, 5, 4, 4, 2, 4, 3, 3, 6, 6, 9, 11, 4, 3];
+
+// A command's length; 0 for a byte that is no command.
+pub(crate) fn length_of(command: u8) -> usize
+    ensures { λ r. ⌜ r ≡ lengthOf command ⌝ }
+{
+    let k = command as usize;
+    if k < LENGTHS.len() { LENGTHS[k] } else { 0 }
+}
