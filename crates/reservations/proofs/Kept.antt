@@ -128,7 +128,7 @@ row-live t i h = sym (live-at t i blank h)
 taken-sound : (r : Reservation) → rowSound r ≡ true → rowSound (takenRow r) ≡ true
 taken-sound r e = both (ltb 0 (r .length) && true) true (both (ltb 0 (r .length)) true (lt-ltb 0 (r .length) (row-some r e)) refl) refl
 
-open-still : (s : ReservationState) → isOpen s ≡ true → isRevoking s ≡ false
+pub open-still : (s : ReservationState) → isOpen s ≡ true → isRevoking s ≡ false
 open-still Open e = refl
 open-still Taken e = refl
 open-still Revoking e = sym e

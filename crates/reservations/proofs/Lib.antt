@@ -8,3 +8,8 @@ pub mod Sound
 pub mod Kept
 pub mod Cells
 pub mod Inverse
+pub mod Dying
+pub mod CoreKept
+pub mod Revocations
+pub mod Starts
+pub mod Refused
