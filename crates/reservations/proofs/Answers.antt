@@ -100,6 +100,10 @@ merge-clear t f party e =
     let after6 = first-clear 6 _ _ (λ z. omega arith) e .1 in
     not-false _ (first-clear 7 _ _ (λ z. omega arith) after6 .0)
 
+pub merge-found : (t : Table) (f : Found) (party : ℕ) → first (mergeReasonsAt t f party) ≡ 0 → missing f ≡ false
+unfolding mergeReasonsAt
+merge-found t f party e = first-clear 6 _ _ (λ z. omega arith) e .0
+
 pub merge-next : (t : Table) (f : Found) (party : ℕ) → mergeable t f party ≡ true → missing (nextOf t f) ≡ false
 unfolding mergeable
 merge-next t f party m = not-true _ (and-left (not (missing (nextOf t f))) _ m)

@@ -13,3 +13,5 @@ pub mod CoreKept
 pub mod Revocations
 pub mod Starts
 pub mod Refused
+pub mod After
+pub mod CoreAfter

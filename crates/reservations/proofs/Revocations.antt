@@ -87,7 +87,7 @@ freed-while c facts run =
     and-right (wholePages r) (allFreed (c .pages) (revoked c))
     (sym (pick-yes (running c) (wholePages r && allFreed (c .pages) (revoked c)) (eqb (c .place) 0) run) ∙ (unfold revocationSound in facts .revocation))
 
-collected-at : (c : Core) (f : Found) → revokingOf (c .table) ≡ f → collected c ≡ core (releasedOf (c .pages) (revoked c)) (withRow (c .table) f (collectedRow (rowOf (c .table) f))) 0
+pub collected-at : (c : Core) (f : Found) → revokingOf (c .table) ≡ f → collected c ≡ core (releasedOf (c .pages) (revoked c)) (withRow (c .table) f (collectedRow (rowOf (c .table) f))) 0
 unfolding collected
 collected-at c f e = ap (λ f. core (releasedOf (c .pages) (revoked c)) (withRow (c .table) f (collectedRow (rowOf (c .table) f))) 0) e
 
