@@ -1,30 +1,27 @@
 -- The reservations after each granted operation: every one is an old one, or stands in place of the named one (a part of an
 -- Open one, a join of two alike, the same range in another state or hand). Assumes nothing.
-use Prim.Native.Nat.{ℕ, suc, _+_, _<_, _≤_}
+use Prim.Native.Nat.{ℕ, _+_, _≤_}
 use native.Mathlib.Omega.{arith}
-use mathlib.Core.Bool.{Bool, true, false, not, _&&_, true≢false}
+use mathlib.Core.Bool.{true, false, not, _&&_, true≢false}
 use mathlib.Core.List.{List, [], _∷_, _++_}
 use mathlib.Core.Path.{_≡_, refl, sym, ap, _∙_}
-use borrow.Author.Tests.{eq-eqb, not-true, not-false}
-use lib.Dec.{eqb}
+use borrow.Author.Tests.{eq-eqb}
 use lib.ListN.{length, getD, take, drop}
-use Rattle.pages.specs.Lists.{pick}
 use Rattle.pages.specs.Refusals.{first}
 use Rattle.pages.proofs.Choice.{and-right, pick-yes}
 use Rattle.reservations.specs.declared.Reservation.{Reservation}
 use Rattle.reservations.specs.declared.Table.{Table}
-use Rattle.reservations.specs.declared.Core.{Core}
 use Rattle.reservations.specs.declared.Found.{Found}
 use Rattle.reservations.specs.declared.Found.the-variants.{At, Nowhere}
 use Rattle.reservations.specs.Rows.{isOpen, held, live, blank, spread, gather}
-use Rattle.reservations.specs.Find.{findOf, begins, missing, nextOf, revokingOf, rowOf, withRow}
+use Rattle.reservations.specs.Find.{findOf, begins, missing, nextOf, rowOf, withRow}
 use Rattle.reservations.specs.Tiling.{tableSound}
-use Rattle.reservations.specs.Operations.{openReasons, takeReasons, takenRow, takeOf, giveReasons, givenRow, giveOf}
-use Rattle.reservations.specs.Operations.{lowerPart, upperPart, splitReasonsAt, splitReasons, splitAt, splitOf}
-use Rattle.reservations.specs.Operations.{alike, joined, mergeable, mergeReasonsAt, mergeReasons, mergeAt, mergeOf}
+use Rattle.reservations.specs.Operations.{takeReasons, takenRow, takeOf, giveReasons, givenRow, giveOf}
+use Rattle.reservations.specs.Operations.{lowerPart, upperPart, splitReasons, splitAt, splitOf}
+use Rattle.reservations.specs.Operations.{alike, joined, mergeable, mergeReasons, mergeAt, mergeOf}
 use Rattle.reservations.proofs.Finding.{found-at, next-at, next-below}
 use Rattle.reservations.proofs.Answers.{Splits, open-clear, split-clear, merge-clear, merge-found, merge-next}
-use Rattle.reservations.proofs.Sound.{Sound, sound}
+use Rattle.reservations.proofs.Sound.{sound}
 use Rattle.reservations.proofs.Kept.{row-live}
 use Rattle.reservations.proofs.Inverse.{spread-live, gather-live}
 use Rattle.reservations.proofs.CoreKept.{with-live}

@@ -1,10 +1,10 @@
 -- A refused operation answers its number and the table as it was; a granted one answers 0 and the new table. Assumes nothing.
-use Prim.Native.Nat.{ℕ, _+_, _<_, _≤_}
+use Prim.Native.Nat.{ℕ, _≤_}
 use native.Mathlib.Omega.{arith}
 use lib.ListN.{length}
-use mathlib.Core.Bool.{Bool, true, false, not, _&&_, _||_, true≢false, false≢true}
+use mathlib.Core.Bool.{Bool, true, false, not}
 use mathlib.Core.List.{List, [], _∷_}
-use mathlib.Core.Path.{_≡_, refl, sym, ap, _∙_}
+use mathlib.Core.Path.{_≡_, sym, ap, _∙_}
 use borrow.Author.Tests.{eq-eqb, ne-eqb, leb-false, not-true, not-false}
 use lib.Dec.{eqb, leb}
 use Rattle.pages.specs.Lists.{pick}
@@ -16,7 +16,6 @@ use Rattle.reservations.specs.declared.Tabled.{Tabled}
 use Rattle.reservations.specs.declared.Taken.{Taken}
 use Rattle.reservations.specs.declared.Reservation.{Reservation}
 use Rattle.reservations.specs.declared.Found.{Found}
-use Rattle.reservations.specs.declared.Found.the-variants.{At}
 use Rattle.reservations.proofs.Truth.{or-right}
 use Rattle.reservations.specs.Rows.{isOpen}
 use Rattle.reservations.specs.Find.{missing, nextOf, rowOf}

@@ -1,9 +1,9 @@
 -- The core after a granted revoke and collect; no cell is lost by either; what dies is what the revoked range names.
 -- Assumes nothing.
-use Prim.Native.Nat.{ℕ, suc, _+_, _*_, _<_, _≤_}
+use Prim.Native.Nat.{ℕ, _+_, _*_, _<_}
 use native.Mathlib.Omega.{arith}
-use mathlib.Core.Bool.{Bool, true, false, not, _&&_, true≢false, false≢true}
-use mathlib.Core.List.{List, [], _∷_, _++_}
+use mathlib.Core.Bool.{Bool, true, false, _&&_, true≢false}
+use mathlib.Core.List.{[], _∷_, _++_}
 use mathlib.Core.Path.{_≡_, refl, sym, ap, subst, _∙_}
 use borrow.Author.Tests.{eq-eqb, not-true, not-false}
 use lib.Dec.{eqb}
@@ -14,7 +14,6 @@ use Rattle.pages.specs.Mapping.{freedOf, releasedOf}
 use Rattle.pages.specs.Range.{inside}
 use Rattle.pages.specs.Refusals.{first}
 use Rattle.pages.proofs.Choice.{pick-yes}
-use Rattle.reservations.specs.declared.Reservation.{Reservation}
 use Rattle.reservations.specs.declared.Core.{Core}
 use Rattle.reservations.specs.declared.Found.{Found}
 use Rattle.reservations.specs.declared.Found.the-variants.{At, Nowhere}
@@ -26,7 +25,7 @@ use Rattle.reservations.proofs.Finding.{found-at}
 use Rattle.reservations.proofs.Sound.{sound}
 use Rattle.reservations.proofs.Kept.{row-live}
 use Rattle.reservations.proofs.Cells.{inside-bounds, none-lost}
-use Rattle.reservations.proofs.CoreKept.{CoreFacts, core-facts, with-live}
+use Rattle.reservations.proofs.CoreKept.{core-facts, with-live}
 use Rattle.reservations.proofs.Revocations.{Revokes, revoke-clear, collect-clear, collected-at, core-revoke, core-collect}
 use Rattle.reservations.proofs.After.{Replaced}
 

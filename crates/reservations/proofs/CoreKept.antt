@@ -1,26 +1,21 @@
 -- Every operation keeps the core well formed, granted or refused. Assumes nothing.
-use Prim.Native.Nat.{ℕ, zero, suc, _+_, _-_, _*_, _%_, _<_, _≤_, min}
+use Prim.Native.Nat.{ℕ, _+_, _*_, _<_, _≤_}
 use native.Mathlib.Numerals.{add-one}
 use native.Mathlib.Omega.{arith}
-use mathlib.Core.Bool.{Bool, true, false, not, _&&_, _||_, true≢false, false≢true}
-use mathlib.Core.List.{List, [], _∷_, _++_}
-use mathlib.Core.Path.{_≡_, refl, sym, ap, subst, _∙_}
-use borrow.Author.Tests.{eqb-true, eq-eqb, leb-true, le-leb, not-true, not-false, lt-ltb}
-use lib.Dec.{eqb, leb, ltb}
-use lib.ListN.{length, getD, take, drop, set, length-append}
+use mathlib.Core.Bool.{Bool, true, false, not, _&&_, false≢true}
+use mathlib.Core.List.{List, _∷_, _++_}
+use mathlib.Core.Path.{_≡_, refl, sym, ap, _∙_}
+use borrow.Author.Tests.{eqb-true, leb-true, le-leb}
+use lib.Dec.{eqb, leb}
+use lib.ListN.{length, getD, take, drop, set}
 use lib.Seq.{set-split}
 use Rattle.pages.specs.declared.Pages.{Pages}
-use Rattle.pages.specs.declared.Range.{Range}
 use Rattle.pages.specs.Freed.{allFreed}
 use Rattle.pages.specs.Layer.{wellFormed}
 use Rattle.pages.specs.Lists.{pick}
-use Rattle.pages.specs.Mapping.{anyMapped, freedOf, releasedOf}
 use Rattle.pages.specs.Refusals.{first}
-use Rattle.pages.proofs.AllFreed.{freed-all, freed-none-mapped}
 use Rattle.pages.proofs.Choice.{and-left, and-right, pick-yes, pick-no}
 use Rattle.pages.proofs.Formed as formed
-use Rattle.pages.proofs.Freeing.{freed-keeps, released-keeps}
-use Rattle.pages.proofs.Refusals.{first-clear}
 use Rattle.reservations.specs.declared.Reservation.{Reservation}
 use Rattle.reservations.specs.declared.ReservationState.{ReservationState}
 use Rattle.reservations.specs.declared.ReservationState.the-variants.{Open, Taken, Revoking}
@@ -33,16 +28,15 @@ use Rattle.reservations.specs.Find.{missing, findOf, begins, nextOf, rev
 use Rattle.reservations.specs.Operations.{openReasons, takeReasons, takenRow, takeOf, giveReasons, givenRow, giveOf}
 use Rattle.reservations.specs.Operations.{lowerPart, upperPart, splitReasonsAt, splitReasons, splitAt, splitOf}
 use Rattle.reservations.specs.Operations.{alike, joined, mergeable, mergeReasonsAt, mergeReasons, mergeAt, mergeOf}
-use Rattle.reservations.specs.Tiling.{rowSound, tiles, revokings, weight, tableSound}
-use Rattle.reservations.specs.Revocation.{core, running, revoked, wholePages, revokeReasonsAt, revokeReasons, revokingRow, revokeAt, revokeOf, collectReasons, collectedRow, collected, collectOf, revocationSound, coreSound}
+use Rattle.reservations.specs.Tiling.{tableSound}
+use Rattle.reservations.specs.Revocation.{core, running, revoked, wholePages, revocationSound, coreSound}
 use Rattle.reservations.proofs.Truth.{both}
 use Rattle.reservations.proofs.Finding.{found-at, next-at, next-below}
 use Rattle.reservations.proofs.Answers.{Splits, open-clear, split-clear, merge-clear, merge-next}
 use Rattle.reservations.proofs.Inverse.{spread-live, gather-live}
-use Rattle.reservations.proofs.Dying.{dyings, none, firstOf, revoking-row, revoking-none, dyings-length, dyings-append, dyings-not, dyings-yes, no-dyings}
-use Rattle.reservations.proofs.Tiled.{row-some, tiled-row, tiled-fits}
+use Rattle.reservations.proofs.Dying.{dyings, none, firstOf, revoking-row, revoking-none, dyings-append, dyings-not}
 use Rattle.reservations.proofs.Sound.{Sound, sound, with-made, live-made}
-use Rattle.reservations.proofs.Kept.{cut-one, cut-two, row-live, row-kept, open-still, take-kept, give-kept, split-kept, merge-kept}
+use Rattle.reservations.proofs.Kept.{cut-one, cut-two, row-live, open-still, take-kept, give-kept, split-kept, merge-kept}
 
 -- A well-formed core as plain facts.
 pub record CoreFacts (c : Core) : Type 0 where

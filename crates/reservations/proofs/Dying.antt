@@ -1,8 +1,8 @@
 -- The Revoking reservations of a table, as a list; what the search for one finds is its first. Assumes nothing.
-use Prim.Native.Nat.{ℕ, zero, suc, _+_, _<_, _≤_}
+use Prim.Native.Nat.{ℕ, suc, _+_, _<_}
 use native.Mathlib.Nat.{add-zero, zero-add}
 use native.Mathlib.Omega.{arith}
-use mathlib.Core.Bool.{Bool, true, false, not, true≢false, false≢true}
+use mathlib.Core.Bool.{Bool, true, false}
 use mathlib.Core.List.{List, [], _∷_, _++_}
 use mathlib.Core.Path.{_≡_, refl, sym, ap, _∙_}
 use lib.ListN.{length, getD}
@@ -14,7 +14,7 @@ use Rattle.reservations.specs.declared.Found.{Found}
 use Rattle.reservations.specs.declared.Found.the-variants.{At, Nowhere}
 use Rattle.reservations.specs.Rows.{isRevoking, blank, live}
 use Rattle.reservations.specs.Find.{seek, missing, revokingOf, rowOf}
-use Rattle.reservations.specs.Tiling.{revokings, weight}
+use Rattle.reservations.specs.Tiling.{revokings}
 use Rattle.reservations.proofs.Moving.{live-at}
 
 unfoldable pub dyings : List Reservation → List Reservation

@@ -1,18 +1,17 @@
 -- Merge takes back what split did, and split what merge did, to the bit. Assumes nothing.
-use Prim.Native.Nat.{ℕ, zero, suc, _+_, _-_, _%_, _<_, _≤_}
-use native.Mathlib.Nat.{add-zero, add-suc, suc-add}
+use Prim.Native.Nat.{ℕ, suc, _+_, _-_, _<_}
 use native.Mathlib.Numerals.{add-one}
 use native.Mathlib.Omega.{arith}
-use mathlib.Core.Bool.{Bool, true, false, not, _&&_, _||_, true≢false, false≢true}
-use mathlib.Core.List.{List, [], _∷_, _++_}
+use mathlib.Core.Bool.{true, false, not, _&&_, _||_, true≢false, false≢true}
+use mathlib.Core.List.{List, _∷_, _++_}
 use mathlib.Core.Path.{_≡_, refl, sym, ap, subst, _∙_}
-use borrow.Author.Tests.{eqb-true, lt-ltb, ltb-true, leb-false, eqb-false, ne-eqb, lt-leb}
-use lib.Dec.{eqb, leb, ltb}
-use lib.ListN.{length, getD, take, drop, set, length-append, length-take, length-drop}
+use borrow.Author.Tests.{eqb-true, leb-false, ne-eqb, lt-leb}
+use lib.Dec.{eqb, leb}
+use lib.ListN.{length, getD, take, drop, length-append, length-take, length-drop}
 use lib.Seq.{drop-cons, take-at, drop-append-add, drop-append-seam, getD-at, getD-append-add, length-take-le}
 use Rattle.pages.specs.Lists.{pick}
 use Rattle.pages.specs.Refusals.{first}
-use Rattle.pages.proofs.Choice.{and-left, and-right, pick-yes, pick-no}
+use Rattle.pages.proofs.Choice.{and-left, and-right}
 use Rattle.reservations.specs.declared.Reservation.{Reservation}
 use Rattle.reservations.specs.declared.ReservationState.{ReservationState}
 use Rattle.reservations.specs.declared.ReservationState.the-variants.{Open, Taken, Revoking}
@@ -20,17 +19,16 @@ use Rattle.reservations.specs.declared.Table.{Table}
 use Rattle.reservations.specs.declared.Tabled.{Tabled}
 use Rattle.reservations.specs.declared.Found.{Found}
 use Rattle.reservations.specs.declared.Found.the-variants.{At, Nowhere}
-use Rattle.reservations.specs.Rows.{isOpen, isTaken, isBlank, held, live, table, blank, reservation, splice, spread, gather}
+use Rattle.reservations.specs.Rows.{isOpen, isBlank, held, live, table, blank, reservation, splice, spread, gather}
 use Rattle.reservations.specs.Find.{seek, rowOf, findOf, begins, nextOf, missing}
-use Rattle.reservations.specs.Tiling.{tiles, allBlank, tableSound}
+use Rattle.reservations.specs.Tiling.{allBlank, tableSound}
 use Rattle.reservations.specs.Operations.{tabled, badSplit, full, lowerPart, upperPart, splitReasonsAt, splitReasons, splitAt, splitOf}
 use Rattle.reservations.specs.Operations.{alike, joined, mergeable, mergeReasonsAt, mergeReasons, mergeAt, mergeOf}
-use Rattle.reservations.proofs.Truth.{both, or-left, or-right}
-use Rattle.reservations.proofs.Moving.{live-length}
+use Rattle.reservations.proofs.Truth.{both, or-right}
 use Rattle.reservations.proofs.Finding.{found-at, seek-same, next-at, next-below}
 use Rattle.reservations.proofs.Walking.{blank-more}
 use Rattle.reservations.proofs.Answers.{Splits, split-clear, merge-clear, merge-next}
-use Rattle.reservations.proofs.Tiled.{tiles-begin, tiled-row, tiled-next, tiled-fits, row-some}
+use Rattle.reservations.proofs.Tiled.{tiled-row, tiled-next, tiled-fits, row-some}
 use Rattle.reservations.proofs.Sound.{Sound, sound, live-made, rows-parts}
 use Rattle.reservations.proofs.Kept.{cut-one, cut-two, row-live}
 

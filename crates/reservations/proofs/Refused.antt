@@ -1,7 +1,7 @@
 -- A refusal changes nothing: whatever is not granted hands back what it was given. Assumes nothing.
 use Prim.Native.Nat.{ℕ}
 use mathlib.Core.List.{List}
-use mathlib.Core.Path.{_≡_, refl, sym, ap, _∙_}
+use mathlib.Core.Path.{_≡_}
 use borrow.Author.Tests.{ne-eqb}
 use lib.Dec.{eqb}
 use lib.ListN.{length}
@@ -13,7 +13,7 @@ use Rattle.reservations.specs.declared.Table.{Table}
 use Rattle.reservations.specs.declared.Core.{Core}
 use Rattle.reservations.specs.Find.{findOf, rowOf, withRow}
 use Rattle.reservations.specs.Operations.{takeOf, takeReasons, takenRow, splitOf, splitReasons, splitAt, mergeOf, mergeReasons, mergeAt, giveOf, giveReasons, givenRow}
-use Rattle.reservations.specs.Revocation.{revokeOf, revokeReasons, revokeAt, Passing, passing, coreSwept, sweptCore, sweepReasons, sweepCoreOf, revoked, collectOf, collectReasons, collected}
+use Rattle.reservations.specs.Revocation.{revokeOf, revokeReasons, revokeAt, passing, coreSwept, sweptCore, sweepReasons, sweepCoreOf, revoked, collectOf, collectReasons, collected}
 
 kept : {A : Type 0} (code : ℕ) (x y : A) → (code ≡ 0 → ⊥) → pick (eqb code 0) x y ≡ y
 kept code x y z = pick-no (eqb code 0) x y (ne-eqb code 0 z)

@@ -1,42 +1,39 @@
 -- Revoke, sweep and collect keep the core well formed, granted or refused. Assumes nothing.
-use Prim.Native.Nat.{ℕ, zero, suc, _+_, _-_, _*_, _%_, _<_, _≤_, min}
+use Prim.Native.Nat.{ℕ, zero, _+_, _-_, _*_, _<_, _≤_, min}
 use native.Mathlib.Omega.{arith}
 use mathlib.Core.Bool.{Bool, true, false, not, _&&_, _||_, true≢false, false≢true}
 use mathlib.Core.List.{List, [], _∷_, _++_}
 use mathlib.Core.Path.{_≡_, refl, sym, ap, subst, _∙_}
 use borrow.Author.Tests.{eqb-true, eq-eqb, leb-true, le-leb, not-true, not-false, lt-ltb}
 use lib.Dec.{eqb, leb, ltb}
-use lib.ListN.{length, getD, take, drop, length-append}
+use lib.ListN.{length, getD, take, drop}
 use Rattle.pages.specs.declared.Pages.{Pages}
-use Rattle.pages.specs.declared.Range.{Range}
 use Rattle.pages.specs.Freed.{allFreed}
-use Rattle.pages.specs.Layer.{wellFormed, serves, inRange, freshOf}
+use Rattle.pages.specs.Layer.{serves}
 use Rattle.pages.specs.Lists.{pick}
 use Rattle.pages.specs.Mapping.{anyMapped, freedOf, releasedOf}
 use Rattle.pages.specs.Refusals.{first}
 use Rattle.pages.specs.Sweep.{sweepOf, passed}
 use Rattle.pages.proofs.AllFreed.{freed-all, freed-none-mapped}
-use Rattle.pages.proofs.Choice.{and-left, and-right, pick-yes, pick-no}
+use Rattle.pages.proofs.Choice.{and-right, pick-yes, pick-no}
 use Rattle.pages.proofs.Freeing.{freed-keeps, released-keeps}
 use Rattle.pages.proofs.Refusals.{first-clear}
 use Rattle.reservations.specs.declared.Reservation.{Reservation}
-use Rattle.reservations.specs.declared.ReservationState.the-variants.{Open, Taken, Revoking}
-use Rattle.reservations.specs.declared.Table.{Table}
 use Rattle.reservations.specs.declared.Found.{Found}
 use Rattle.reservations.specs.declared.Found.the-variants.{At, Nowhere}
 use Rattle.reservations.specs.declared.Core.{Core}
 use Rattle.reservations.specs.Rows.{isOpen, isRevoking, blank, live, rangeOf}
 use Rattle.reservations.specs.Find.{missing, findOf, begins, revokingOf, rowOf, withRow}
-use Rattle.reservations.specs.Tiling.{rowSound, revokings, weight, tableSound}
+use Rattle.reservations.specs.Tiling.{rowSound, revokings, weight}
 use Rattle.reservations.specs.Revocation.{core, running, revoked, wholePages, revokeReasonsAt, revokeReasons, revokingRow, revokeAt, revokeOf}
 use Rattle.reservations.specs.Revocation.{Passing, passing, coreSwept, sweepReasons, sweptCore, sweepCoreOf, collectReasons, collectedRow, collected, collectOf, revocationSound, coreSound}
 use Rattle.reservations.proofs.Truth.{both, or-left, or-right, or-second}
 use Rattle.reservations.proofs.Finding.{found-at}
-use Rattle.reservations.proofs.Dying.{dyings, none, firstOf, revoking-row, revoking-none, dyings-length, dyings-append, dyings-not, dyings-yes, no-dyings}
+use Rattle.reservations.proofs.Dying.{dyings, none, revoking-none, dyings-length, dyings-not, dyings-yes, no-dyings}
 use Rattle.reservations.proofs.Tiled.{row-some, tiled-row, tiled-fits, revokings-append, revokings-first}
-use Rattle.reservations.proofs.Sound.{Sound, sound}
+use Rattle.reservations.proofs.Sound.{sound}
 use Rattle.reservations.proofs.Kept.{cut-one, row-live, row-kept}
-use Rattle.reservations.proofs.CoreKept.{CoreFacts, core-facts, core-made, dyingSound, dying-sound, before-dyings, after-dyings}
+use Rattle.reservations.proofs.CoreKept.{CoreFacts, core-facts, core-made, dyingSound, dying-sound, after-dyings}
 
 zero-row : (r n : Reservation) → rowSound r ≡ true → n .length ≡ r .length → n .holder ≡ 0 → rowSound n ≡ true
 zero-row r n e size holder =

@@ -1,20 +1,19 @@
 -- A fresh table and a fresh core are well formed. Assumes nothing.
-use Prim.Native.Nat.{ℕ, _+_, _*_, _<_, _≤_}
+use Prim.Native.Nat.{ℕ, _+_, _*_, _<_}
 use native.Mathlib.Nat.{zero-add}
 use native.Mathlib.Omega.{arith}
-use mathlib.Core.Bool.{Bool, true, false, _&&_}
-use mathlib.Core.List.{List, [], _∷_}
-use mathlib.Core.Path.{_≡_, refl, sym, ap, _∙_}
+use mathlib.Core.Bool.{true, _&&_}
+use mathlib.Core.List.{[], _∷_}
+use mathlib.Core.Path.{_≡_, refl, ap, _∙_}
 use borrow.Author.Tests.{eq-eqb, ne-eqb, ltb-true}
 use lib.Dec.{eqb, ltb, leb}
-use lib.ListN.{length, replicate}
-use Rattle.pages.specs.Layer.{wellFormed, inRange, blank as blankPages, freshOf}
+use lib.ListN.{replicate}
+use Rattle.pages.specs.Layer.{inRange, blank as blankPages, freshOf}
 use Rattle.pages.specs.Lists.{pick}
 use Rattle.pages.proofs.Choice.{and-left, pick-yes, pick-no}
 use Rattle.pages.proofs.Kept.{fresh-formed}
 use Rattle.reservations.specs.declared.Reservation.{Reservation}
 use Rattle.reservations.specs.declared.ReservationState.the-variants.{Open}
-use Rattle.reservations.specs.declared.Table.{Table}
 use Rattle.reservations.specs.Rows.{blank, live, reservation, table}
 use Rattle.reservations.specs.Tiling.{tiles, allBlank, revokings, tableSound, freshTable}
 use Rattle.reservations.specs.Revocation.{freshCore, coreSound}

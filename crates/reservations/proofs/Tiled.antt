@@ -1,18 +1,16 @@
 -- Laws of `tiles`: a front part may be exchanged for another that ends at the same cell. Assumes nothing.
-use Prim.Native.Nat.{ℕ, zero, suc, _+_, _-_, _*_, _%_, _<_, _≤_}
-use native.Mathlib.Nat.{add-assoc}
+use Prim.Native.Nat.{ℕ, zero, suc, _+_, _<_, _≤_}
 use native.Mathlib.Omega.{arith}
-use mathlib.Core.Bool.{Bool, true, false, _&&_, _||_}
+use mathlib.Core.Bool.{true, _&&_, _||_}
 use mathlib.Core.List.{List, [], _∷_, _++_}
-use mathlib.Core.Path.{_≡_, refl, sym, ap, subst, _∙_}
-use borrow.Author.Tests.{eqb-true, eq-eqb, ltb-true, lt-ltb, leb-true, le-leb}
+use mathlib.Core.Path.{_≡_, refl}
+use borrow.Author.Tests.{eqb-true, eq-eqb, ltb-true, lt-ltb}
 use lib.Dec.{eqb, ltb, leb}
 use lib.ListN.{length, getD}
-use Rattle.pages.specs.Lists.{pick}
 use Rattle.pages.proofs.Choice.{and-left, and-right}
 use Rattle.reservations.specs.declared.Reservation.{Reservation}
 use Rattle.reservations.specs.declared.ReservationState.the-variants.{Open}
-use Rattle.reservations.specs.Rows.{isOpen, isRevoking, blank, reservation}
+use Rattle.reservations.specs.Rows.{isOpen, blank, reservation}
 use Rattle.reservations.specs.Tiling.{rowSound, follows, tiles, revokings, weight}
 use Rattle.reservations.proofs.Truth.{both}
 

@@ -1,6 +1,6 @@
-use mathlib.Core.Path.{_≡_, refl, sym, ap, _∙_}
+use mathlib.Core.Path.{sym, ap, _∙_}
 use Rattle.pages.specs.Refusals.{first}
-use Rattle.reservations.specs.Find.{findOf, rowOf, inUse}
+use Rattle.reservations.specs.Find.{inUse}
 use Rattle.reservations.specs.Operations.{splitReasonsAt, splitReasons, splitAt, splitOf}
 use Rattle.reservations.proofs.Finding.{found-used}
 use Rattle.reservations.proofs.Answers.{tabled-refused, tabled-granted, split-clear}
