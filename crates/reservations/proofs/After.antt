@@ -5,20 +5,24 @@ use native.Mathlib.Omega.{arith}
 use mathlib.Core.Bool.{true, false, not, _&&_, true≢false}
 use mathlib.Core.List.{List, [], _∷_, _++_}
 use mathlib.Core.Path.{_≡_, refl, sym, ap, _∙_}
-use borrow.Author.Tests.{eq-eqb}
-use lib.ListN.{length, getD, take, drop}
+use borrow.Author.Tests.{eq-eqb, eqb-true}
+use lib.Dec.{eqb}
+use lib.ListN.{length, getD, take, drop, set}
+use lib.Seq.{set-getD}
+use Rattle.pages.specs.Lists.{pick}
 use Rattle.pages.specs.Refusals.{first}
-use Rattle.pages.proofs.Choice.{and-right, pick-yes}
+use Rattle.pages.proofs.Choice.{and-right, pick-yes, pick-twice}
 use Rattle.reservations.specs.declared.Reservation.{Reservation}
 use Rattle.reservations.specs.declared.Table.{Table}
 use Rattle.reservations.specs.declared.Found.{Found}
 use Rattle.reservations.specs.declared.Found.the-variants.{At, Nowhere}
-use Rattle.reservations.specs.Rows.{isOpen, held, live, blank, spread, gather}
+use Rattle.reservations.specs.Rows.{isOpen, held, live, blank, reservation, table, spread, gather}
 use Rattle.reservations.specs.Find.{findOf, begins, missing, nextOf, rowOf, withRow}
 use Rattle.reservations.specs.Tiling.{tableSound}
 use Rattle.reservations.specs.Operations.{takeReasons, takenRow, takeOf, giveReasons, givenRow, giveOf}
 use Rattle.reservations.specs.Operations.{lowerPart, upperPart, splitReasons, splitAt, splitOf}
 use Rattle.reservations.specs.Operations.{alike, joined, mergeable, mergeReasons, mergeAt, mergeOf}
+use Rattle.reservations.proofs.Moving.{live-at}
 use Rattle.reservations.proofs.Finding.{found-at, next-at, next-below}
 use Rattle.reservations.proofs.Answers.{Splits, open-clear, split-clear, merge-clear, merge-found, merge-next}
 use Rattle.reservations.proofs.Sound.{sound}
@@ -127,3 +131,20 @@ module _ (cells : ℕ) (t : Table) (ok : tableSound cells t ≡ true) (party bas
   merge-after z =
       let (i, o, r) = merge-at-after f refl (merge-found t f party z) (merge-clear t f party z) in
       (i, o, moved (pick-yes _ _ t (eq-eqb _ 0 z)) r)
+
+-- 04: "giving to oneself changes nothing".
+given-own : (t : Table) (party base : ℕ) (g : Found) → findOf t party base ≡ g → withRow t g (givenRow (rowOf t g) party) ≡ t
+unfolding withRow rowOf
+given-own t party base (At i) e =
+    let r = getD (t .rows) i blank in
+    let here = found-at (begins party base) (live t) i blank (unfold findOf in e) in
+    let own : held r party ≡ true = sym (ap (λ x. held x party) (live-at t i blank (here .0))) ∙ and-right (eqb (getD (live t) i blank .base) base) (held (getD (live t) i blank) party) (here .1) in
+    ap (λ h. table (set (t .rows) i (reservation (r .base) (r .length) (r .state) h)) (t .count)) (sym (eqb-true (r .holder) party own))
+    ∙ ap (λ l. table l (t .count)) (set-getD (t .rows) i blank)
+given-own t party base Nowhere e = refl
+
+pub give-own : (t : Table) (party base : ℕ) → giveOf t party base party .table ≡ t
+unfolding giveOf
+give-own t party base =
+    ap (λ x. pick (eqb (first (giveReasons t party base)) 0) x t) (given-own t party base (findOf t party base) refl)
+    ∙ pick-twice (eqb (first (giveReasons t party base)) 0) t
