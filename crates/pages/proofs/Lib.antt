@@ -14,3 +14,4 @@ pub mod View
 pub mod Shows
 pub mod Sweeps
 pub mod Capabilities
+pub mod AllFreed

@@ -1,10 +1,10 @@
 -- A refused operation answers its number and the table as it was; a granted one answers 0 and the new table. Assumes nothing.
-use Prim.Native.Nat.{ℕ, _+_, _<_, _≤_}
+use Prim.Native.Nat.{ℕ, _≤_}
 use native.Mathlib.Omega.{arith}
 use lib.ListN.{length}
-use mathlib.Core.Bool.{Bool, true, false, not, _&&_, _||_, true≢false, false≢true}
+use mathlib.Core.Bool.{Bool, true, false, not}
 use mathlib.Core.List.{List, [], _∷_}
-use mathlib.Core.Path.{_≡_, refl, sym, ap, _∙_}
+use mathlib.Core.Path.{_≡_, sym, ap, _∙_}
 use borrow.Author.Tests.{eq-eqb, ne-eqb, leb-false, not-true, not-false}
 use lib.Dec.{eqb, leb}
 use Rattle.pages.specs.Lists.{pick}
@@ -16,7 +16,6 @@ use Rattle.reservations.specs.declared.Tabled.{Tabled}
 use Rattle.reservations.specs.declared.Taken.{Taken}
 use Rattle.reservations.specs.declared.Reservation.{Reservation}
 use Rattle.reservations.specs.declared.Found.{Found}
-use Rattle.reservations.specs.declared.Found.the-variants.{At}
 use Rattle.reservations.proofs.Truth.{or-right}
 use Rattle.reservations.specs.Rows.{isOpen}
 use Rattle.reservations.specs.Find.{missing, nextOf, rowOf}
@@ -79,19 +78,30 @@ open-clear f r e =
     let after6 = first-clear 6 _ _ (λ z. omega arith) e in
     (after6 .0, not-false _ (first-clear 7 _ _ (λ z. omega arith) (after6 .1) .0))
 
-pub split-clear : (t : Table) (f : Found) (len : ℕ) → first (splitReasonsAt t f len) ≡ 0 → (badSplit (rowOf t f) len ≡ false) × (full t ≡ false)
+-- What a granted split has found.
+pub record Splits (t : Table) (f : Found) (len : ℕ) : Type 0 where
+  pub found : missing f ≡ false
+  pub isopen : isOpen (rowOf t f .state) ≡ true
+  pub fits : badSplit (rowOf t f) len ≡ false
+  pub room : full t ≡ false
+
+pub split-clear : (t : Table) (f : Found) (len : ℕ) → first (splitReasonsAt t f len) ≡ 0 → Splits t f len
 unfolding splitReasonsAt
 split-clear t f len e =
-    let after6 = first-clear 6 _ _ (λ z. omega arith) e .1 in
-    let after7 = first-clear 7 _ _ (λ z. omega arith) after6 .1 in
-    let after8 = first-clear 8 _ _ (λ z. omega arith) after7 in
-    (after8 .0, first-clear 9 _ _ (λ z. omega arith) (after8 .1) .0)
+    let after6 = first-clear 6 _ _ (λ z. omega arith) e in
+    let after7 = first-clear 7 _ _ (λ z. omega arith) (after6 .1) in
+    let after8 = first-clear 8 _ _ (λ z. omega arith) (after7 .1) in
+    record { found = after6 .0; isopen = not-false _ (after7 .0); fits = after8 .0; room = first-clear 9 _ _ (λ z. omega arith) (after8 .1) .0 }
 
 pub merge-clear : (t : Table) (f : Found) (party : ℕ) → first (mergeReasonsAt t f party) ≡ 0 → mergeable t f party ≡ true
 unfolding mergeReasonsAt
 merge-clear t f party e =
     let after6 = first-clear 6 _ _ (λ z. omega arith) e .1 in
     not-false _ (first-clear 7 _ _ (λ z. omega arith) after6 .0)
+
+pub merge-found : (t : Table) (f : Found) (party : ℕ) → first (mergeReasonsAt t f party) ≡ 0 → missing f ≡ false
+unfolding mergeReasonsAt
+merge-found t f party e = first-clear 6 _ _ (λ z. omega arith) e .0
 
 pub merge-next : (t : Table) (f : Found) (party : ℕ) → mergeable t f party ≡ true → missing (nextOf t f) ≡ false
 unfolding mergeable

@@ -1,10 +1,11 @@
 -- A search as its loop goes, and what it found. Assumes nothing.
-use Prim.Native.Nat.{ℕ, zero, suc, _+_, _<_, _≤_}
+use Prim.Native.Nat.{ℕ, suc, _+_, _<_, _≤_}
+use native.Mathlib.Nat.{add-zero}
 use native.Mathlib.Numerals.{add-one}
 use native.Mathlib.Omega.{arith}
 use mathlib.Core.Bool.{Bool, true, false, true≢false}
 use lib.Dec.{ltb}
-use mathlib.Core.List.{List, [], _∷_}
+use mathlib.Core.List.{List, [], _∷_, _++_}
 use mathlib.Core.Path.{_≡_, refl, sym, ap, subst, _∙_}
 use lib.ListN.{length, getD, drop, drop-of-length-le}
 use lib.Seq.{drop-cons}
@@ -54,6 +55,19 @@ module _ (P : Reservation → Bool) (l : List Reservation) where
       let (j, s, h, p) = seek-at P 0 l i d e in
       let k : j ≡ i = omega arith in
       (omega arith, subst (λ (n : ℕ). P (getD l n d) ≡ true) k p)
+
+-- Above what was found, and at it, rows may change: one that passes the test is found at the same place.
+pub seek-same : (P : Reservation → Bool) (k : ℕ) (pre : List Reservation) (x y : Reservation) (xs ys : List Reservation) → P y ≡ true → seek P k (pre ++ x ∷ xs) ≡ At (k + length pre) → seek P k (pre ++ y ∷ ys) ≡ At (k + length pre)
+unfolding seek
+seek-same P k [] x y xs ys p e = pick-yes (P y) (At k) (seek P (suc k) ys) p ∙ ap At (sym (add-zero k))
+seek-same P k (z ∷ pre) x y xs ys p e = go (P z) refl (seek-same P (suc k) pre x y xs ys p)
+  where
+    here : At (k + suc (length pre)) ≡ At (suc k + length pre)
+    here = ap At (omega arith)
+
+    go : (b : Bool) → P z ≡ b → (seek P (suc k) (pre ++ x ∷ xs) ≡ At (suc k + length pre) → seek P (suc k) (pre ++ y ∷ ys) ≡ At (suc k + length pre)) → pick (P z) (At k) (seek P (suc k) (pre ++ y ∷ ys)) ≡ At (k + suc (length pre))
+    go true t f = let z : k ≡ k + suc (length pre) = at-same (sym (pick-yes (P z) (At k) (seek P (suc k) (pre ++ x ∷ xs)) t) ∙ e) in absurd (omega arith)
+    go false t f = pick-no (P z) (At k) (seek P (suc k) (pre ++ y ∷ ys)) t ∙ f (sym (pick-no (P z) (At k) (seek P (suc k) (pre ++ x ∷ xs)) t) ∙ e ∙ here) ∙ sym here
 
 -- There is a next one only where the rows in use go on.
 pub next-below : (t : Table) (i : ℕ) → missing (nextOf t (At i)) ≡ false → i + 1 < length (live t)

@@ -1,35 +1,35 @@
 -- Every operation on the table keeps it well formed. Assumes nothing.
-use Prim.Native.Nat.{ℕ, zero, suc, _+_, _-_, _%_, _<_, _≤_}
-use native.Mathlib.Numerals.{add-one, add-two}
+use Prim.Native.Nat.{ℕ, suc, _+_, _-_, _%_, _<_, _≤_}
+use native.Mathlib.Numerals.{add-one}
 use native.Mathlib.Omega.{arith}
-use mathlib.Core.Bool.{Bool, true, false, not, _&&_, _||_, true≢false, false≢true}
-use mathlib.Core.List.{List, [], _∷_, _++_}
+use mathlib.Core.Bool.{Bool, true, false, not, _&&_, _||_}
+use mathlib.Core.List.{List, _∷_, _++_}
 use mathlib.Core.Path.{_≡_, refl, sym, ap, subst, _∙_}
-use borrow.Author.Tests.{eqb-true, lt-ltb, le-leb, ltb-true, leb-false, eqb-false, not-false}
+use borrow.Author.Tests.{eqb-true, lt-ltb, le-leb, leb-false, eqb-false}
 use lib.Dec.{eqb, leb, ltb}
 use lib.ListN.{length, getD, take, drop, set, length-append, length-take, length-drop, length-set}
-use lib.Seq.{split-at, drop-cons, set-split, getD-take}
+use lib.Seq.{split-at, drop-cons, set-split}
 use Rattle.pages.specs.Lists.{pick}
-use Rattle.pages.proofs.Choice.{and-left, and-right, pick-yes, pick-no}
+use Rattle.pages.proofs.Choice.{and-right, pick-yes, pick-no}
 use Rattle.reservations.specs.declared.Reservation.{Reservation}
 use Rattle.reservations.specs.declared.ReservationState.{ReservationState}
 use Rattle.reservations.specs.declared.ReservationState.the-variants.{Open, Taken, Revoking}
 use Rattle.reservations.specs.declared.Table.{Table}
 use Rattle.reservations.specs.declared.Found.{Found}
 use Rattle.reservations.specs.declared.Found.the-variants.{At, Nowhere}
-use Rattle.reservations.specs.Rows.{isOpen, isTaken, isRevoking, isBlank, live, table, blank, reservation, splice, spread, gather}
-use Rattle.reservations.specs.Find.{withRow, rowOf, findOf, begins, nextOf, missing}
+use Rattle.reservations.specs.Rows.{isOpen, isRevoking, isBlank, live, table, blank, reservation, splice, spread, gather}
+use Rattle.reservations.specs.Find.{withRow, rowOf, findOf, begins, nextOf}
 use Rattle.reservations.specs.Tiling.{rowSound, tiles, allBlank, revokings, weight, tableSound}
 use Rattle.reservations.specs.Operations.{openReasons, takeReasons, takenRow, takeOf, giveReasons, givenRow, giveOf}
-use Rattle.reservations.specs.Operations.{badSplit, full, lowerPart, upperPart, splitReasonsAt, splitReasons, splitAt, splitOf}
+use Rattle.reservations.specs.Operations.{badSplit, lowerPart, upperPart, splitReasonsAt, splitReasons, splitAt, splitOf}
 use Rattle.reservations.specs.Operations.{joined, mergeable, mergeReasonsAt, mergeReasons, mergeAt, mergeOf}
 use Rattle.pages.specs.Refusals.{first}
 use Rattle.reservations.proofs.Truth.{both, or-left, or-right, or-first}
-use Rattle.reservations.proofs.Moving.{live-length, live-at}
+use Rattle.reservations.proofs.Moving.{live-at}
 use Rattle.reservations.proofs.Finding.{found-at, next-below, next-at}
-use Rattle.reservations.proofs.Answers.{open-clear, split-clear, merge-clear, merge-next}
+use Rattle.reservations.proofs.Answers.{Splits, open-clear, split-clear, merge-clear, merge-next}
 use Rattle.reservations.proofs.Walking.{blank-more}
-use Rattle.reservations.proofs.Tiled.{Begins, tiles-begin, tiles-made, tiles-swap, revokings-append, revokings-first, row-some, row-holder, row-resized, row-open, tiled-row}
+use Rattle.reservations.proofs.Tiled.{tiles-begin, tiles-made, tiles-swap, revokings-append, revokings-first, row-some, row-holder, row-resized, row-open, tiled-row}
 use Rattle.reservations.proofs.Sound.{Sound, sound, made-sound, with-made}
 
 -- The rows in use, cut at one of them and at two.
@@ -128,7 +128,7 @@ row-live t i h = sym (live-at t i blank h)
 taken-sound : (r : Reservation) → rowSound r ≡ true → rowSound (takenRow r) ≡ true
 taken-sound r e = both (ltb 0 (r .length) && true) true (both (ltb 0 (r .length)) true (lt-ltb 0 (r .length) (row-some r e)) refl) refl
 
-open-still : (s : ReservationState) → isOpen s ≡ true → isRevoking s ≡ false
+pub open-still : (s : ReservationState) → isOpen s ≡ true → isRevoking s ≡ false
 open-still Open e = refl
 open-still Taken e = refl
 open-still Revoking e = sym e
@@ -160,17 +160,17 @@ module _ (cells : ℕ) (t : Table) (ok : tableSound cells t ≡ true) where
       (omega (arith, s .single))
   with-kept party base Nowhere n e b k w row = unfold withRow in ok
 
-  split-at-kept : cells < 65536 → (party base len : ℕ) (f : Found) → findOf t party base ≡ f → (badSplit (rowOf t f) len ≡ false) × (full t ≡ false) → tableSound cells (splitAt t f len) ≡ true
+  split-at-kept : cells < 65536 → (party base len : ℕ) (f : Found) → findOf t party base ≡ f → Splits t f len → tableSound cells (splitAt t f len) ≡ true
   unfolding splitAt
   split-at-kept fits party base len (At i) e k =
       let s = sound cells t ok in
       let h = found-at (begins party base) (live t) i blank (unfold findOf in e) .0 in
       let r = getD (live t) i blank in
-      let fit : badSplit r len ≡ false = sym (ap (λ x. badSplit x len) (row-live t i h)) ∙ k .0 in
+      let fit : badSplit r len ≡ false = sym (ap (λ x. badSplit x len) (row-live t i h)) ∙ k .fits in
       let some = eqb-false len 0 (or-left (eqb len 0) (leb (r .length) len) fit) in
       let below = leb-false (r .length) len (or-right (eqb len 0) (leb (r .length) len) fit) in
       ap (λ x. tableSound cells (spread t i (lowerPart x len) (upperPart x len))) (row-live t i h)
-      ∙ spread-kept cells t s i (lowerPart r len) (upperPart r len) h (leb-false 64 (t .count) (k .1)) (split-tiles cells fits r len (omega (arith, some)) below) (omega arith)
+      ∙ spread-kept cells t s i (lowerPart r len) (upperPart r len) h (leb-false 64 (t .count) (k .room)) (split-tiles cells fits r len (omega (arith, some)) below) (omega arith)
   split-at-kept fits party base len Nowhere e k = ok
 
   merge-at-kept : cells < 65536 → (party : ℕ) (f : Found) → mergeable t f party ≡ true → tableSound cells (mergeAt t f) ≡ true

@@ -6,3 +6,12 @@ pub mod Walking
 pub mod Tiled
 pub mod Sound
 pub mod Kept
+pub mod Cells
+pub mod Inverse
+pub mod Dying
+pub mod CoreKept
+pub mod Revocations
+pub mod Starts
+pub mod Refused
+pub mod After
+pub mod CoreAfter

@@ -1,18 +1,16 @@
 -- Laws of `tiles`: a front part may be exchanged for another that ends at the same cell. Assumes nothing.
-use Prim.Native.Nat.{ℕ, zero, suc, _+_, _-_, _*_, _%_, _<_, _≤_}
-use native.Mathlib.Nat.{add-assoc}
+use Prim.Native.Nat.{ℕ, zero, suc, _+_, _<_, _≤_}
 use native.Mathlib.Omega.{arith}
-use mathlib.Core.Bool.{Bool, true, false, _&&_, _||_}
+use mathlib.Core.Bool.{true, _&&_, _||_}
 use mathlib.Core.List.{List, [], _∷_, _++_}
-use mathlib.Core.Path.{_≡_, refl, sym, ap, subst, _∙_}
-use borrow.Author.Tests.{eqb-true, eq-eqb, ltb-true, lt-ltb, leb-true, le-leb}
+use mathlib.Core.Path.{_≡_, refl}
+use borrow.Author.Tests.{eqb-true, eq-eqb, ltb-true, lt-ltb}
 use lib.Dec.{eqb, ltb, leb}
 use lib.ListN.{length, getD}
-use Rattle.pages.specs.Lists.{pick}
 use Rattle.pages.proofs.Choice.{and-left, and-right}
 use Rattle.reservations.specs.declared.Reservation.{Reservation}
 use Rattle.reservations.specs.declared.ReservationState.the-variants.{Open}
-use Rattle.reservations.specs.Rows.{isOpen, isRevoking, blank, reservation}
+use Rattle.reservations.specs.Rows.{isOpen, blank, reservation}
 use Rattle.reservations.specs.Tiling.{rowSound, follows, tiles, revokings, weight}
 use Rattle.reservations.proofs.Truth.{both}
 
@@ -23,6 +21,10 @@ pub record Begins (from upto : ℕ) (r : Reservation) (l : List Reservation) : T
   pub row : rowSound r ≡ true
   pub rest : tiles (from + r .length) upto l ≡ true
   pub fits : from + r .length ≤ upto
+
+pub tiles-none : (from upto : ℕ) → tiles from upto [] ≡ true → from ≡ upto
+unfolding tiles
+tiles-none from upto e = eqb-true from upto e
 
 pub tiles-le : (from upto : ℕ) (l : List Reservation) → tiles from upto l ≡ true → from ≤ upto
 unfolding tiles
@@ -78,3 +80,19 @@ pub tiled-row : (upto : ℕ) (l : List Reservation) (from i : ℕ) → tiles fro
 tiled-row upto [] from i e h = absurd (omega arith)
 tiled-row upto (r ∷ l) from zero e h = tiles-begin from upto r l e .row
 tiled-row upto (r ∷ l) from (suc i) e h = tiled-row upto l (from + r .length) i (tiles-begin from upto r l e .rest) (omega arith)
+
+-- The next reservation begins where this one ends.
+pub tiled-next : (upto : ℕ) (l : List Reservation) (from i : ℕ) → tiles from upto l ≡ true → suc i < length l → getD l (suc i) blank .base ≡ getD l i blank .base + getD l i blank .length
+tiled-next upto [] from i e h = absurd (omega arith)
+tiled-next upto (r ∷ []) from i e h = absurd (omega arith)
+tiled-next upto (r ∷ (s ∷ l)) from zero e h =
+    let g = tiles-begin from upto r (s ∷ l) e in
+    let k = tiles-begin (from + r .length) upto s l (g .rest) in
+    omega (arith, g, k)
+tiled-next upto (r ∷ (s ∷ l)) from (suc i) e h = tiled-next upto (s ∷ l) (from + r .length) i (tiles-begin from upto r (s ∷ l) e .rest) (omega arith)
+
+-- No reservation of a tiling runs past its end.
+pub tiled-fits : (upto : ℕ) (l : List Reservation) (from i : ℕ) → tiles from upto l ≡ true → i < length l → getD l i blank .base + getD l i blank .length ≤ upto
+tiled-fits upto [] from i e h = absurd (omega arith)
+tiled-fits upto (r ∷ l) from zero e h = let g = tiles-begin from upto r l e in omega (arith, g)
+tiled-fits upto (r ∷ l) from (suc i) e h = tiled-fits upto l (from + r .length) i (tiles-begin from upto r l e .rest) (omega arith)

@@ -1,12 +1,11 @@
 -- Commands 05 to 07, which need the table and the page layer, with refusals 6, 7, 10, 11 and 13. Assumes nothing.
-use Prim.Native.Nat.{ℕ, _+_, _-_, _*_, _%_}
-use mathlib.Core.Bool.{Bool, true, false, not, _&&_, _||_}
+use Prim.Native.Nat.{ℕ, _*_, _%_}
+use mathlib.Core.Bool.{Bool, not, _&&_, _||_}
 use mathlib.Core.List.{List, [], _∷_}
 use lib.ListN.{length}
 use lib.Dec.{leb, eqb}
 use Rattle.pages.specs.declared.Pages.{Pages}
 use Rattle.pages.specs.declared.Range.{Range}
-use Rattle.pages.specs.declared.Swept.{Swept}
 use Rattle.pages.specs.Capability.{baseOf}
 use Rattle.pages.specs.Freed.{allFreed}
 use Rattle.pages.specs.Layer.{wellFormed, inRange, freshOf, serves}

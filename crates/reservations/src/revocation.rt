@@ -15,7 +15,6 @@ use pages::layer::in_range;
 use pages::ranges::inside;
 use pages::refusal::first;
 ghost use mathlib.Core.Path.{_≡_};
-ghost use lib.ListN.{length};
 ghost use Rattle.pages.specs.Refusals.{first};
 ghost use Rattle.reservations.specs.Rows.{rangeOf};
 ghost use Rattle.reservations.specs.Revocation.{freshCore, running, revoked, dying, wholePages, revokingRow, revokeReasonsAt, revokeAt, revokeOf};

@@ -6,7 +6,6 @@ use crate::row::is_blank;
 use crate::row::is_revoking;
 use crate::row::row_sound;
 ghost use mathlib.Core.Path.{_≡_};
-ghost use Prim.Native.Nat.{_≤_};
 ghost use lib.ListN.{drop};
 ghost use Rattle.reservations.specs.Rows.{live};
 ghost use Rattle.reservations.specs.Tiling.{follows, tiles, allBlank, revokings, tableSound, freshTable};

@@ -1,4 +1,3 @@
-use mathlib.Core.Path.{_≡_, refl, sym, ap, _∙_}
 use Rattle.reservations.specs.Revocation.{collectOf}
 use Rattle.reservations.proofs.Answers.{cored-refused, cored-granted}
 use borrow.Author.Needs.{needs}

@@ -1,5 +1,5 @@
-use mathlib.Core.Path.{_≡_, refl, sym, ap, _∙_}
-use mathlib.Core.Bool.{true, false, not, _&&_, _||_}
+use mathlib.Core.Path.{ap}
+use mathlib.Core.Bool.{not, _||_}
 use Rattle.reservations.specs.Revocation.{collectReasons}
 use Rattle.reservations.proofs.Answers.{judged-last}
 use lib.Dec.{leb}

@@ -1,7 +1,6 @@
-use mathlib.Core.Path.{_≡_, refl, sym, ap, _∙_}
+use mathlib.Core.Path.{ap, _∙_}
 use Rattle.reservations.specs.Revocation.{core, collected, collectedRow, revoked}
 use Rattle.reservations.specs.Find.{rowOf, withRow, revokingOf}
-use Rattle.reservations.specs.Rows.{rangeOf}
 use Rattle.pages.specs.Mapping.{releasedOf}
 use borrow.Author.Needs.{needs}
 use Rattle.reservations.proofs.Core.collected.Statement.{statement}

@@ -1,5 +1,5 @@
-use mathlib.Core.Path.{_≡_, refl, sym, ap, _∙_}
-use mathlib.Core.Bool.{true, false, not, _&&_, _||_}
+use mathlib.Core.Path.{ap, _∙_}
+use mathlib.Core.Bool.{_&&_}
 use Rattle.reservations.specs.Revocation.{dying, running, revoked}
 use Rattle.pages.specs.Range.{inside}
 use borrow.Author.Needs.{needs}

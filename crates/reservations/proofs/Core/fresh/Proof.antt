@@ -1,12 +1,11 @@
-use mathlib.Core.Path.{_≡_, refl, sym, ap, _∙_}
+use mathlib.Core.Path.{_≡_, sym, ap, _∙_}
 use native.Mathlib.Omega.{arith}
-use mathlib.Core.Bool.{true, false, not, _&&_, _||_}
+use mathlib.Core.Bool.{true, false, _&&_}
 use lib.Dec.{leb, ltb}
 use borrow.Author.Tests.{leb-true}
 use Prim.Native.Nat.{_*_, _≤_}
 use Rattle.pages.proofs.Choice.{and-left, and-right, pick-yes, pick-no}
 use Rattle.pages.specs.Layer.{inRange, freshOf}
-use Rattle.pages.specs.Lists.{pick}
 use Rattle.reservations.specs.Tiling.{freshTable}
 use Rattle.reservations.specs.Revocation.{core, freshCore}
 use borrow.Author.Needs.{needs}

@@ -1,6 +1,5 @@
-use mathlib.Core.Path.{_≡_, refl, sym, ap, _∙_}
-use mathlib.Core.Bool.{true, false, not, _&&_, _||_}
-use lib.Dec.{eqb}
+use mathlib.Core.Path.{sym, ap, _∙_}
+use mathlib.Core.Bool.{_&&_}
 use Rattle.reservations.specs.Revocation.{revocationSound, running, revoked, wholePages}
 use Rattle.reservations.specs.Find.{rowOf, revokingOf}
 use Rattle.pages.specs.Freed.{allFreed}

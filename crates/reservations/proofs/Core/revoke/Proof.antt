@@ -1,4 +1,4 @@
-use mathlib.Core.Path.{_≡_, refl, sym, ap, _∙_}
+use mathlib.Core.Path.{ap, _∙_}
 use Rattle.pages.specs.Refusals.{first}
 use Rattle.reservations.specs.Revocation.{revokeReasonsAt, revokeReasons, revokeAt, revokeOf}
 use Rattle.reservations.proofs.Answers.{cored-refused, cored-granted}

@@ -1,4 +1,4 @@
-use mathlib.Core.Path.{_≡_, refl, sym, ap, _∙_}
+use mathlib.Core.Path.{ap, _∙_}
 use Rattle.reservations.specs.Revocation.{core, revokeAt, revokingRow}
 use Rattle.reservations.specs.Find.{rowOf, withRow}
 use Rattle.reservations.specs.Rows.{rangeOf}

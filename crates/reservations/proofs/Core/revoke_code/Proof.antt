@@ -1,7 +1,6 @@
-use mathlib.Core.Path.{_≡_, refl, sym, ap, _∙_}
-use mathlib.Core.Bool.{true, false, not, _&&_, _||_}
+use mathlib.Core.Path.{ap, _∙_}
+use mathlib.Core.Bool.{not}
 use Rattle.reservations.specs.Revocation.{revokeReasonsAt, wholePages}
-use Rattle.reservations.specs.Find.{rowOf}
 use Rattle.reservations.specs.Rows.{rangeOf, isRevoking}
 use Rattle.pages.specs.Mapping.{anyMapped}
 use Rattle.reservations.proofs.Answers.{judged, judged-last}

@@ -1,9 +1,5 @@
-use mathlib.Core.Path.{_≡_, refl, sym, ap, _∙_}
-use Rattle.pages.specs.Refusals.{first}
-use lib.ListN.{length}
-use Prim.Native.Nat.{ℕ}
-use mathlib.Core.List.{List}
-use Rattle.reservations.specs.Revocation.{core, coreSwept, passing, sweptCore, sweepReasons, sweepCoreOf, revoked}
+use mathlib.Core.Path.{sym, ap, _∙_}
+use Rattle.reservations.specs.Revocation.{coreSwept, passing, sweptCore, sweepCoreOf, revoked}
 use Rattle.pages.specs.Sweep.{sweepOf}
 use Rattle.reservations.proofs.Answers.{refused, granted}
 use borrow.Author.Needs.{needs}

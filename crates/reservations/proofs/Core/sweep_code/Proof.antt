@@ -1,5 +1,5 @@
-use mathlib.Core.Path.{_≡_, refl, sym, ap, _∙_}
-use mathlib.Core.Bool.{true, false, not, _&&_, _||_}
+use mathlib.Core.Path.{ap}
+use mathlib.Core.Bool.{not}
 use Rattle.reservations.specs.Revocation.{sweepReasons}
 use Rattle.reservations.proofs.Answers.{judged, judged-last}
 use borrow.Author.Needs.{needs}

@@ -1,8 +1,8 @@
-use mathlib.Core.Path.{_≡_, refl, sym, ap, _∙_}
-use mathlib.Core.Bool.{true, false, not, _&&_, _||_}
+use mathlib.Core.Path.{ap, _∙_}
+use mathlib.Core.Bool.{_&&_}
 use lib.Dec.{leb}
 use Prim.Native.Nat.{_*_}
-use Rattle.reservations.specs.Revocation.{coreSound, revocationSound}
+use Rattle.reservations.specs.Revocation.{coreSound}
 use Rattle.reservations.specs.Tiling.{tableSound}
 use Rattle.pages.specs.Layer.{wellFormed}
 use borrow.Author.Needs.{needs}

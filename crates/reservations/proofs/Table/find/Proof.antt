@@ -3,9 +3,9 @@ use Prim.Native.Nat.{_<_, _-_}
 use native.Mathlib.Omega.{arith}
 use borrow.Author.Needs.{needs}
 use mathlib.Core.Path.{_≡_, refl, sym, _∙_, ap}
-use lib.ListN.{length, drop, getD}
+use lib.ListN.{length, drop}
 use Rattle.pages.proofs.Arrays.{length-under}
-use Rattle.reservations.specs.Rows.{live, blank}
+use Rattle.reservations.specs.Rows.{live}
 use Rattle.reservations.specs.Find.{seek, begins, findOf}
 use Rattle.reservations.proofs.Moving.{live-length, live-at}
 use Rattle.reservations.proofs.Finding.{seek-more, seek-here, seek-end}

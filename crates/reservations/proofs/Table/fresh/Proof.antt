@@ -1,4 +1,4 @@
-use mathlib.Core.Path.{_≡_, refl, sym, ap, _∙_}
+use mathlib.Core.Path.{sym}
 use borrow.Author.Tests.{eq-eqb, ne-eqb}
 use Rattle.pages.proofs.Choice.{pick-yes, pick-no}
 use Rattle.reservations.specs.Tiling.{freshTable}

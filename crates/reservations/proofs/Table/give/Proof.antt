@@ -1,8 +1,8 @@
 use Rattle.reservations.specs.Operations.{openReasons}
-use mathlib.Core.Path.{_≡_, refl, sym, ap, _∙_}
+use mathlib.Core.Path.{ap, _∙_}
 use Rattle.pages.specs.Refusals.{first}
 use Rattle.reservations.specs.Operations.{giveReasons, giveOf, givenRow}
-use Rattle.reservations.specs.Find.{withRow, findOf, rowOf}
+use Rattle.reservations.specs.Find.{withRow, rowOf}
 use Rattle.reservations.proofs.Answers.{tabled-refused, tabled-granted}
 use borrow.Author.Needs.{needs}
 use Rattle.reservations.proofs.Table.give.Statement.{statement}

@@ -1,6 +1,5 @@
-use mathlib.Core.Path.{_≡_, refl, sym, ap, _∙_}
+use mathlib.Core.Path.{sym, ap, _∙_}
 use Rattle.pages.specs.Refusals.{first}
-use Rattle.reservations.specs.Find.{findOf}
 use Rattle.reservations.specs.Operations.{mergeReasonsAt, mergeReasons, mergeAt, mergeOf}
 use Rattle.reservations.proofs.Answers.{tabled-refused, tabled-granted, merge-clear, merge-next}
 use borrow.Author.Needs.{needs}

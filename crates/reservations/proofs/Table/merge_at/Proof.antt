@@ -1,8 +1,6 @@
-use mathlib.Core.Path.{_≡_, refl, sym, ap, _∙_}
-use native.Mathlib.Omega.{arith}
-use Prim.Native.Nat.{_+_, _-_, _<_, _≤_}
+use mathlib.Core.Path.{sym, ap, _∙_}
 use Rattle.reservations.specs.declared.Found.the-variants.{At}
-use Rattle.reservations.specs.Rows.{live, gather}
+use Rattle.reservations.specs.Rows.{gather}
 use Rattle.reservations.specs.Find.{rowOf, nextOf, missing}
 use Rattle.reservations.specs.Operations.{mergeAt, joined}
 use Rattle.reservations.proofs.Finding.{next-below}

@@ -1,5 +1,5 @@
-use mathlib.Core.Path.{_≡_, refl, sym, ap, _∙_}
-use mathlib.Core.Bool.{not, _&&_, _||_}
+use mathlib.Core.Path.{ap, _∙_}
+use mathlib.Core.Bool.{not, _&&_}
 use Rattle.reservations.specs.Rows.{held}
 use Rattle.reservations.specs.Find.{missing, nextOf, rowOf}
 use Rattle.reservations.specs.Operations.{alike}

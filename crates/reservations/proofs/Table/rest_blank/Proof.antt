@@ -1,12 +1,11 @@
 -- What is left to test gives the answer of the whole. Assumes nothing.
-use mathlib.Core.Path.{_≡_, refl, sym, ap, _∙_}
+use mathlib.Core.Path.{_≡_, refl, sym, _∙_}
 use native.Mathlib.Omega.{arith}
-use Prim.Native.Nat.{_+_, _-_, _<_, _≤_}
+use Prim.Native.Nat.{_-_}
 use Rattle.pages.proofs.Arrays.{length-under}
-use mathlib.Core.Bool.{true, false, _&&_, not}
 use borrow.Author.Tests.{not-true, not-false}
-use lib.ListN.{length, drop, getD}
-use Rattle.reservations.specs.Rows.{isBlank, blank}
+use lib.ListN.{length, drop}
+use Rattle.reservations.specs.Rows.{blank}
 use Rattle.reservations.specs.Tiling.{allBlank}
 use Rattle.reservations.proofs.Walking.{blank-more, blank-end}
 use Rattle.reservations.proofs.Truth.{and-yes, and-no}

@@ -3,7 +3,7 @@ use Prim.Native.Nat.{_<_, _-_}
 use native.Mathlib.Omega.{arith}
 use borrow.Author.Needs.{needs}
 use mathlib.Core.Path.{_≡_, refl, sym, _∙_, ap}
-use lib.ListN.{length, drop, getD}
+use lib.ListN.{length, drop}
 use Rattle.pages.proofs.Arrays.{length-under}
 use Rattle.reservations.specs.Rows.{live, isRevoking}
 use Rattle.reservations.specs.Find.{seek, revokingOf}

@@ -1,11 +1,10 @@
 -- Those passed and those left are all. Assumes nothing.
-use mathlib.Core.Path.{_≡_, refl, sym, ap, _∙_}
+use mathlib.Core.Path.{_≡_, sym, ap, _∙_}
 use native.Mathlib.Omega.{arith}
 use Prim.Native.Nat.{ℕ, _+_, _-_, _<_, _≤_}
 use Rattle.pages.proofs.Arrays.{length-under}
 use mathlib.Core.Logic.{⊎-elim}
 use native.Mathlib.Nat.{zero-add}
-use mathlib.Core.Bool.{true, false}
 use lib.ListN.{length, drop, getD}
 use Rattle.pages.specs.Lists.{pick}
 use Rattle.pages.proofs.Choice.{pick-yes, pick-no}

@@ -1,6 +1,6 @@
-use mathlib.Core.Path.{_≡_, refl, sym, ap, _∙_}
+use mathlib.Core.Path.{sym, ap, _∙_}
 use Rattle.pages.specs.Refusals.{first}
-use Rattle.reservations.specs.Find.{findOf, rowOf, inUse}
+use Rattle.reservations.specs.Find.{inUse}
 use Rattle.reservations.specs.Operations.{splitReasonsAt, splitReasons, splitAt, splitOf}
 use Rattle.reservations.proofs.Finding.{found-used}
 use Rattle.reservations.proofs.Answers.{tabled-refused, tabled-granted, split-clear}
@@ -24,7 +24,8 @@ returns c =
 split-at-requires : tie.Need-split-at-requires
 split-at-requires c κs =
     let s = c .before .before .before .args in
-    (ap (inUse (s .self)) (c .before .before .find .ensures) ∙ found-used (s .self) (s .party) (s .base), split-clear (s .self) _ (s .len) (sym (c .before .split-code .ensures) ∙ c .if1 .left))
+    let k = split-clear (s .self) _ (s .len) (sym (c .before .split-code .ensures) ∙ c .if1 .left) in
+    (ap (inUse (s .self)) (c .before .before .find .ensures) ∙ found-used (s .self) (s .party) (s .base), (k .fits, k .room))
 
 returns-2 : tie.Need-returns-2
 unfolding splitOf splitReasons

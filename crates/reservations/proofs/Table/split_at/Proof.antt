@@ -1,6 +1,5 @@
-use mathlib.Core.Path.{_≡_, refl, sym, ap, _∙_}
+use mathlib.Core.Path.{sym, ap, _∙_}
 use native.Mathlib.Omega.{arith}
-use Prim.Native.Nat.{_+_, _-_, _<_, _≤_}
 use borrow.Author.Tests.{ltb-true, leb-false}
 use lib.ListN.{length}
 use Rattle.reservations.specs.declared.Found.the-variants.{At}

@@ -1,7 +1,6 @@
-use mathlib.Core.Path.{_≡_, refl, sym, ap, _∙_}
-use mathlib.Core.Bool.{not, _&&_, _||_}
+use mathlib.Core.Path.{refl, ap, _∙_}
+use mathlib.Core.Bool.{not}
 use Rattle.reservations.specs.Rows.{isOpen}
-use Rattle.reservations.specs.Find.{rowOf}
 use Rattle.reservations.specs.Operations.{badSplit}
 use Rattle.reservations.proofs.Answers.{judged, judged-last}
 use Rattle.reservations.specs.Operations.{splitReasonsAt}

@@ -1,7 +1,7 @@
 -- From the top down, the rows passed stand one higher. Assumes nothing.
 use native.Mathlib.Omega.{arith}
 use Prim.Native.Nat.{_+_, _-_, _<_, _≤_}
-use mathlib.Core.Path.{_≡_, sym, ap, _∙_}
+use mathlib.Core.Path.{_≡_, ap, _∙_}
 use lib.ListN.{length, getD, set}
 use Rattle.pages.proofs.Arrays.{length-under}
 use Rattle.reservations.specs.Rows.{table, blank}

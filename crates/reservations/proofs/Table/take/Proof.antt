@@ -1,9 +1,9 @@
 use Rattle.reservations.specs.Operations.{openReasons}
 use Rattle.reservations.proofs.Answers.{took-refused, took-granted}
-use mathlib.Core.Path.{_≡_, refl, sym, ap, _∙_}
+use mathlib.Core.Path.{ap, _∙_}
 use Rattle.pages.specs.Refusals.{first}
 use Rattle.reservations.specs.Operations.{takeReasons, takeOf, takenRow}
-use Rattle.reservations.specs.Find.{withRow, findOf, rowOf}
+use Rattle.reservations.specs.Find.{withRow, rowOf}
 use borrow.Author.Needs.{needs}
 use Rattle.reservations.proofs.Table.take.Statement.{statement}
 use Rattle.reservations.proofs.Table.take.Tie as tie

@@ -1,9 +1,9 @@
 -- What is left to tile gives the answer of the whole. Assumes nothing.
 use mathlib.Core.Path.{_≡_, refl, sym, ap, _∙_}
 use native.Mathlib.Omega.{arith}
-use Prim.Native.Nat.{_+_, _-_, _<_, _≤_}
+use Prim.Native.Nat.{_+_, _-_, _<_}
 use Rattle.pages.proofs.Arrays.{length-under}
-use mathlib.Core.Bool.{true, false, _&&_, not}
+use mathlib.Core.Bool.{true, false, _&&_}
 use borrow.Author.Tests.{eqb-true, not-true, not-false}
 use lib.ListN.{length, drop, getD}
 use lib.Dec.{eqb}

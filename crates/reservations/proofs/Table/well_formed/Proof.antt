@@ -1,4 +1,4 @@
-use mathlib.Core.Path.{_≡_, refl, sym, ap, _∙_}
+use mathlib.Core.Path.{_≡_}
 use Rattle.pages.proofs.Arrays.{length-under}
 use mathlib.Core.Bool.{true}
 use borrow.Author.Tests.{eq-eqb}
