@@ -22,7 +22,7 @@ use Rattle.machine.specs.Formed.{answered}
 use Rattle.machine.specs.declared.Slot.{Slot}
 use Rattle.machine.specs.Words.{empty, byteOf, collectedRegister, collectedMailbox}
 use Rattle.machine.specs.Effects.{effectOf, keepRegisters, putRegister, fetchInto, collectRegisters, keepMailboxes, putMailbox, collectMailboxes, keepMemory, writeWord, clearFrame, sweepCells, sweptTo}
-use Rattle.machine.specs.Step.{Outcome, left, fetched, done, registersAfter, mailboxesAfter, cellsAfter, tagsAfter, wordAfter, reasonsOn, effectOn, ruled, withCore, withRegister, withMailbox}
+use Rattle.machine.specs.Step.{Outcome, left, fetched, done, registersAfter, mailboxesAfter, cellsAfter, tagsAfter, wordAfter, reasonsOn, effectOn, ruled, judged, refused, withCore, withRegister, withMailbox}
 
 module _ (s : State) (c : Call) (k : ℕ) (e : k ≡ first (reasonsOn s c)) where
   pub ruled-down : (k ≡ 0 → ⊥) → (cells tags : List ℕ) → left (answered k empty s) cells tags ≡ ruled s c cells tags
@@ -114,3 +114,13 @@ pub done-collect :
     ≡ done s (effectOf c collectRegisters collectMailboxes keepMemory empty) cells tags
 unfolding done registersAfter mailboxesAfter cellsAfter tagsAfter wordAfter
 done-collect s c cells tags = refl
+
+-- With memory of the right size the rules 4 to 19 decide; with another it is refusal 2.
+module _ (s : State) (c : Call) (cells tags : List ℕ) (x : Outcome) where
+  pub judged-ruled : serves (s .core .pages) (length cells) (length tags) ≡ true → x ≡ ruled s c cells tags → x ≡ judged s c cells tags
+  unfolding judged
+  judged-ruled h e = rw h e
+
+  pub judged-size : serves (s .core .pages) (length cells) (length tags) ≡ false → x ≡ refused 2 s cells tags → x ≡ judged s c cells tags
+  unfolding judged
+  judged-size h e = rw h e

@@ -4,3 +4,4 @@ pub mod Formed
 pub mod Reasons
 pub mod Effects
 pub mod Step
+pub mod Command

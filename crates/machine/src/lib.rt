@@ -3,6 +3,7 @@ use reservations::Core;
 
 pub mod page_calls;
 pub mod revocation_calls;
+pub mod step;
 pub mod table_calls;
 pub mod word_calls;
 pub mod words;

@@ -1,0 +1,21 @@
+use borrow.Author.Needs.{needs}
+use lib.ListN.{length}
+use mathlib.Core.Bool.{and-true}
+use mathlib.Core.Path.{_≡_}
+use Rattle.pages.proofs.Arrays.{length-under}
+use Rattle.machine.specs.Formed.{wellFormed, mailboxesSound}
+use Rattle.machine.proofs.State.well_formed.Statement.{statement}
+use Rattle.machine.proofs.State.well_formed.Tie as tie
+
+well-formed-requires : tie.Need-well-formed-requires
+well-formed-requires c κs = search needs
+
+mailboxes-sound-requires : tie.Need-mailboxes-sound-requires
+mailboxes-sound-requires c κs = search needs
+
+returns : tie.Need-returns
+unfolding wellFormed mailboxesSound
+returns c = let g = c .before .before .before .before .good .0 in let l : length (c .before .before .before .before .args .self .registers) ≡ 64 = search (length-under, g) in let m : length (c .before .before .before .before .args .self .mailboxes) ≡ 8 = search (length-under, g) in rw (l, m, c .mailboxes-sound .ensures, c .before .well-formed .ensures) (rw and-true)
+
+pub well-formed-spec : {M : Type 1} → statement M
+well-formed-spec = tie.close (tie.spec well-formed-requires mailboxes-sound-requires returns)
