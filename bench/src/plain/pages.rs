@@ -129,8 +129,8 @@ impl Pages {
         let (v, f) = (usize::from(self.page_count), usize::from(self.frame_count));
         (1..=PAGES).contains(&v)
             && (1..=FRAMES).contains(&f)
-            && self.pages[v..].iter().all(|page| *page == Page::Unmapped)
-            && self.frames[f..].iter().all(|used| *used == FrameUse::Dirty)
+            && all(self.pages[v..].iter().map(|page| *page == Page::Unmapped))
+            && all(self.frames[f..].iter().map(|used| *used == FrameUse::Dirty))
             && self.each_mapped_frame_has_one_page()
     }
 
@@ -144,7 +144,8 @@ impl Pages {
                 }
             }
         }
-        self.frames.iter().zip(shown).all(|(used, seen)| (*used == FrameUse::Mapped) == seen)
+        let frames = self.frames.iter().zip(shown);
+        all(frames.map(|(used, seen)| (*used == FrameUse::Mapped) == seen))
     }
 
     fn named_page(&self, page: u8) -> Result<usize, Refusal> {
@@ -162,4 +163,9 @@ impl Pages {
             Err(Refusal::NoSuchPage)
         }
     }
+}
+
+/// Looks at every item, which is faster for many small ones than to stop at the first false one.
+fn all(items: impl Iterator<Item = bool>) -> bool {
+    items.fold(true, |so_far, item| so_far & item)
 }

@@ -75,13 +75,43 @@ pub fn write_line(answer: Answer, lines: &mut Vec<u8>) {
 fn write_decimal(mut number: u64, lines: &mut Vec<u8>) {
     let mut digits = [0; 20];
     let mut first = digits.len();
-    loop {
-        first -= 1;
-        digits[first] = b'0' + (number % 10) as u8;
-        number /= 10;
-        if number == 0 {
-            break;
-        }
+    while number >= 100 {
+        first -= 2;
+        digits[first..first + 2].copy_from_slice(&PAIRS[(number % 100) as usize]);
+        number /= 100;
     }
+    let pair = PAIRS[number as usize];
+    first -= 2;
+    digits[first..first + 2].copy_from_slice(&pair);
+    first += usize::from(number < 10);
     lines.extend_from_slice(&digits[first..]);
+}
+
+/// The two digits of each number below 100.
+const PAIRS: [[u8; 2]; 100] = {
+    let mut pairs = [[0; 2]; 100];
+    let mut number = 0;
+    while number < 100 {
+        pairs[number] = [b'0' + (number / 10) as u8, b'0' + (number % 10) as u8];
+        number += 1;
+    }
+    pairs
+};
+
+#[cfg(test)]
+mod tests {
+    use super::*;
+
+    #[test]
+    fn numbers_are_written_in_decimal() {
+        let powers = (0..20).map(|digits| 10u64.pow(digits));
+        for number in powers.flat_map(|power| [power - 1, power, power + 1, power * 18 / 10]) {
+            let mut line = Vec::new();
+            write_line(Answer { code: 19, number, tag: true }, &mut line);
+            assert_eq!(String::from_utf8(line).unwrap(), format!("19 {number} 1\n"));
+        }
+        let mut line = Vec::new();
+        write_line(Answer { code: 0, number: u64::MAX, tag: false }, &mut line);
+        assert_eq!(line, b"0 18446744073709551615 0\n");
+    }
 }
