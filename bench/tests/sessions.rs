@@ -2,13 +2,14 @@
 
 use cetomuhi_bench::hex::stored_sessions;
 use cetomuhi_bench::plain::{session, session_checked};
-use std::env;
 use std::path::Path;
+use std::{env, fs};
+
+const OWN: &str = concat!(env!("CARGO_MANIFEST_DIR"), "/../sessions");
 
 #[test]
 fn every_stored_session_prints_its_lines() {
-    let own = concat!(env!("CARGO_MANIFEST_DIR"), "/../sessions");
-    let folder = env::var("SESSIONS").unwrap_or(own.into());
+    let folder = env::var("SESSIONS").unwrap_or(OWN.into());
     let sessions = stored_sessions(Path::new(&folder)).expect("the folder can be read");
     assert!(!sessions.is_empty());
     for stored in sessions {
@@ -16,5 +17,17 @@ fn every_stored_session_prints_its_lines() {
         let mut checked = Vec::new();
         session_checked(&stored.input, &mut checked);
         assert!(checked == stored.lines, "{} differs when checked", stored.name);
+    }
+}
+
+/// A comment `# -> 0 16 0  words` holds the line that its command must print.
+#[test]
+fn the_lines_in_the_comments_are_the_stored_ones() {
+    for stored in stored_sessions(Path::new(OWN)).expect("the folder can be read") {
+        let text = fs::read_to_string(&stored.name).unwrap();
+        let comments = text.lines().filter_map(|line| line.split_once("# -> "));
+        let lines = comments.map(|(_, rest)| rest.splitn(4, ' ').take(3).collect::<Vec<_>>());
+        let lines: String = lines.map(|words| words.join(" ") + "\n").collect();
+        assert_eq!(lines.as_bytes(), stored.lines, "{}", stored.name);
     }
 }
