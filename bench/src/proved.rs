@@ -1,10 +1,8 @@
 //! The proved library through its C boundary, `include/cetomuhi.h`.
 //!
-//! `session` and `session_checked` are safe to call with every input: they lend the library two
-//! slices, which Rust keeps apart and alive, hand on no more of the input than a session looks at,
-//! and test the length that comes back.
-
-use crate::plain::INPUT_LIMIT;
+//! `session` and `session_checked` are safe to call with every input and every buffer, empty ones
+//! too: what the boundary asks of its pointers holds of slices, which Rust keeps alive and apart,
+//! and the length that comes back is tested before it is used.
 
 /// Whether the library is linked, by the feature `proved`.
 pub const LINKED: bool = cfg!(feature = "proved");
@@ -57,9 +55,25 @@ pub fn session_checked(input: &[u8], out: &mut [u8]) -> Option<usize> {
 type Boundary = unsafe extern "C" fn(*const u8, usize, *mut u8, usize) -> usize;
 
 fn lend(boundary: Boundary, input: &[u8], out: &mut [u8]) -> Option<usize> {
-    let input = &input[..input.len().min(INPUT_LIMIT)];
     // The pointers are those of two live slices that do not overlap, with their lengths.
     let written = unsafe { boundary(input.as_ptr(), input.len(), out.as_mut_ptr(), out.len()) };
     assert!(written <= out.len(), "the library wrote past its buffer");
     (written > 0).then_some(written)
+}
+
+#[cfg(all(test, feature = "proved"))]
+mod tests {
+    use super::*;
+
+    #[test]
+    fn a_short_start_prints_one_line_if_it_fits() {
+        for run in [session, session_checked] {
+            let mut out = [7; 8];
+            assert_eq!(run(&[], &mut out[..0]), None);
+            assert_eq!(run(&[], &mut out[..5]), None);
+            assert_eq!(out, [7; 8]);
+            assert_eq!(run(&[], &mut out), Some(6));
+            assert_eq!(&out, b"1 0 0\n\x07\x07");
+        }
+    }
 }

@@ -49,12 +49,53 @@ pub fn sweep(cells: Cells, count: u16) -> Vec<u8> {
 /// Calls whose work does not depend on V or F: the same ones at every size, all granted.
 pub fn small_calls(v: u16, f: u8) -> Vec<u8> {
     let mut session = Session::start(v, f);
-    session.call(0, Action::Zero { frame: 0 });
-    session.call(0, Action::Map { page: 0, frame: 0 });
-    session.call(0, Action::Split { base: 0, len: 8 });
-    session.call(0, Action::Take { base: 0, reg: 0 });
+    session.settle();
     while session.bytes.len() < INPUT_LIMIT - 128 {
         session.small_round();
+    }
+    session.bytes
+}
+
+/// Sessions of one or a few kinds of call over and over, all granted.
+pub fn kinds() -> Vec<(&'static str, Vec<u8>)> {
+    let zero = Action::Zero { frame: 1 };
+    let map = Action::Map { page: 1, frame: 1 };
+    let unmap = Action::Unmap { page: 1 };
+    let revoke = Action::Revoke { base: 16 };
+    let sweep = Action::Sweep { count: 0xFFFF };
+    let narrow = Action::Narrow { s: 0, off: 1, len: 4, mask: 15, d: 3 };
+    let split = |base| Action::Split { base, len: 1 };
+    let merge = |base| Action::Merge { base };
+    let rounds: [(&str, &[Action]); 11] = [
+        ("number", &[Action::Number { d: 4, value: 42 }]),
+        ("load of a number", &[Action::Load { a: 0, off: 0, d: 4 }]),
+        ("load of a capability", &[Action::Load { a: 0, off: 5, d: 4 }]),
+        ("store of a number", &[Action::Store { a: 0, off: 1, s: 1 }]),
+        ("store of a capability", &[Action::Store { a: 0, off: 2, s: 0 }]),
+        ("narrow", &[narrow]),
+        ("grant, receive", &[Action::Grant { s: 0, to: 0 }, Action::Receive { d: 5 }]),
+        ("split, merge", &[split(8), merge(8)]),
+        ("split, merge below 60 rows", &[split(16), merge(16)]),
+        ("give", &[Action::Give { base: 8, to: 0 }]),
+        (
+            "zero, map, unmap, revoke, sweep, collect",
+            &[zero, map, unmap, revoke, sweep, Action::Collect],
+        ),
+    ];
+    rounds.map(|(name, round)| (name, repeated(name, round))).into()
+}
+
+fn repeated(name: &str, round: &[Action]) -> Vec<u8> {
+    let mut session = Session::start(16, 16);
+    session.settle();
+    session.call(0, Action::Store { a: 0, off: 5, s: 0 });
+    session.call(0, Action::Split { base: 8, len: 8 });
+    session.call(0, Action::Split { base: 16, len: 16 });
+    if name.ends_with("60 rows") {
+        (32..91).for_each(|base| session.call(0, Action::Split { base, len: 1 }));
+    }
+    while session.bytes.len() < INPUT_LIMIT - 64 {
+        round.iter().for_each(|action| session.call(0, *action));
     }
     session.bytes
 }
@@ -70,6 +111,14 @@ impl Session {
 
     fn call(&mut self, party: u8, action: Action) {
         Call { party, action }.write(&mut self.bytes);
+    }
+
+    /// Page 0 is Mapped, and party 0 takes its lower half into register 0.
+    fn settle(&mut self) {
+        self.call(0, Action::Zero { frame: 0 });
+        self.call(0, Action::Map { page: 0, frame: 0 });
+        self.call(0, Action::Split { base: 0, len: 8 });
+        self.call(0, Action::Take { base: 0, reg: 0 });
     }
 
     fn small_round(&mut self) {
@@ -106,6 +155,9 @@ mod tests {
         }
         for (v, f) in [(1, 1), (16, 128), (256, 16)] {
             assert!(all_granted(&small_calls(v, f)));
+        }
+        for (name, input) in kinds() {
+            assert!(all_granted(&input), "{name}");
         }
     }
 }

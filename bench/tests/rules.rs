@@ -1,7 +1,7 @@
 //! Document 01's session, its edges marked K, and the refusals that no session can show.
 
 use cetomuhi_bench::hex;
-use cetomuhi_bench::plain::state::Memory;
+use cetomuhi_bench::plain::state::{Memory, Revocation};
 use cetomuhi_bench::plain::{session, session_checked, Action, Call, State};
 
 /// The codes that a session of hexadecimal commands answers, the start's first.
@@ -165,4 +165,23 @@ fn odd_capabilities_of_a_well_formed_state_are_coped_with() {
     assert_eq!(code(Action::Narrow { s: 1, off: 1, len: 1, mask: 15, d: 0 }), 17);
     assert_eq!(code(Action::Narrow { s: 1, off: 0, len: 1, mask: 0x81, d: 2 }), 0);
     assert_eq!(state.registers[1][2], slot(0xFFFF | 1 << 16 | 0x81 << 32));
+}
+
+#[test]
+fn a_revocation_agrees_with_the_table() {
+    let (mut cells, mut tags) = ([0; 16], [0; 16]);
+    let mut memory = Memory { cells: &mut cells, tags: &mut tags };
+    let mut state = State::start(2, 1).unwrap();
+    let revoke = Call { party: 0, action: Action::Revoke { base: 0 } };
+    assert_eq!(state.call(&mut memory, revoke).code, 0);
+    assert!(state.is_well_formed());
+    let running = state.revocation.unwrap();
+    state.revocation = None;
+    assert!(!state.is_well_formed());
+    state.revocation = Some(Revocation { place: 17, ..running });
+    assert!(!state.is_well_formed());
+    state.revocation = Some(Revocation { place: 16, ..running });
+    assert!(state.is_well_formed());
+    state.pages.release(running.range);
+    assert!(!state.is_well_formed());
 }

@@ -20,6 +20,20 @@ fn every_stored_session_prints_its_lines() {
     }
 }
 
+#[cfg(feature = "proved")]
+#[test]
+fn the_proved_library_prints_the_stored_lines() {
+    use cetomuhi_bench::proved::{self, LINES_LIMIT};
+    let folder = env::var("SESSIONS").unwrap_or(OWN.into());
+    let mut out = vec![0; LINES_LIMIT];
+    for stored in stored_sessions(Path::new(&folder)).expect("the folder can be read") {
+        for run in [proved::session, proved::session_checked] {
+            let written = run(&stored.input, &mut out).expect("the buffer holds all lines");
+            assert!(out[..written] == stored.lines, "{} differs", stored.name);
+        }
+    }
+}
+
 /// A comment `# -> 0 16 0  words` holds the line that its command must print.
 #[test]
 fn the_lines_in_the_comments_are_the_stored_ones() {

@@ -6,7 +6,7 @@ use cetomuhi_bench::plain;
 use cetomuhi_bench::proved::{self, LINES_LIMIT};
 use cetomuhi_bench::tally::Tally;
 use cetomuhi_bench::timing::{fastest, ticks_a_second};
-use cetomuhi_bench::workloads::{mix, small_calls, sweep, Cells, SWEPT_CELLS};
+use cetomuhi_bench::workloads::{kinds, mix, small_calls, sweep, Cells, SWEPT_CELLS};
 use std::hint::black_box;
 use std::time::Duration;
 
@@ -15,6 +15,7 @@ fn main() {
         println!("Built without the feature `proved`: the plain implementation alone.\n");
     }
     print_mix();
+    print_kinds();
     print_sweeps();
     print_growth();
 }
@@ -42,8 +43,11 @@ type Proved = fn(&[u8], &mut [u8]) -> Option<usize>;
 const UNCHECKED: (Plain, Proved) = (plain::session_into, proved::session);
 const CHECKED: (Plain, Proved) = (plain::session_checked, proved::session_checked);
 
-/// Times each group of sessions; all groups and both machines take turns.
+/// Times each group of sessions; all groups and both machines take turns. Both must print the same.
 fn time(groups: &[&[Vec<u8>]], (plain, proved): (Plain, Proved), budget: u64) -> Vec<Both> {
+    if proved::LINKED {
+        groups.iter().copied().flatten().for_each(|input| agree(input, plain, proved));
+    }
     let run_plain = |group: &[Vec<u8>], lines: &mut Vec<u8>| {
         for input in group {
             lines.clear();
@@ -72,6 +76,13 @@ fn time(groups: &[&[Vec<u8>]], (plain, proved): (Plain, Proved), budget: u64) ->
     each.map(|pair| Both { plain: pair[0], proved: pair.get(1).copied() }).collect()
 }
 
+fn agree(input: &[u8], plain: Plain, proved: Proved) {
+    let (mut lines, mut buffer) = (Vec::new(), vec![0; LINES_LIMIT]);
+    plain(input, &mut lines);
+    let written = proved(input, &mut buffer).unwrap_or(0);
+    assert!(buffer[..written] == lines, "the two print different lines: run compare");
+}
+
 fn calls(group: &[Vec<u8>]) -> f64 {
     let mut tally = Tally::default();
     group.iter().for_each(|input| tally.add(input));
@@ -87,6 +98,19 @@ fn print_mix() {
     for (name, variant) in [("mix of calls", UNCHECKED), ("state tested at every call", CHECKED)] {
         let rate = time(&[&sessions], variant, 1_000)[0].map(|seconds| calls / seconds / 1e6);
         println!("| {name} |{}", rates(&rate));
+    }
+    println!();
+}
+
+fn print_kinds() {
+    println!("Nanoseconds a call, one or a few kinds over and over, V 16 and F 16:\n");
+    println!("| | plain | proved | proved / plain |");
+    println!("|---|---:|---:|---:|");
+    for (name, input) in kinds() {
+        let sessions = [input];
+        let calls = calls(&sessions);
+        let cost = time(&[&sessions], UNCHECKED, 200)[0].map(|seconds| seconds * 1e9 / calls);
+        println!("| {name} |{}", rates(&cost));
     }
     println!();
 }

@@ -10,32 +10,25 @@ fn main() -> ExitCode {
     if folders.is_empty() {
         folders.push(concat!(env!("CARGO_MANIFEST_DIR"), "/../sessions").into());
     }
-    let mut agreed = 0;
-    let mut differed = 0;
+    let (mut agreed, mut differed) = (0, 0);
     for folder in folders {
-        match stored_sessions(Path::new(&folder)) {
-            Ok(sessions) => {
-                for session in &sessions {
-                    match difference(session) {
-                        None => agreed += 1,
-                        Some(words) => {
-                            differed += 1;
-                            println!("{}: {words}", session.name);
-                        }
-                    }
-                }
-            }
+        let sessions = match stored_sessions(Path::new(&folder)) {
+            Ok(sessions) => sessions,
             Err(fault) => {
                 eprintln!("{folder}: {fault}");
                 return ExitCode::from(2);
             }
-        }
+        };
+        let faults: Vec<String> = sessions.iter().filter_map(difference).collect();
+        faults.iter().for_each(|fault| println!("{fault}"));
+        agreed += sessions.len() - faults.len();
+        differed += faults.len();
     }
     println!("{agreed} sessions agree, {differed} differ");
     ExitCode::from(u8::from(differed > 0))
 }
 
-/// The first line that differs, in words.
+/// The session's name and the first line that differs, in words.
 fn difference(session: &Stored) -> Option<String> {
     let printed = plain::session(&session.input);
     if printed == session.lines {
@@ -44,7 +37,8 @@ fn difference(session: &Stored) -> Option<String> {
     let (printed, stored) = (lines(&printed), lines(&session.lines));
     let same = printed.iter().zip(&stored).take_while(|(a, b)| a == b).count();
     let at = |lines: &[String]| lines.get(same).cloned().unwrap_or("nothing".into());
-    Some(format!("line {}: printed {}, stored {}", same + 1, at(&printed), at(&stored)))
+    let (name, printed, stored) = (&session.name, at(&printed), at(&stored));
+    Some(format!("{name}: line {}: printed {printed}, stored {stored}", same + 1))
 }
 
 fn lines(bytes: &[u8]) -> Vec<String> {

@@ -29,7 +29,7 @@ fn main() -> ExitCode {
 fn compare(count: u64, first: u64) -> ExitCode {
     let mut tally = Tally::default();
     let mut differences = 0u64;
-    let mut buffer = vec![0; LINES_LIMIT];
+    let mut buffer = vec![0; LINES_LIMIT + 64];
     for seed in first..first + count {
         let input = generate::session(seed);
         tally.add(&input);
@@ -43,7 +43,7 @@ fn compare(count: u64, first: u64) -> ExitCode {
     ExitCode::from(u8::from(differences > 0))
 }
 
-/// Says where the two disagree, if they do: lines, checked lines, or a buffer one byte too short.
+/// Says where the two disagree, if they do.
 fn differs(seed: u64, input: &[u8], buffer: &mut [u8]) -> bool {
     let expected = session(input);
     let faults = [
@@ -56,29 +56,34 @@ fn differs(seed: u64, input: &[u8], buffer: &mut [u8]) -> bool {
     faults.iter().any(Option::is_some)
 }
 
-fn fault(
-    expected: &[u8],
-    proved: fn(&[u8], &mut [u8]) -> Option<usize>,
-    input: &[u8],
-    buffer: &mut [u8],
-) -> Option<String> {
-    const KEPT: u8 = 0xA5;
-    buffer[..expected.len() + 64].fill(KEPT);
-    let Some(written) = proved(input, &mut buffer[..expected.len()]) else {
-        return Some("the lines do not fit a buffer of the plain ones' length".into());
-    };
+type Proved = fn(&[u8], &mut [u8]) -> Option<usize>;
+
+/// What is wrong with the lines in a large buffer, in one that just holds them, or in a shorter one.
+fn fault(expected: &[u8], proved: Proved, input: &[u8], buffer: &mut [u8]) -> Option<String> {
+    let length = expected.len();
+    buffer[..length + 64].fill(KEPT);
+    let written = proved(input, buffer).unwrap_or(0);
     if buffer[..written] != *expected {
         return Some(first_difference(&buffer[..written], expected));
     }
-    if buffer[expected.len()..expected.len() + 64].iter().any(|byte| *byte != KEPT) {
-        return Some("bytes behind the buffer are written".into());
+    if !is_kept(&buffer[length..length + 64]) {
+        return Some("bytes behind the lines are written".into());
     }
-    let short = &mut buffer[..expected.len() - 1];
-    short.fill(KEPT);
-    if proved(input, short).is_some() || short.iter().any(|byte| *byte != KEPT) {
+    buffer[..length].fill(KEPT);
+    if proved(input, &mut buffer[..length]) != Some(length) || buffer[..length] != *expected {
+        return Some("a buffer of just the lines' length is not enough".into());
+    }
+    buffer[..length].fill(KEPT);
+    if proved(input, &mut buffer[..length - 1]).is_some() || !is_kept(&buffer[..length]) {
         return Some("a buffer one byte too short is written".into());
     }
     None
+}
+
+const KEPT: u8 = 0xA5;
+
+fn is_kept(bytes: &[u8]) -> bool {
+    bytes.iter().all(|byte| *byte == KEPT)
 }
 
 fn first_difference(found: &[u8], expected: &[u8]) -> String {

@@ -105,7 +105,7 @@ mod tests {
     #[test]
     fn numbers_are_written_in_decimal() {
         let powers = (0..20).map(|digits| 10u64.pow(digits));
-        for number in powers.flat_map(|power| [power - 1, power, power + 1, power * 18 / 10]) {
+        for number in powers.flat_map(|power| [power - 1, power, power + 1]) {
             let mut line = Vec::new();
             write_line(Answer { code: 19, number, tag: true }, &mut line);
             assert_eq!(String::from_utf8(line).unwrap(), format!("19 {number} 1\n"));

@@ -57,23 +57,19 @@ impl State {
             && self.mailboxes.iter().all(|slot| slot.tag || slot.cell == 0)
     }
 
+    /// At most one row is Revoking, and then the running revocation is that row's.
     fn revocation_is_well_formed(&self) -> bool {
-        let is_revoking = |row: &&_| matches!(row, Standing::Revoking);
-        let count = self.table.rows().iter().map(|row| &row.standing);
-        match (count.filter(is_revoking).count(), self.revocation) {
-            (0, None) => true,
-            (1, Some(running)) => self.is_revoked_range(running),
+        let rows = self.table.rows().iter();
+        let mut revoking = rows.filter(|row| row.standing == Standing::Revoking);
+        match (revoking.next(), revoking.next(), self.revocation) {
+            (None, None, None) => true,
+            (Some(row), None, Some(running)) => {
+                running.range == row.range()
+                    && running.range.is_whole_pages()
+                    && self.pages.are_all_freed(running.range)
+                    && running.place <= self.pages.lent_cells()
+            }
             _ => false,
         }
-    }
-
-    fn is_revoked_range(&self, running: Revocation) -> bool {
-        let is_named = |row: &super::table::Reservation| {
-            row.standing == Standing::Revoking && row.range() == running.range
-        };
-        running.place <= self.pages.lent_cells()
-            && self.table.rows().iter().any(is_named)
-            && running.range.is_whole_pages()
-            && self.pages.are_all_freed(running.range)
     }
 }
