@@ -2,7 +2,9 @@
 
 mod any_call;
 mod granted;
+mod memory;
 mod random;
+mod revocation;
 
 use crate::plain::{Call, Memory, State, INPUT_LIMIT};
 use granted::Mood;
@@ -24,7 +26,7 @@ pub fn session(seed: u64) -> Vec<u8> {
     }
 }
 
-/// An undamaged session of the given size, no shorter than `bytes` by more than a command.
+/// An undamaged session of the given size, of `bytes` bytes or at most 500 more.
 pub fn productive(seed: u64, v: u16, f: u8, bytes: usize) -> Vec<u8> {
     Author::new(Random::new(seed), v, f).write(bytes)
 }
@@ -107,6 +109,9 @@ impl Author {
             if self.random.one_in(40) {
                 self.mood = Mood::any(&mut self.random);
             }
+            if self.random.one_in(25) {
+                self.begin_revocation();
+            }
             let call = match self.random.one_in(8) {
                 true => self.call_to_be_refused(),
                 false => self.call_to_be_granted(),
@@ -150,7 +155,7 @@ mod tests {
         }
         assert!(tally.granted[1..].iter().all(|count| *count > 100));
         assert!(tally.codes[0] * 10 > tally.commands * 7);
-        assert!(tally.stored_behind > 100 && tally.stored_ahead > 100);
+        assert!(tally.stored_behind > 100 && tally.stored_ahead > 100 && tally.swept > 100);
         assert!(tally.full_tables > 0 && tally.full_mailboxes > 0);
     }
 

@@ -15,6 +15,8 @@ pub struct Tally {
     /// Dying capabilities stored while a revocation runs, behind and ahead of the sweep place.
     pub stored_behind: u64,
     pub stored_ahead: u64,
+    /// Tags that sweeps cleared.
+    pub swept: u64,
     /// Sessions in which the table is full at some time, and in which all mailboxes are.
     pub full_tables: u64,
     pub full_mailboxes: u64,
@@ -45,9 +47,12 @@ impl Tally {
                 break;
             };
             let dying = dying_store(&state, call);
+            let is_sweep = matches!(call.action, Action::Sweep { .. });
+            let before = if is_sweep { count(&tags) } else { 0 };
             let mut memory = Memory { cells: &mut cells, tags: &mut tags };
             let answer = state.step(&mut memory, call);
             self.add_answer(input[0], answer, dying);
+            self.swept += if is_sweep { before - count(&tags) } else { 0 };
             table_full |= state.table.rows().len() == ROWS;
             mailboxes_full |= state.mailboxes.iter().all(|slot| slot.tag);
             input = &input[used..];
@@ -68,6 +73,10 @@ impl Tally {
             None => {}
         }
     }
+}
+
+fn count(tags: &[u8]) -> u64 {
+    tags.iter().map(|tag| u64::from(*tag)).sum()
 }
 
 /// Where a store lands, seen from the sweep place.
@@ -103,8 +112,8 @@ impl fmt::Display for Tally {
         }
         writeln!(
             out,
-            "dying capabilities stored: {} behind the sweep place, {} ahead",
-            self.stored_behind, self.stored_ahead
+            "dying capabilities stored: {} behind the sweep place, {} ahead; tags swept {}",
+            self.stored_behind, self.stored_ahead, self.swept
         )?;
         writeln!(
             out,

@@ -8,7 +8,7 @@ pub fn mix() -> Vec<Vec<u8>> {
     let sizes = [(2, 1), (8, 4), (16, 16), (64, 32), (256, 128)];
     let seeds = (0u64..).step_by(7);
     let seeded = sizes.iter().cycle().take(15).zip(seeds);
-    seeded.map(|(&(v, f), seed)| generate::productive(seed, v, f, INPUT_LIMIT - 16)).collect()
+    seeded.map(|(&(v, f), seed)| generate::productive(seed, v, f, INPUT_LIMIT - 500)).collect()
 }
 
 /// What the cells hold that a sweep passes.

@@ -3,7 +3,8 @@
 use super::random::Random;
 use super::Author;
 use crate::plain::capability as cap;
-use crate::plain::pages::{FrameUse, Page};
+use crate::plain::pages::{Frame, FrameUse, Page, CELLS_A_PAGE};
+use crate::plain::state::Revocation;
 use crate::plain::table::{Reservation, Standing, ROWS};
 use crate::plain::{Action, Call};
 
@@ -53,7 +54,12 @@ impl Mood {
     }
 }
 
-fn by(party: u8, action: Action) -> Option<Call> {
+/// Every party with each of its registers.
+pub(super) fn registers() -> impl Iterator<Item = (u8, u8)> {
+    (0..64).map(|index| (index / 8, index % 8))
+}
+
+pub(super) fn by(party: u8, action: Action) -> Option<Call> {
     Some(Call { party, action })
 }
 
@@ -141,13 +147,7 @@ impl Author {
         if self.state.revocation.is_some() {
             return None;
         }
-        let open_too = self.random.one_in(5);
-        let rows = self.state.table.rows().iter().copied().filter(|row| {
-            row.holder == 0
-                && row.range().is_whole_pages()
-                && (open_too || row.standing == Standing::Taken)
-        });
-        let row = self.random.pick_any(rows)?;
+        let row = self.row_to_revoke()?;
         let pages = &self.state.pages.pages()[row.range().pages()];
         match pages.iter().position(|page| matches!(page, Page::Mapped(_))) {
             Some(index) => {
@@ -158,10 +158,63 @@ impl Author {
         }
     }
 
+    /// Mostly one with capabilities in memory, so that the sweep has something to clear.
+    fn row_to_revoke(&mut self) -> Option<Reservation> {
+        let open_too = self.random.one_in(5);
+        let is_fit = |row: &Reservation| {
+            row.holder == 0
+                && row.range().is_whole_pages()
+                && (open_too || row.standing == Standing::Taken)
+        };
+        let rows: Vec<Reservation> =
+            self.state.table.rows().iter().copied().filter(is_fit).collect();
+        let referred = rows.iter().copied().filter(|row| self.memory_refers_to(row));
+        let referred: Vec<Reservation> = referred.collect();
+        match referred.is_empty() || self.random.one_in(4) {
+            true => self.random.pick_any(rows.into_iter()),
+            false => self.random.pick_any(referred.into_iter()),
+        }
+    }
+
+    /// Whether a capability of the row lies in memory that a page outside the row shows.
+    fn memory_refers_to(&self, row: &Reservation) -> bool {
+        let own = row.range().pages();
+        let pages = self.state.pages.pages().iter().enumerate();
+        let others = pages.filter(|(index, _)| !own.contains(index));
+        let frames = others.filter_map(|(_, page)| match page {
+            Page::Mapped(Frame(frame)) => Some(usize::from(*frame)),
+            _ => None,
+        });
+        let mut places = frames.flat_map(|frame| {
+            let first = frame * CELLS_A_PAGE;
+            first..first + CELLS_A_PAGE
+        });
+        places.any(|place| self.tags[place] != 0 && row.range().kills(self.cells[place]))
+    }
+
+    /// The place in the table of the reservation with this cell.
+    pub(super) fn row_at(&self, cell: u16) -> Option<usize> {
+        self.state.table.rows().iter().position(|row| row.range().holds(cell))
+    }
+
     fn sweep(&mut self) -> Option<Call> {
-        self.state.revocation?;
+        let running = self.state.revocation?;
         let most = *self.random.pick(&[8, 20, 20, 20, 200, 200, 0xFFFF]);
-        by(0, Action::Sweep { count: self.random.below(most + 1) as u16 })
+        let any = self.random.below(most + 1);
+        let count = match self.random.one_in(2) {
+            true => self.count_to_a_dying_cell(running).unwrap_or(any),
+            false => any,
+        };
+        by(0, Action::Sweep { count: count as u16 })
+    }
+
+    /// The count of a sweep that ends right before or right after a cell to be cleared.
+    fn count_to_a_dying_cell(&mut self, running: Revocation) -> Option<usize> {
+        let ahead = running.place..self.tags.len();
+        let dying =
+            ahead.filter(|place| self.tags[*place] != 0 && running.range.kills(self.cells[*place]));
+        let place = self.random.pick_any(dying)?;
+        Some(place - running.place + self.random.below(2))
     }
 
     fn collect(&mut self) -> Option<Call> {
@@ -192,52 +245,6 @@ impl Author {
     fn zero(&mut self) -> Option<Call> {
         let frame = self.frame_in(FrameUse::Dirty)?;
         by(0, Action::Zero { frame })
-    }
-
-    fn load(&mut self) -> Option<Call> {
-        let (party, a) = self.capability_with(cap::LOAD)?;
-        let off = self.mapped_offset(party, a)?;
-        let d = self.register_to_fill(party);
-        by(party, Action::Load { a, off, d })
-    }
-
-    /// While a revocation runs, mostly a store of a dying capability.
-    fn store(&mut self) -> Option<Call> {
-        let old = match self.random.one_in(4) {
-            true => None,
-            false => self.store_of_a_dying_one(),
-        };
-        old.or_else(|| self.store_of_any())
-    }
-
-    fn store_of_a_dying_one(&mut self) -> Option<Call> {
-        let range = self.state.revocation?.range;
-        let registers = (0..64u8).map(|index| (index / 8, index % 8));
-        let dying = registers.filter(|(party, s)| {
-            let slot = self.state.registers[usize::from(*party)][usize::from(*s)];
-            slot.tag && range.kills(slot.cell)
-        });
-        let (party, s) = self.random.pick_any(dying)?;
-        let registers = self.state.registers[usize::from(party)];
-        let places = (0..8u8).filter(|a| {
-            let slot = registers[usize::from(*a)];
-            let both =
-                cap::allows(slot.cell, cap::STORE) && cap::allows(slot.cell, cap::STORE_CAPABILITY);
-            slot.tag && both && !range.kills(slot.cell)
-        });
-        let a = self.random.pick_any(places)?;
-        let off = self.mapped_offset(party, a)?;
-        by(party, Action::Store { a, off, s })
-    }
-
-    fn store_of_any(&mut self) -> Option<Call> {
-        let (party, a) = self.capability_with(cap::STORE)?;
-        let off = self.mapped_offset(party, a)?;
-        let registers = self.state.registers[usize::from(party)];
-        let takes_tags = cap::allows(registers[usize::from(a)].cell, cap::STORE_CAPABILITY);
-        let storable = |s: &u8| takes_tags || !registers[usize::from(*s)].tag;
-        let s = self.random.pick_any((0..8).filter(storable))?;
-        by(party, Action::Store { a, off, s })
     }
 
     fn narrow(&mut self) -> Option<Call> {
@@ -287,25 +294,16 @@ impl Author {
     }
 
     /// A party and a register with a capability that has one of the permissions.
-    fn capability_with(&mut self, permissions: u8) -> Option<(u8, u8)> {
-        let all = (0..64u8).map(|index| (index / 8, index % 8));
-        let fit = all.filter(|(party, register)| {
+    pub(super) fn capability_with(&mut self, permissions: u8) -> Option<(u8, u8)> {
+        let fit = registers().filter(|(party, register)| {
             let slot = self.state.registers[usize::from(*party)][usize::from(*register)];
             slot.tag && (permissions == 0xFF || cap::allows(slot.cell, permissions))
         });
         self.random.pick_any(fit)
     }
 
-    fn mapped_offset(&mut self, party: u8, a: u8) -> Option<u16> {
-        let cell = self.state.registers[usize::from(party)][usize::from(a)].cell;
-        let (base, length) = (usize::from(cap::base(cell)), usize::from(cap::length(cell)));
-        let mut offsets = (0..6).map(|_| self.random.below(length));
-        let is_mapped = |off: &usize| self.state.pages.lent_place(base + off).is_ok();
-        offsets.find(is_mapped).map(|off| off as u16)
-    }
-
     /// Mostly a register without a capability, so that capabilities gather.
-    fn register_to_fill(&mut self, party: u8) -> u8 {
+    pub(super) fn register_to_fill(&mut self, party: u8) -> u8 {
         let registers = self.state.registers[usize::from(party)];
         let untagged = (0..8u8).filter(|index| !registers[usize::from(*index)].tag);
         let any = self.random.below(8) as u8;
