@@ -1,0 +1,168 @@
+//! Prints, in one run on the same inputs, how fast the plain and the proved machine are.
+//!
+//! Without the feature `proved` the plain one is timed alone. The tables are markdown.
+
+use cetomuhi_bench::plain;
+use cetomuhi_bench::proved::{self, LINES_LIMIT};
+use cetomuhi_bench::tally::Tally;
+use cetomuhi_bench::timing::{fastest, ticks_a_second};
+use cetomuhi_bench::workloads::{kinds, mix, small_calls, sweep, Cells, SWEPT_CELLS};
+use std::hint::black_box;
+use std::time::Duration;
+
+fn main() {
+    if !proved::LINKED {
+        println!("Built without the feature `proved`: the plain implementation alone.\n");
+    }
+    print_mix();
+    print_kinds();
+    print_sweeps();
+    print_growth();
+}
+
+/// Seconds of both machines for the same sessions, each the fastest of many runs.
+struct Both {
+    plain: f64,
+    proved: Option<f64>,
+}
+
+impl Both {
+    fn map(&self, change: impl Fn(f64) -> f64) -> Both {
+        Both { plain: change(self.plain), proved: self.proved.map(change) }
+    }
+
+    fn less(&self, other: &Both) -> Both {
+        let proved = self.proved.zip(other.proved).map(|(a, b)| a - b);
+        Both { plain: self.plain - other.plain, proved }
+    }
+}
+
+type Plain = fn(&[u8], &mut Vec<u8>);
+type Proved = fn(&[u8], &mut [u8]) -> Option<usize>;
+
+const UNCHECKED: (Plain, Proved) = (plain::session_into, proved::session);
+const CHECKED: (Plain, Proved) = (plain::session_checked, proved::session_checked);
+
+/// Times each group of sessions; all groups and both machines take turns. Both must print the same.
+fn time(groups: &[&[Vec<u8>]], (plain, proved): (Plain, Proved), budget: u64) -> Vec<Both> {
+    if proved::LINKED {
+        groups.iter().copied().flatten().for_each(|input| agree(input, plain, proved));
+    }
+    let run_plain = |group: &[Vec<u8>], lines: &mut Vec<u8>| {
+        for input in group {
+            lines.clear();
+            plain(black_box(input), lines);
+            black_box(&lines);
+        }
+    };
+    let run_proved = |group: &[Vec<u8>], buffer: &mut Vec<u8>| {
+        for input in group {
+            black_box(proved(black_box(input), buffer)).expect("the buffer holds all lines");
+        }
+    };
+    let mut runs: Vec<Box<dyn FnMut()>> = Vec::new();
+    for group in groups {
+        let mut lines = Vec::with_capacity(LINES_LIMIT);
+        runs.push(Box::new(move || run_plain(group, &mut lines)));
+        if proved::LINKED {
+            let mut buffer = vec![0; LINES_LIMIT];
+            runs.push(Box::new(move || run_proved(group, &mut buffer)));
+        }
+    }
+    let mut borrowed: Vec<&mut dyn FnMut()> =
+        runs.iter_mut().map(|run| run.as_mut() as _).collect();
+    let best = fastest(&mut borrowed, Duration::from_millis(budget));
+    let each = best.chunks(if proved::LINKED { 2 } else { 1 });
+    each.map(|pair| Both { plain: pair[0], proved: pair.get(1).copied() }).collect()
+}
+
+fn agree(input: &[u8], plain: Plain, proved: Proved) {
+    let (mut lines, mut buffer) = (Vec::new(), vec![0; LINES_LIMIT]);
+    plain(input, &mut lines);
+    let written = proved(input, &mut buffer).unwrap_or(0);
+    assert!(buffer[..written] == lines, "the two print different lines: run compare");
+}
+
+fn calls(group: &[Vec<u8>]) -> f64 {
+    let mut tally = Tally::default();
+    group.iter().for_each(|input| tally.add(input));
+    tally.commands as f64
+}
+
+fn print_mix() {
+    let sessions = mix();
+    let calls = calls(&sessions);
+    println!("Million calls a second, {} generated sessions, {calls} calls:\n", sessions.len());
+    println!("| | plain | proved | ratio |");
+    println!("|---|---:|---:|---:|");
+    for (name, variant) in [("mix of calls", UNCHECKED), ("state tested at every call", CHECKED)] {
+        let rate = time(&[&sessions], variant, 1_000)[0].map(|seconds| calls / seconds / 1e6);
+        println!("| {name} |{}", rates(&rate));
+    }
+    println!();
+}
+
+fn print_kinds() {
+    println!("Nanoseconds a call, one or a few kinds over and over, V 16 and F 16:\n");
+    println!("| | plain | proved | proved / plain |");
+    println!("|---|---:|---:|---:|");
+    for (name, input) in kinds() {
+        let sessions = [input];
+        let calls = calls(&sessions);
+        let cost = time(&[&sessions], UNCHECKED, 200)[0].map(|seconds| seconds * 1e9 / calls);
+        println!("| {name} |{}", rates(&cost));
+    }
+    println!();
+}
+
+/// Three columns: both rates and proved over plain.
+fn rates(rate: &Both) -> String {
+    match rate.proved {
+        Some(proved) => format!(" {:.2} | {proved:.2} | {:.2} |", rate.plain, proved / rate.plain),
+        None => format!(" {:.2} | – | – |", rate.plain),
+    }
+}
+
+fn print_sweeps() {
+    let ticks = ticks_a_second();
+    println!("A sweep's cost a cell, {SWEPT_CELLS} Mapped cells in one call: a session with the");
+    println!("sweep less the same session with a sweep of 0 cells.");
+    if let Some(ticks) = ticks {
+        println!("Cycles are ticks of the time stamp counter, {:.2} GHz.", ticks / 1e9);
+    }
+    println!("TR-961's are cycles a 16-byte granule on its own processor (its table 4.1).\n");
+    println!("| cells | plain ns | proved ns | plain cycles | proved cycles | TR-961 cycles |");
+    println!("|---|---:|---:|---:|---:|---:|");
+    let rows = [
+        ("untagged", Cells::Untagged, 2.5),
+        ("tagged", Cells::Tagged, 64.0),
+        ("dying", Cells::Dying, 87.0),
+    ];
+    for (name, cells, report) in rows {
+        let (with, without) = ([sweep(cells, SWEPT_CELLS)], [sweep(cells, 0)]);
+        let both = time(&[&with, &without], UNCHECKED, 1_500);
+        let nanoseconds = both[0].less(&both[1]).map(|s| s * 1e9 / f64::from(SWEPT_CELLS));
+        let cycles = ticks.map(|ticks| nanoseconds.map(|ns| ns * ticks / 1e9));
+        let column = |number: Option<f64>| number.map_or("–".into(), |n| format!("{n:.2}"));
+        println!(
+            "| {name} | {} | {} | {} | {} | {report} |",
+            column(Some(nanoseconds.plain)),
+            column(nanoseconds.proved),
+            column(cycles.as_ref().map(|both| both.plain)),
+            column(cycles.as_ref().and_then(|both| both.proved)),
+        );
+    }
+    println!();
+}
+
+fn print_growth() {
+    println!("Growth: million calls a second of the same small calls at other sizes.\n");
+    println!("| V | F | plain | proved | ratio | plain, tested | proved, tested | ratio |");
+    println!("|---:|---:|---:|---:|---:|---:|---:|---:|");
+    for (v, f) in [(16, 1), (16, 16), (16, 128), (1, 16), (16, 16), (256, 16)] {
+        let sessions = [small_calls(v, f)];
+        let calls = calls(&sessions);
+        let rate = |variant| time(&[&sessions], variant, 300)[0].map(|s| calls / s / 1e6);
+        println!("| {v} | {f} |{}{}", rates(&rate(UNCHECKED)), rates(&rate(CHECKED)));
+    }
+}

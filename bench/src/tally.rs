@@ -1,0 +1,124 @@
+//! Counts of what sessions do, found by the plain implementation.
+
+use crate::plain::table::ROWS;
+use crate::plain::{capability as cap, read, Action, Answer, Call, Memory, State, INPUT_LIMIT};
+use std::fmt;
+
+#[derive(Default)]
+pub struct Tally {
+    pub sessions: u64,
+    pub commands: u64,
+    /// Answers by code, those of starts included.
+    pub codes: [u64; 20],
+    /// Commands granted, by the command's number.
+    pub granted: [u64; 17],
+    /// Dying capabilities stored while a revocation runs, behind and ahead of the sweep place.
+    pub stored_behind: u64,
+    pub stored_ahead: u64,
+    /// Tags that sweeps cleared.
+    pub swept: u64,
+    /// Sessions in which the table is full at some time, and in which all mailboxes are.
+    pub full_tables: u64,
+    pub full_mailboxes: u64,
+}
+
+impl Tally {
+    pub fn add(&mut self, input: &[u8]) {
+        self.sessions += 1;
+        let input = &input[..input.len().min(INPUT_LIMIT)];
+        let started = match *input {
+            [v1, v0, f, ..] => State::start(u16::from_be_bytes([v1, v0]), f).ok(),
+            _ => None,
+        };
+        self.codes[usize::from(started.is_none())] += 1;
+        if let Some(state) = started {
+            self.add_commands(state, &input[3..]);
+        }
+    }
+
+    fn add_commands(&mut self, mut state: State, mut input: &[u8]) {
+        let lent = state.pages.lent_cells();
+        let (mut cells, mut tags) = (vec![0; lent], vec![0; lent]);
+        let (mut table_full, mut mailboxes_full) = (false, false);
+        while !input.is_empty() {
+            self.commands += 1;
+            let Some((call, used)) = read(input) else {
+                self.codes[3] += 1;
+                break;
+            };
+            let dying = dying_store(&state, call);
+            let is_sweep = matches!(call.action, Action::Sweep { .. });
+            let before = if is_sweep { count(&tags) } else { 0 };
+            let mut memory = Memory { cells: &mut cells, tags: &mut tags };
+            let answer = state.step(&mut memory, call);
+            self.add_answer(input[0], answer, dying);
+            self.swept += if is_sweep { before - count(&tags) } else { 0 };
+            table_full |= state.table.rows().len() == ROWS;
+            mailboxes_full |= state.mailboxes.iter().all(|slot| slot.tag);
+            input = &input[used..];
+        }
+        self.full_tables += u64::from(table_full);
+        self.full_mailboxes += u64::from(mailboxes_full);
+    }
+
+    fn add_answer(&mut self, command: u8, answer: Answer, dying: Option<Side>) {
+        self.codes[usize::from(answer.code)] += 1;
+        if answer.code != 0 {
+            return;
+        }
+        self.granted[usize::from(command)] += 1;
+        match dying {
+            Some(Side::Behind) => self.stored_behind += 1,
+            Some(Side::Ahead) => self.stored_ahead += 1,
+            None => {}
+        }
+    }
+}
+
+fn count(tags: &[u8]) -> u64 {
+    tags.iter().map(|tag| u64::from(*tag)).sum()
+}
+
+/// Where a store lands, seen from the sweep place.
+enum Side {
+    Behind,
+    Ahead,
+}
+
+/// Where the call would store a capability of the revoked range, if it is such a store.
+fn dying_store(state: &State, call: Call) -> Option<Side> {
+    let running = state.revocation?;
+    let Action::Store { a, off, s } = call.action else { return None };
+    let registers = state.registers.get(usize::from(call.party))?;
+    let (through, stored) = (registers.get(usize::from(a))?, registers.get(usize::from(s))?);
+    if !stored.tag || !running.range.kills(stored.cell) {
+        return None;
+    }
+    let cell = usize::from(cap::base(through.cell)) + usize::from(off);
+    let place = state.pages.lent_place(cell).ok()?;
+    Some(if place < running.place { Side::Behind } else { Side::Ahead })
+}
+
+impl fmt::Display for Tally {
+    fn fmt(&self, out: &mut fmt::Formatter) -> fmt::Result {
+        writeln!(out, "sessions {}, commands {}", self.sessions, self.commands)?;
+        writeln!(out, "answers by code:")?;
+        for (code, count) in self.codes.iter().enumerate() {
+            writeln!(out, "  {code:>2} {count:>10}")?;
+        }
+        writeln!(out, "granted by command:")?;
+        for (command, count) in self.granted.iter().enumerate().skip(1) {
+            writeln!(out, "  {command:02X} {count:>10}")?;
+        }
+        writeln!(
+            out,
+            "dying capabilities stored: {} behind the sweep place, {} ahead; tags swept {}",
+            self.stored_behind, self.stored_ahead, self.swept
+        )?;
+        writeln!(
+            out,
+            "sessions with a full table {}, with all mailboxes full {}",
+            self.full_tables, self.full_mailboxes
+        )
+    }
+}

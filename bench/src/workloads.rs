@@ -1,0 +1,163 @@
+//! The sessions that the benchmark times.
+
+use crate::generate;
+use crate::plain::{Action, Call, INPUT_LIMIT};
+
+/// Generated sessions of several sizes, each as long as an input may be.
+pub fn mix() -> Vec<Vec<u8>> {
+    let sizes = [(2, 1), (8, 4), (16, 16), (64, 32), (256, 128)];
+    let seeds = (0u64..).step_by(7);
+    let seeded = sizes.iter().cycle().take(15).zip(seeds);
+    seeded.map(|(&(v, f), seed)| generate::productive(seed, v, f, INPUT_LIMIT - 500)).collect()
+}
+
+/// What the cells hold that a sweep passes.
+#[derive(Clone, Copy, PartialEq)]
+pub enum Cells {
+    Untagged,
+    Tagged,
+    Dying,
+}
+
+pub const SWEPT_CELLS: u16 = 2_048;
+
+/// All 2,048 lent cells Mapped and filled, a revocation begun, and a sweep of `count` cells.
+pub fn sweep(cells: Cells, count: u16) -> Vec<u8> {
+    let mut session = Session::start(256, 128);
+    for index in 0..128 {
+        session.call(0, Action::Zero { frame: index });
+        session.call(0, Action::Map { page: index, frame: index });
+    }
+    session.call(0, Action::Split { base: 0, len: SWEPT_CELLS });
+    session.call(0, Action::Split { base: SWEPT_CELLS, len: 16 });
+    session.call(0, Action::Take { base: 0, reg: 0 });
+    session.call(0, Action::Take { base: SWEPT_CELLS, reg: 1 });
+    session.call(0, Action::Number { d: 2, value: u64::from(SWEPT_CELLS) });
+    let s = match cells {
+        Cells::Tagged => 0,
+        Cells::Dying => 1,
+        Cells::Untagged => 2,
+    };
+    for off in 0..SWEPT_CELLS {
+        session.call(0, Action::Store { a: 0, off, s });
+    }
+    session.call(0, Action::Revoke { base: SWEPT_CELLS });
+    session.call(0, Action::Sweep { count });
+    session.bytes
+}
+
+/// Calls whose work does not depend on V or F: the same ones at every size, all granted.
+pub fn small_calls(v: u16, f: u8) -> Vec<u8> {
+    let mut session = Session::start(v, f);
+    session.settle();
+    while session.bytes.len() < INPUT_LIMIT - 128 {
+        session.small_round();
+    }
+    session.bytes
+}
+
+/// Sessions of one or a few kinds of call over and over, all granted.
+pub fn kinds() -> Vec<(&'static str, Vec<u8>)> {
+    let zero = Action::Zero { frame: 1 };
+    let map = Action::Map { page: 1, frame: 1 };
+    let unmap = Action::Unmap { page: 1 };
+    let revoke = Action::Revoke { base: 16 };
+    let sweep = Action::Sweep { count: 0xFFFF };
+    let narrow = Action::Narrow { s: 0, off: 1, len: 4, mask: 15, d: 3 };
+    let split = |base| Action::Split { base, len: 1 };
+    let merge = |base| Action::Merge { base };
+    let rounds: [(&str, &[Action]); 11] = [
+        ("number", &[Action::Number { d: 4, value: 42 }]),
+        ("load of a number", &[Action::Load { a: 0, off: 0, d: 4 }]),
+        ("load of a capability", &[Action::Load { a: 0, off: 5, d: 4 }]),
+        ("store of a number", &[Action::Store { a: 0, off: 1, s: 1 }]),
+        ("store of a capability", &[Action::Store { a: 0, off: 2, s: 0 }]),
+        ("narrow", &[narrow]),
+        ("grant, receive", &[Action::Grant { s: 0, to: 0 }, Action::Receive { d: 5 }]),
+        ("split, merge", &[split(8), merge(8)]),
+        ("split, merge below 60 rows", &[split(16), merge(16)]),
+        ("give", &[Action::Give { base: 8, to: 0 }]),
+        (
+            "zero, map, unmap, revoke, sweep, collect",
+            &[zero, map, unmap, revoke, sweep, Action::Collect],
+        ),
+    ];
+    rounds.map(|(name, round)| (name, repeated(name, round))).into()
+}
+
+fn repeated(name: &str, round: &[Action]) -> Vec<u8> {
+    let mut session = Session::start(16, 16);
+    session.settle();
+    session.call(0, Action::Store { a: 0, off: 5, s: 0 });
+    session.call(0, Action::Split { base: 8, len: 8 });
+    session.call(0, Action::Split { base: 16, len: 16 });
+    if name.ends_with("60 rows") {
+        (32..91).for_each(|base| session.call(0, Action::Split { base, len: 1 }));
+    }
+    while session.bytes.len() < INPUT_LIMIT - 64 {
+        round.iter().for_each(|action| session.call(0, *action));
+    }
+    session.bytes
+}
+
+struct Session {
+    bytes: Vec<u8>,
+}
+
+impl Session {
+    fn start(v: u16, f: u8) -> Session {
+        Session { bytes: [&v.to_be_bytes()[..], &[f]].concat() }
+    }
+
+    fn call(&mut self, party: u8, action: Action) {
+        Call { party, action }.write(&mut self.bytes);
+    }
+
+    /// Page 0 is Mapped, and party 0 takes its lower half into register 0.
+    fn settle(&mut self) {
+        self.call(0, Action::Zero { frame: 0 });
+        self.call(0, Action::Map { page: 0, frame: 0 });
+        self.call(0, Action::Split { base: 0, len: 8 });
+        self.call(0, Action::Take { base: 0, reg: 0 });
+    }
+
+    fn small_round(&mut self) {
+        self.call(0, Action::Number { d: 1, value: 42 });
+        self.call(0, Action::Store { a: 0, off: 5, s: 1 });
+        self.call(0, Action::Load { a: 0, off: 5, d: 2 });
+        self.call(0, Action::Narrow { s: 0, off: 1, len: 4, mask: 15, d: 3 });
+        self.call(0, Action::Grant { s: 3, to: 1 });
+        self.call(1, Action::Receive { d: 0 });
+        self.call(1, Action::Store { a: 0, off: 0, s: 0 });
+        self.call(1, Action::Load { a: 0, off: 0, d: 1 });
+        self.call(0, Action::Split { base: 8, len: 4 });
+        self.call(0, Action::Merge { base: 8 });
+        self.call(0, Action::Give { base: 8, to: 2 });
+        self.call(2, Action::Give { base: 8, to: 0 });
+    }
+}
+
+#[cfg(test)]
+mod tests {
+    use super::*;
+    use crate::tally::Tally;
+
+    fn all_granted(input: &[u8]) -> bool {
+        let mut tally = Tally::default();
+        tally.add(input);
+        input.len() <= INPUT_LIMIT && tally.codes[0] == tally.commands + 1
+    }
+
+    #[test]
+    fn timed_calls_are_granted() {
+        for cells in [Cells::Untagged, Cells::Tagged, Cells::Dying] {
+            assert!(all_granted(&sweep(cells, 0)) && all_granted(&sweep(cells, SWEPT_CELLS)));
+        }
+        for (v, f) in [(1, 1), (16, 128), (256, 16)] {
+            assert!(all_granted(&small_calls(v, f)));
+        }
+        for (name, input) in kinds() {
+            assert!(all_granted(&input), "{name}");
+        }
+    }
+}

@@ -1,0 +1,187 @@
+//! Document 01's session, its edges marked K, and the refusals that no session can show.
+
+use cetomuhi_bench::hex;
+use cetomuhi_bench::plain::state::{Memory, Revocation};
+use cetomuhi_bench::plain::{session, session_checked, Action, Call, State};
+
+/// The codes that a session of hexadecimal commands answers, the start's first.
+fn codes(text: &str) -> Vec<u8> {
+    let lines = String::from_utf8(session(&hex::bytes(text).unwrap())).unwrap();
+    lines.lines().map(|line| line.split(' ').next().unwrap().parse().unwrap()).collect()
+}
+
+/// The last code of a session whose other commands are all granted.
+fn last_code(text: &str) -> u8 {
+    let mut codes = codes(text);
+    let last = codes.pop().unwrap();
+    assert!(codes.iter().all(|code| *code == 0), "{text}: {codes:?}");
+    last
+}
+
+const DOCUMENT: &str = "
+    00 02 01                   # 0 0 0
+    0A 00 00                   # 0 0 0
+    08 00 00 00                # 0 0 0
+    02 00 00 00 00 10          # 0 0 0
+    04 00 00 00 03             # 0 0 0
+    01 03 00 00 00             # 0 16 0
+    0E 03 01 000000000000002A  # 0 0 0
+    0C 03 00 00 05 01          # 0 0 0
+    0C 03 00 00 06 00          # 0 0 0
+    0B 03 00 00 06 02          # 0 64425558016 1
+    05 00 00 00                # 13 0 0
+    09 00 00                   # 0 0 0
+    05 00 00 00                # 0 0 0
+    06 00 00 0A                # 0 6 0
+    07 00                      # 11 0 0
+    06 00 00 FF                # 0 0 0
+    07 00                      # 0 0 0
+    0B 03 00 00 06 02          # 15 0 0";
+
+#[test]
+fn the_documents_session_prints_the_documents_lines() {
+    let input = hex::bytes(DOCUMENT).unwrap();
+    let expected: String = DOCUMENT
+        .lines()
+        .filter_map(|line| line.split_once("# "))
+        .map(|(_, line)| format!("{line}\n"))
+        .collect();
+    assert_eq!(String::from_utf8(session(&input)).unwrap(), expected);
+    let mut checked = Vec::new();
+    session_checked(&input, &mut checked);
+    assert_eq!(String::from_utf8(checked).unwrap(), expected);
+}
+
+#[test]
+fn k_split_of_sixteen() {
+    assert_eq!(last_code("0001 01 02 00 0000 000F"), 0);
+    assert_eq!(last_code("0001 01 02 00 0000 0010"), 8);
+    assert_eq!(last_code("0001 01 02 00 0000 0000"), 8);
+}
+
+#[test]
+fn k_take_twice() {
+    assert_eq!(codes("0001 01 04 00 0000 03 01 03 0000 00 01 03 0000 00"), [0, 0, 0, 6]);
+    assert_eq!(codes("0001 01 01 00 0000 00 01 00 0000 00"), [0, 0, 7]);
+}
+
+#[test]
+fn k_offset_in_length_sixteen() {
+    let setup = "0001 01 0A 00 00 08 00 00 00 01 00 0000 00";
+    assert_eq!(last_code(&format!("{setup} 0B 00 00 000F 01")), 0);
+    assert_eq!(last_code(&format!("{setup} 0B 00 00 0010 01")), 17);
+    assert_eq!(last_code(&format!("{setup} 0C 00 00 000F 01")), 0);
+    assert_eq!(last_code(&format!("{setup} 0C 00 00 0010 01")), 17);
+}
+
+#[test]
+fn k_revoke_of_sixteen_and_fifteen_cells() {
+    assert_eq!(last_code("0001 01 05 00 0000"), 0);
+    assert_eq!(last_code("0001 01 02 00 0000 000F 05 00 0000"), 10);
+}
+
+#[test]
+fn k_collect_with_no_and_one_cell_left() {
+    assert_eq!(last_code("0001 01 05 00 0000 06 00 0010 07 00"), 0);
+    assert_eq!(last_code("0001 01 05 00 0000 06 00 000F 07 00"), 11);
+}
+
+#[test]
+fn k_number_of_pages() {
+    assert_eq!(codes("0100 01"), [0]);
+    assert_eq!(codes("0101 01"), [1]);
+}
+
+#[test]
+fn starts_out_of_range_or_short_are_refused() {
+    for start in ["", "00", "0001", "0000 01", "0001 00", "0001 81", "FFFF FF", "0101 01 0E"] {
+        assert_eq!(session(&hex::bytes(start).unwrap()), b"1 0 0\n", "{start}");
+    }
+    assert_eq!(codes("0001 80"), [0]);
+}
+
+#[test]
+fn a_session_ends_after_refusal_3() {
+    assert_eq!(codes("0001 01 00 07 00"), [0, 3]);
+    assert_eq!(codes("0001 01 11 00 00 00"), [0, 3]);
+    assert_eq!(codes("0001 01 07 00 05 00 00"), [0, 11, 3]);
+}
+
+#[test]
+fn bytes_beyond_the_limit_are_not_looked_at() {
+    let mut input = vec![0, 1, 1];
+    input.resize(40_000, 0x07);
+    let lines = session(&input);
+    // 07 07 is a collect by party 7, refused under 5; 32,765 bytes hold 16,382 and a cut one.
+    let count = lines.iter().filter(|byte| **byte == b'\n').count();
+    assert_eq!(count, 1 + 16_382 + 1);
+    assert!(lines.ends_with(b"5 0 0\n3 0 0\n"));
+}
+
+#[test]
+fn refusals_1_and_2_come_before_a_command_is_read() {
+    let mut state = State::start(2, 1).unwrap();
+    let (mut cells, mut tags) = ([0; 16], [0; 16]);
+    let mut short = Memory { cells: &mut cells[..15], tags: &mut tags };
+    let (answer, used) = state.command(&mut short, &[], 0);
+    assert_eq!((answer.code, used), (2, 0));
+    let mut long_tags = [0; 17];
+    let mut memory = Memory { cells: &mut cells, tags: &mut long_tags };
+    assert_eq!(state.command(&mut memory, &[], 0).0.code, 2);
+    state.mailboxes[7].cell = 1;
+    assert_eq!(state.command(&mut memory, &[], 0).0.code, 1);
+    let before = state.clone();
+    let call = Call { party: 0, action: Action::Collect };
+    assert_eq!(state.call(&mut memory, call).code, 1);
+    assert_eq!(state, before);
+}
+
+#[test]
+fn a_command_is_read_from_its_place() {
+    let mut state = State::start(2, 1).unwrap();
+    let (mut cells, mut tags) = ([0; 16], [0; 16]);
+    let mut memory = Memory { cells: &mut cells, tags: &mut tags };
+    let input = [0xFF, 0x0A, 0x00, 0x00, 0xFF];
+    let (answer, used) = state.command(&mut memory, &input, 1);
+    assert_eq!((answer.code, used), (0, 3));
+    assert_eq!(state.command(&mut memory, &input, 4).0.code, 3);
+    assert_eq!(state.command(&mut memory, &input, 5).0.code, 3);
+    assert_eq!(state.command(&mut memory, &input, 6).0.code, 3);
+}
+
+#[test]
+fn odd_capabilities_of_a_well_formed_state_are_coped_with() {
+    let mut state = State::start(1, 1).unwrap();
+    let (mut cells, mut tags) = ([7; 16], [5; 16]);
+    let mut memory = Memory { cells: &mut cells, tags: &mut tags };
+    let slot = |cell| cetomuhi_bench::plain::Slot { cell, tag: true };
+    state.registers[1] = [slot(0); 8];
+    // Base 65,535, length 65,535, all bits above: past every page, and no narrowing past 65,535.
+    state.registers[1][1] = slot(u64::MAX);
+    let mut code = |action| state.call(&mut memory, Call { party: 1, action }).code;
+    assert_eq!(code(Action::Load { a: 0, off: 0, d: 0 }), 16);
+    assert_eq!(code(Action::Narrow { s: 0, off: 0, len: 1, mask: 15, d: 0 }), 17);
+    assert_eq!(code(Action::Load { a: 1, off: 2, d: 0 }), 18);
+    assert_eq!(code(Action::Narrow { s: 1, off: 1, len: 1, mask: 15, d: 0 }), 17);
+    assert_eq!(code(Action::Narrow { s: 1, off: 0, len: 1, mask: 0x81, d: 2 }), 0);
+    assert_eq!(state.registers[1][2], slot(0xFFFF | 1 << 16 | 0x81 << 32));
+}
+
+#[test]
+fn a_revocation_agrees_with_the_table() {
+    let (mut cells, mut tags) = ([0; 16], [0; 16]);
+    let mut memory = Memory { cells: &mut cells, tags: &mut tags };
+    let mut state = State::start(2, 1).unwrap();
+    let revoke = Call { party: 0, action: Action::Revoke { base: 0 } };
+    assert_eq!(state.call(&mut memory, revoke).code, 0);
+    assert!(state.is_well_formed());
+    let running = state.revocation.unwrap();
+    state.revocation = None;
+    assert!(!state.is_well_formed());
+    state.revocation = Some(Revocation { place: 17, ..running });
+    assert!(!state.is_well_formed());
+    state.revocation = Some(Revocation { place: 16, ..running });
+    assert!(state.is_well_formed());
+    state.pages.release(running.range);
+    assert!(!state.is_well_formed());
+}

@@ -1,0 +1,194 @@
+#!/usr/bin/env python3
+"""Shows that the checklist's sessions catch its faults.
+
+Puts one fault after another into a copy of the plain implementation in bench/ and runs sessions/
+over it. Each fault must make the sessions that are named with it print something else.
+"""
+
+import pathlib
+import shutil
+import subprocess
+import sys
+import tempfile
+
+ROOT = pathlib.Path(__file__).resolve().parent.parent
+
+# What goes wrong, the file, the text there, what stands in its place, the sessions that show it.
+FAULTS = [
+    (
+        "a take leaves the reservation Open",
+        "step.rs",
+        "row.standing = Standing::Taken;",
+        "",
+        ["lent-once-twice", "lent-once-halves", "lent-once-again"],
+    ),
+    (
+        "a take leaves the reservation with its holder",
+        "step.rs",
+        "row.holder = 0;",
+        "",
+        ["lent-once-twice", "lent-once-halves"],
+    ),
+    (
+        "take, split and give accept Taken ones",
+        "table.rs",
+        "Standing::Open => Ok(index),",
+        "Standing::Open | Standing::Taken => Ok(index),",
+        ["lent-once-twice", "lent-once-halves", "lent-once-again"],
+    ),
+    (
+        "a merge joins a Taken one with an Open one",
+        "table.rs",
+        "&& self.standing == next.standing",
+        "",
+        ["lent-once-twice", "nothing-lost-holders"],
+    ),
+    (
+        "a Dirty frame is mapped",
+        "pages.rs",
+        "self.frames[frame] != FrameUse::Free",
+        "self.frames[frame] == FrameUse::Mapped",
+        ["crosses-over-frame", "crosses-over-page", "crosses-over-orders"],
+    ),
+    (
+        "a zeroed frame keeps its cells",
+        "step.rs",
+        "memory.cells[lent.clone()].fill(0);",
+        "",
+        ["crosses-over-frame", "crosses-over-page", "crosses-over-orders"],
+    ),
+    (
+        "a zeroed frame keeps its tags",
+        "step.rs",
+        "memory.tags[lent].fill(0);",
+        "",
+        ["crosses-over-frame"],
+    ),
+    (
+        "an unmapped page is Unmapped, not Freed",
+        "pages.rs",
+        "self.pages[page] = Page::Freed;",
+        "self.pages[page] = Page::Unmapped;",
+        ["crosses-over-page"],
+    ),
+    (
+        "a store keeps the tags of dying capabilities",
+        "step.rs",
+        "stored.tag && !self.is_dying(stored.cell)",
+        "stored.tag",
+        ["survivor-behind", "survivor-mailbox", "survivor-loader", "survivor-two"],
+    ),
+    (
+        "a collect forgets the registers",
+        "step.rs",
+        "slot.tag &= !range.kills(slot.cell);",
+        "let _ = slot;",
+        ["survivor-behind", "survivor-mailbox", "survivor-loader", "survivor-two"],
+    ),
+    (
+        "a collect forgets the mailboxes",
+        "step.rs",
+        "slot.tag && range.kills(slot.cell)",
+        "slot.tag && slot.cell == 0",
+        ["survivor-mailbox", "lent-once-again"],
+    ),
+    (
+        "a sweep clears nothing",
+        "step.rs",
+        "if dying.kills(*cell) { 0 } else { *tag }",
+        "if dying.kills(*cell) { *tag } else { *tag }",
+        ["survivor-behind", "survivor-two", "lent-once-again"],
+    ),
+    (
+        "a sweep clears every tag",
+        "step.rs",
+        "if dying.kills(*cell) { 0 } else { *tag }",
+        "if dying.kills(*cell) { 0 } else { 0 }",
+        ["survivor-behind", "survivor-two"],
+    ),
+    (
+        "a collect is granted while cells are left",
+        "step.rs",
+        "Some(running) if running.place == self.pages.lent_cells() => running.range,",
+        "Some(running) => running.range,",
+        ["survivor-behind", "survivor-two", "document"],
+    ),
+    (
+        "a split pleads a full table at 63",
+        "table.rs",
+        "self.count == ROWS",
+        "self.count >= ROWS - 1",
+        ["edges", "nothing-lost-fill", "nothing-lost-merge-all", "nothing-lost-holders"],
+    ),
+    (
+        "a merge loses the next one's cells",
+        "table.rs",
+        "self.rows[index].length += next.length;",
+        "",
+        ["edges", "nothing-lost-fill", "nothing-lost-merge-all", "nothing-lost-holders"],
+    ),
+    (
+        "a merge does not move the rows above it",
+        "table.rs",
+        "self.rows.copy_within(index + 2..self.count, index + 1);",
+        "",
+        ["nothing-lost-fill", "nothing-lost-holders"],
+    ),
+    (
+        "a split does not move the rows above it",
+        "table.rs",
+        "self.rows.copy_within(index + 1..self.count, index + 2);",
+        "",
+        ["nothing-lost-fill", "nothing-lost-holders"],
+    ),
+    (
+        "register 8 is taken for a register",
+        "step.rs",
+        "*number > 7",
+        "*number > 8",
+        ["edges"],
+    ),
+]
+
+
+def differing_sessions(bench):
+    """The sessions that differ, or None if the program does not even end."""
+    command = ["cargo", "run", "--quiet", "--bin", "check_sessions", "--", ROOT / "sessions"]
+    done = subprocess.run(command, cwd=bench, capture_output=True, text=True, check=False)
+    if "error: could not compile" in done.stderr:
+        sys.exit(done.stderr)
+    if "sessions agree" not in done.stdout:
+        return None
+    names = [line.split(": ")[0] for line in done.stdout.splitlines() if ": " in line]
+    return {pathlib.Path(name).stem for name in names}
+
+
+def try_fault(bench, fault):
+    """Whether every session that is named with the fault shows it."""
+    words, name, old, new, sessions = fault
+    path = bench / "src/plain" / name
+    sound = path.read_text()
+    if sound.count(old) != 1:
+        sys.exit(f"{words}: '{old}' stands {sound.count(old)} times in {name}")
+    path.write_text(sound.replace(old, new))
+    found = differing_sessions(bench)
+    path.write_text(sound)
+    missed = [] if found is None else sorted(set(sessions) - found)
+    shown = "the program stops" if found is None else " ".join(sorted(found)) or "nothing"
+    print(f"{words}: shown by {shown}" + (f", MISSED by {' '.join(missed)}" if missed else ""))
+    return not missed
+
+
+def main():
+    with tempfile.TemporaryDirectory() as folder:
+        bench = pathlib.Path(folder, "bench")
+        shutil.copytree(ROOT / "bench", bench, ignore=shutil.ignore_patterns("target"))
+        if differing_sessions(bench) != set():
+            sys.exit("sessions differ without a fault")
+        caught = [try_fault(bench, fault) for fault in FAULTS]
+    print(f"{sum(caught)} faults caught, {len(caught) - sum(caught)} missed")
+    sys.exit(0 if all(caught) else 1)
+
+
+if __name__ == "__main__":
+    main()

@@ -1,0 +1,102 @@
+#!/usr/bin/env python3
+"""Tries tools/hex: the reader of session files and the words for their calls."""
+
+import pathlib
+import subprocess
+import tempfile
+import unittest
+
+ROOT = pathlib.Path(__file__).resolve().parent.parent
+
+
+def hex_tool(text, *options):
+    """Exit status, output and error text of tools/hex over a file with this text."""
+    with tempfile.TemporaryDirectory() as folder:
+        path = pathlib.Path(folder, "session.hex")
+        path.write_bytes(text if isinstance(text, bytes) else text.encode())
+        command = [ROOT / "tools/hex", path, *options]
+        done = subprocess.run(command, capture_output=True, check=False)
+        return done.returncode, done.stdout, done.stderr.decode().replace(f"{path}: ", "")
+
+
+class Reader(unittest.TestCase):
+    def gives(self, text, expected):
+        self.assertEqual(hex_tool(text), (0, expected, ""))
+
+    def refuses(self, text, fault):
+        status, output, error = hex_tool(text)
+        self.assertEqual((status, output, error.strip()), (1, b"", fault))
+
+    def test_digits_blanks_and_comments(self):
+        self.gives("", b"")
+        self.gives("# nothing 0A\n\n", b"")
+        self.gives("0a 0B\t0C0d # 0E\r\nFF", b"\x0a\x0b\x0c\x0d\xff")
+        self.gives("0 A 0\t0\n", b"\x0a\x00")
+
+    def test_bad_digits_name_their_line(self):
+        self.refuses("00 02 01\n0A 0G 00\n", "line 2: 'G' is no hexadecimal digit")
+        self.refuses("0x00", "line 1: 'x' is no hexadecimal digit")
+        self.refuses(b"\n\n\xff", "line 3: 'ÿ' is no hexadecimal digit")
+
+    def test_odd_counts_name_their_line(self):
+        self.refuses("00 02 01\n\n0A 00 0 # 0\n", "line 3: 5 digits, an odd count")
+        self.refuses("0\n0", "line 1: 1 digits, an odd count")
+
+    def test_a_missing_file(self):
+        command = [ROOT / "tools/hex", ROOT / "no such file"]
+        done = subprocess.run(command, capture_output=True, check=False)
+        self.assertEqual((done.returncode, done.stdout), (1, b""))
+        self.assertIn(b"No such file", done.stderr)
+
+
+class Words(unittest.TestCase):
+    def words(self, text):
+        status, output, error = hex_tool(text, "--explain-only")
+        self.assertEqual((status, error), (0, ""))
+        return output.decode().splitlines()
+
+    def test_every_command_has_words(self):
+        commands = {
+            "01 01 0102 03": "party 1 takes the reservation at cell 258 into register 3",
+            "02 01 0102 0304": "party 1 splits the reservation at cell 258, 772 cells below",
+            "03 01 0102": "party 1 merges the reservation at cell 258 with the next one",
+            "04 01 0102 03": "party 1 gives the reservation at cell 258 to party 3",
+            "05 01 0102": "party 1 revokes the reservation at cell 258",
+            "06 01 0102": "party 1 sweeps the next 258 cells",
+            "07 01": "party 1 collects",
+            "08 01 02 03": "party 1 maps page 2 to frame 3",
+            "09 01 02": "party 1 unmaps page 2",
+            "0A 01 02": "party 1 zeroes frame 2",
+            "0B 01 02 0304 05": "party 1 loads through register 2, offset 772, into register 5",
+            "0C 01 02 0304 05": "party 1 stores register 5 through register 2, offset 772",
+            "0D 01 02 0304 0506 07 08": "party 1 narrows register 2 to 1286 cells from offset 772 "
+            "on, permissions 7, into register 8",
+            "0E 01 02 0000000000010000": "party 1 sets register 2 to the number 65536",
+            "0F 01 02 03": "party 1 grants register 2 to party 3",
+            "10 01 02": "party 1 receives into register 2",
+        }
+        text = "0100 80\n" + "\n".join(commands)
+        self.assertEqual(self.words(text), ["start with V 256 and F 128", *commands.values()])
+
+    def test_where_a_session_ends(self):
+        start = "start with V 1 and F 1"
+        self.assertEqual(self.words("0001"), ["start, cut short"])
+        self.assertEqual(self.words("000101 11 0700"), [start, "11 is no command"])
+        self.assertEqual(self.words("000101 0B 00"), [start, "the input ends within command 0B"])
+
+    def test_no_byte_beyond_the_limit(self):
+        words = self.words("000101" + "0700" * 20000)
+        self.assertEqual(len(words), 1 + 16382 + 1)
+        self.assertEqual(words[-1], "the input ends within command 07")
+
+    def test_lines_stand_beside_their_calls(self):
+        with tempfile.NamedTemporaryFile("w") as lines:
+            lines.write("0 0 0\n11 0 0\n")
+            lines.flush()
+            status, output, _ = hex_tool("000101 0700 0700", "--explain", lines.name)
+        expected = "0 0 0   start with V 1 and F 1\n11 0 0  party 0 collects\n"
+        self.assertEqual((status, output.decode()), (0, expected))
+
+
+if __name__ == "__main__":
+    unittest.main()
