@@ -5,13 +5,10 @@ use mathlib.Core.List.{List, [], _∷_}
 use mathlib.Core.Path.{_≡_}
 use lib.ListN.{length, getD}
 use lib.Dec.{ltb, leb}
+use Rattle.pages.specs.Lists.{pick}
 use Rattle.calls.specs.Commands.{lengthOf, callAt}
 use Rattle.calls.specs.declared.Reading.{Reading}
 use Rattle.calls.specs.declared.Reading.the-variants.{Read, Refused}
-
-abbrev pub pick : {A : Type 0} → Bool → A → A → A
-pick true x y = x
-pick false x y = y
 
 -- The first byte; 0, which is no command, where there is none.
 abbrev pub first : List ℕ → ℕ

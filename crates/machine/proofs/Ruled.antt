@@ -17,7 +17,6 @@ use Rattle.pages.specs.Sweep.{sweptTags, sweepOf}
 use Rattle.reservations.specs.declared.Core.{Core}
 use Rattle.reservations.specs.Revocation.{core, running, revoked, sweepReasons, coreSwept, passing, sweptCore, sweepCoreOf}
 use Rattle.machine.specs.declared.State.{State}
-use Rattle.machine.specs.declared.Answered.{Answered}
 use Rattle.machine.specs.Formed.{answered}
 use Rattle.machine.specs.declared.Slot.{Slot}
 use Rattle.machine.specs.Words.{empty, byteOf, collectedRegister, collectedMailbox}

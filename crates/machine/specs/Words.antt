@@ -1,7 +1,7 @@
 -- Document 01, 'Things and their sizes': "There are 8 parties, 0 to 7 .. Each party has 8 registers (a cell and its
 -- tag) and one mailbox for one capability". Assumes nothing.
 use Prim.Native.Nat.{ℕ, _+_, _*_}
-use mathlib.Core.Bool.{Bool, true, false, not, _&&_}
+use mathlib.Core.Bool.{Bool, false, not, _&&_}
 use mathlib.Core.List.{List}
 use lib.ListN.{getD}
 use lib.Dec.{ltb, eqb}

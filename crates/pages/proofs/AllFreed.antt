@@ -1,18 +1,16 @@
 -- A range whose pages are all Freed. Assumes nothing.
-use Prim.Native.Nat.{ℕ, _+_, _<_}
+use Prim.Native.Nat.{_+_}
 use native.Mathlib.Nat.{zero-add}
 use mathlib.Core.Bool.{Bool, true, false, not, _&&_, _||_}
-use mathlib.Core.Path.{_≡_, refl, sym, ap, _∙_}
+use mathlib.Core.Path.{_≡_, refl, ap}
 use lib.ListN.{length, getD}
 use Rattle.pages.specs.declared.Pages.{Pages}
 use Rattle.pages.specs.declared.Range.{Range}
-use Rattle.pages.specs.declared.PageEntry.{PageEntry}
 use Rattle.pages.specs.declared.PageState.{PageState}
 use Rattle.pages.specs.declared.PageState.the-variants.{Unmapped, Freed, Mapped}
 use Rattle.pages.specs.Entries.{isMapped, pageEntry}
 use Rattle.pages.specs.Freed.{isFreed, freedIn, allFreed}
 use Rattle.pages.specs.Layer.{pageAt}
-use Rattle.pages.specs.Lists.{each}
 use Rattle.pages.specs.Mapping.{notMappedIn, anyMapped, freedOf, freedEntry}
 use Rattle.pages.specs.Range.{pageInside}
 use Rattle.pages.proofs.Lists.{each-at, each-all, length-mapEach}

@@ -1,31 +1,27 @@
--- What well-formedness says of each page and frame, and the way back; and that every operation keeps it. Assumes nothing.
-use Prim.Native.Nat.{ℕ, zero, suc, _+_, _*_, _<_, _≤_}
+-- What well-formedness says of each page and frame, the way back, and what change of an entry keeps it. Assumes nothing.
+use Prim.Native.Nat.{ℕ, zero, suc, _<_, _≤_}
 use native.Mathlib.Nat.{zero-add}
 use native.Mathlib.Omega.{arith}
-use mathlib.Core.Bool.{Bool, true, false, not, _&&_, true≢false, false≢true}
+use mathlib.Core.Bool.{Bool, true, false, _&&_}
 use mathlib.Core.List.{List}
 use mathlib.Core.Path.{_≡_, refl, sym, ap, subst, _∙_}
 use lib.ListN.{length, getD, set, length-set, replicate, getD-replicate}
 use lib.Seq.{getD-set-same, getD-set-other, set-getD}
 use lib.Dec.{leb, ltb, eqb}
-use borrow.Author.Tests.{ltb-true, ltb-false, leb-true, leb-false, eqb-true, eqb-false, lt-ltb, le-ltb, le-leb, eq-eqb, ne-eqb, not-false}
+use borrow.Author.Tests.{ltb-true, leb-true, eqb-true, eqb-false, lt-ltb, le-leb, eq-eqb}
 use Rattle.pages.specs.declared.Pages.{Pages}
-use Rattle.pages.specs.declared.Range.{Range}
-use Rattle.pages.specs.declared.Frame.{Frame}
-use Rattle.pages.specs.declared.VirtualPage.{VirtualPage}
 use Rattle.pages.specs.declared.PageEntry.{PageEntry}
 use Rattle.pages.specs.declared.FrameEntry.{FrameEntry}
 use Rattle.pages.specs.declared.PageState.{PageState}
-use Rattle.pages.specs.declared.PageState.the-variants.{Unmapped, Freed, Mapped}
+use Rattle.pages.specs.declared.PageState.the-variants.{Unmapped}
 use Rattle.pages.specs.declared.FrameState.{FrameState}
-use Rattle.pages.specs.declared.FrameState.the-variants.{Dirty, Free, Mapped as Shown}
-use Rattle.pages.specs.Entries.{isUnmapped, isMapped, maps, mapsBelow, isDirty, isFree, isShown, pageEntry, frameEntry}
+use Rattle.pages.specs.declared.FrameState.the-variants.{Dirty}
+use Rattle.pages.specs.Entries.{mapsBelow, isShown, pageEntry, frameEntry}
 use Rattle.pages.specs.Layer.{pageAt, frameAt, withPage, withFrame, inRange, blank, shaped, mappings, pageSound, frameSound, wellFormed}
 use Rattle.pages.specs.Lists.{pick, each}
 use Rattle.pages.specs.Mapping.{withPages}
-use Rattle.pages.proofs.Choice.{pick-yes, pick-no, pick-twice, and-left, and-right}
+use Rattle.pages.proofs.Choice.{pick-yes, pick-twice, and-left, and-right}
 use Rattle.pages.proofs.Lists.{each-at, each-all}
-use Rattle.pages.proofs.Mappings.{one, mappings-set}
 
 abbrev page₀ : PageEntry
 page₀ = pageEntry Unmapped

@@ -2,23 +2,23 @@
 use Prim.Native.Nat.{ℕ, _+_, _*_, _<_, _≤_}
 use native.Mathlib.Nat.{zero-add}
 use native.Mathlib.Omega.{arith}
-use mathlib.Core.Bool.{Bool, true, false, not, _&&_, true≢false, false≢true}
+use mathlib.Core.Bool.{Bool, true, false, _&&_, true≢false}
 use mathlib.Core.Path.{_≡_, refl, sym, ap, _∙_}
 use lib.ListN.{length, getD}
 use lib.Dec.{leb, ltb}
-use borrow.Author.Tests.{ltb-true, le-ltb, lt-ltb, ltb-false, not-true, not-false}
+use borrow.Author.Tests.{ltb-true, lt-ltb, not-true, not-false}
 use Rattle.pages.specs.declared.Pages.{Pages}
 use Rattle.pages.specs.declared.PageEntry.{PageEntry}
 use Rattle.pages.specs.declared.PageState.{PageState}
 use Rattle.pages.specs.declared.PageState.the-variants.{Unmapped, Freed, Mapped}
 use Rattle.pages.specs.declared.Range.{Range}
-use Rattle.pages.specs.Entries.{isUnmapped, isMapped, maps, mapsBelow, pageEntry}
+use Rattle.pages.specs.Entries.{isUnmapped, isMapped, maps, pageEntry}
 use Rattle.pages.specs.Layer.{pageAt, pageSound, wellFormed}
-use Rattle.pages.specs.Lists.{pick, each, mapEach}
+use Rattle.pages.specs.Lists.{pick, mapEach}
 use Rattle.pages.specs.Mapping.{notMappedIn, anyMapped, freedEntry, freedOf, releasedEntry, releasedOf}
 use Rattle.pages.specs.Range.{inside, pageInside}
 use Rattle.pages.proofs.Choice.{pick-yes, pick-twice, and-left, and-right}
-use Rattle.pages.proofs.Formed.{Sound, sound, formed, pages-changed}
+use Rattle.pages.proofs.Formed.{sound, formed, pages-changed}
 use Rattle.pages.proofs.Lists.{each-at, length-mapEach, getD-mapEach}
 use Rattle.pages.proofs.Mappings.{mappings-mapEach}
 

@@ -1,31 +1,26 @@
 -- Every operation of the page layer keeps it well formed, granted or refused. Assumes nothing.
-use Prim.Native.Nat.{ℕ, _+_, _*_, _<_, _≤_}
-use native.Mathlib.Nat.{zero-add}
+use Prim.Native.Nat.{ℕ, _+_, _<_}
 use native.Mathlib.Omega.{arith}
-use mathlib.Core.Bool.{Bool, true, false, not, _&&_, _||_, true≢false, false≢true}
+use mathlib.Core.Bool.{Bool, true, false, not, _||_, false≢true}
 use mathlib.Core.List.{List}
-use mathlib.Core.Path.{_≡_, refl, sym, ap, subst, _∙_}
-use lib.ListN.{length, getD, set, replicate, getD-replicate, length-replicate}
-use lib.Dec.{leb, ltb, eqb}
-use borrow.Author.Tests.{ltb-true, ltb-false, leb-true, leb-false, eqb-true, eqb-false, lt-ltb, le-ltb, ne-eqb, eq-eqb, not-false, not-true}
+use mathlib.Core.Path.{_≡_, refl, sym}
+use lib.ListN.{length, set}
+use lib.Dec.{eqb}
+use borrow.Author.Tests.{ltb-true, leb-false, eqb-true, lt-ltb, ne-eqb, eq-eqb, not-false}
 use Rattle.pages.specs.declared.Pages.{Pages}
-use Rattle.pages.specs.declared.Paged.{Paged}
-use Rattle.pages.specs.declared.Range.{Range}
 use Rattle.pages.specs.declared.Frame.{Frame}
 use Rattle.pages.specs.declared.VirtualPage.{VirtualPage}
-use Rattle.pages.specs.declared.PageEntry.{PageEntry}
 use Rattle.pages.specs.declared.PageState.{PageState}
 use Rattle.pages.specs.declared.PageState.the-variants.{Unmapped, Freed, Mapped}
-use Rattle.pages.specs.declared.FrameState.{FrameState}
 use Rattle.pages.specs.declared.FrameState.the-variants.{Dirty, Free, Mapped as Shown}
-use Rattle.pages.specs.Entries.{isUnmapped, isMapped, maps, mapsBelow, isDirty, isFree, isShown, pageEntry, frameEntry}
-use Rattle.pages.specs.Layer.{pageAt, frameAt, withPage, withFrame, serves, mappings, wellFormed, inRange, freshOf, blank}
-use Rattle.pages.specs.Lists.{pick, mapEach}
+use Rattle.pages.specs.Entries.{isUnmapped, isMapped, maps, isFree, isShown, pageEntry}
+use Rattle.pages.specs.Layer.{pageAt, frameAt, withPage, withFrame, mappings, wellFormed, inRange, freshOf, blank}
+use Rattle.pages.specs.Lists.{pick}
 use Rattle.pages.specs.Mapping.{paged, noPage, noFrame, mapReasons, mapped, mapOf, unmapReasons, unmapped, unmapOf, soiled, zeroReasons, zeroOf}
 use Rattle.pages.specs.Refusals.{first}
-use Rattle.pages.proofs.Choice.{pick-yes, pick-no, or-false, at-most}
+use Rattle.pages.proofs.Choice.{pick-yes, or-false, at-most}
 use Rattle.pages.proofs.Formed.{Sound, sound, formed, mapped-once, maps-low, changed, frame-changed, blank-sound}
-use Rattle.pages.proofs.Mappings.{one, mappings-set}
+use Rattle.pages.proofs.Mappings.{mappings-set}
 use Rattle.pages.proofs.Memory.{zero-served}
 use Rattle.pages.proofs.Refusals.{first-clear}
 use Rattle.pages.proofs.States.{is-unmapped, is-free}
@@ -139,7 +134,7 @@ zero-keeps s frame cells tags h =
     let z = zero-served s frame (length cells) (length tags) e in
     formed (withFrame s (frame .0) Free) (frame-changed s (sound s h) (frame .0) Free (z .below) (rw (z .dirty))))
 
--- A fresh layer is well formed exactly if V and F are in range.
+-- A fresh layer is well formed if V and F are in range.
 pub fresh-formed : (v f : ℕ) → inRange v f ≡ true → wellFormed (freshOf v f) ≡ true
 unfolding freshOf
 fresh-formed v f e = rw (pick-yes (inRange v f) (blank v f) (blank 0 0) e) (formed (blank v f) (blank-sound v f e))

@@ -3,12 +3,12 @@ use Prim.Native.Nat.{ℕ, zero, suc, _+_, _<_, _≤_}
 use native.Mathlib.Nat.{add-zero, add-suc, suc-add, zero-add}
 use native.Mathlib.Numerals.{add-one}
 use native.Mathlib.Omega.{arith}
-use mathlib.Core.Bool.{Bool, true, false, _&&_, and-true, and-assoc, true-and}
+use mathlib.Core.Bool.{Bool, true, _&&_, and-true, and-assoc}
 use mathlib.Core.List.{List, [], _∷_, _++_, append-nil, map}
 use mathlib.Core.Path.{_≡_, refl, sym, ap, _∙_}
 use lib.ListN.{length, getD, take, drop, set, drop-of-length-le}
 use lib.Seq.{take-suc, take-all, length-take-le, getD-at, set-at, drop-cons, append-snoc}
-use Rattle.pages.specs.Lists.{pick, each, mapEach}
+use Rattle.pages.specs.Lists.{each, mapEach}
 use Rattle.pages.proofs.Choice.{and-left, and-right}
 
 module _ {A : Type 0} (P : ℕ → A → Bool) where

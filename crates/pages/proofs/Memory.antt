@@ -1,12 +1,12 @@
 -- A frame's sixteen cells, lent as a part of memory and cleared. Assumes nothing.
 use Prim.Native.Nat.{ℕ, _+_, _-_, _*_, _≤_, _<_}
 use native.Mathlib.Omega.{arith}
-use mathlib.Core.Bool.{Bool, true, false, not, _&&_}
-use mathlib.Core.List.{List, [], _∷_, _++_}
-use mathlib.Core.Path.{_≡_, refl, sym, ap, _∙_}
+use mathlib.Core.Bool.{true, not}
+use mathlib.Core.List.{List, _++_}
+use mathlib.Core.Path.{_≡_, refl, sym}
 use lib.ListN.{length, take, drop, replicate, length-drop}
 use lib.Seq.{length-take-le, drop-drop}
-use lib.Dec.{eqb, leb}
+use lib.Dec.{eqb}
 use borrow.Author.Tests.{eqb-true, leb-false, not-false, ne-eqb}
 use Rattle.pages.specs.declared.Frame.{Frame}
 use Rattle.pages.specs.declared.Pages.{Pages}
@@ -14,7 +14,7 @@ use Rattle.pages.specs.declared.FrameState.the-variants.{Dirty, Free}
 use Rattle.pages.specs.Entries.{isDirty}
 use Rattle.pages.specs.Layer.{frameAt, serves, withFrame}
 use Rattle.pages.specs.Mapping.{zeroReasons, dirtyReasons, noFrame, cleared, zeroed, zeroOf}
-use Rattle.pages.specs.Refusals.{reason, first}
+use Rattle.pages.specs.Refusals.{first}
 use Rattle.pages.proofs.Choice.{and-left, and-right}
 use Rattle.pages.proofs.Refusals.{first-clear}
 use Rattle.pages.proofs.States.{is-dirty}

@@ -3,13 +3,13 @@ use Prim.Native.Nat.{ℕ}
 use mathlib.Core.Bool.{Bool, true, false}
 use mathlib.Core.List.{List, _∷_}
 use mathlib.Core.Path.{_≡_, refl, sym, ap}
-use borrow.Author.Tests.{ne-eqb, eq-eqb}
+use borrow.Author.Tests.{ne-eqb}
 use lib.Dec.{eqb}
 use Rattle.pages.specs.declared.Pages.{Pages}
 use Rattle.pages.specs.declared.Paged.{Paged}
 use Rattle.pages.specs.Mapping.{paged}
 use Rattle.pages.specs.Refusals.{Reason, reason, first}
-use Rattle.pages.proofs.Choice.{pick-yes, pick-no}
+use Rattle.pages.proofs.Choice.{pick-no}
 
 pub refused : (k : ℕ) (s t : Pages) → (k ≡ 0 → ⊥) → _≡_ {A = Paged} (record { code = k; pages = s }) (paged k s t)
 refused k s t h = ap (λ p. record { code = k; pages = p }) (sym (pick-no (eqb k 0) t s (ne-eqb k 0 h)))

@@ -1,26 +1,25 @@
 -- What a page shows: after map what its frame held, and after zero nothing but 0. Assumes nothing.
 use Prim.Native.Nat.{ℕ, _+_, _-_, _*_, _/_, _%_, _<_, _≤_}
 use native.Mathlib.Omega.{arith}
-use mathlib.Core.Bool.{Bool, true, false}
+use mathlib.Core.Bool.{true}
 use mathlib.Core.List.{List, _++_}
-use mathlib.Core.Path.{_≡_, refl, sym, ap, _∙_}
-use lib.ListN.{length, getD, take, drop, replicate, set, length-append, length-replicate, getD-replicate, length-take, length-drop, List·getD-append}
-use lib.Seq.{getD-set-same, getD-take, getD-drop, getD-append-add, length-take-le}
+use mathlib.Core.Path.{_≡_, sym, ap, _∙_}
+use lib.ListN.{length, getD, take, drop, replicate, length-append, getD-replicate, length-drop, List·getD-append}
+use lib.Seq.{getD-take, getD-drop, getD-append-add, length-take-le}
 use lib.Dec.{ltb}
 use borrow.Author.Tests.{lt-ltb}
 use Rattle.pages.specs.declared.Pages.{Pages}
 use Rattle.pages.specs.declared.Frame.{Frame}
 use Rattle.pages.specs.declared.VirtualPage.{VirtualPage}
-use Rattle.pages.specs.declared.PageState.the-variants.{Unmapped, Mapped}
+use Rattle.pages.specs.declared.PageState.the-variants.{Mapped}
 use Rattle.pages.specs.declared.FrameState.the-variants.{Mapped as Shown}
 use Rattle.pages.specs.declared.Place.the-variants.{At, Nowhere}
-use Rattle.pages.specs.Entries.{pageEntry}
 use Rattle.pages.specs.Layer.{pageAt, withPage, withFrame}
-use Rattle.pages.specs.Lists.{pick}
-use Rattle.pages.specs.Mapping.{mapped, cleared, lookupOf, placeIn}
+use Rattle.pages.specs.Mapping.{mapped, cleared, zeroOf, lookupOf, placeIn}
 use Rattle.pages.proofs.Choice.{pick-yes}
 use Rattle.pages.proofs.Formed.{Sound}
 use Rattle.pages.proofs.Kept.{Mappable}
+use Rattle.pages.proofs.Memory.{zero-served}
 use Rattle.pages.proofs.View.{page-put, page-of-frame}
 
 -- The page layer's three facts about a frame of memory: cleared cells are 0, the others are as they were, and none is gained or lost.
@@ -78,3 +77,12 @@ map-shows s page frame i h m b =
     let p : (16 * page .0 + i) / 16 ≡ page .0 = omega arith in
     let o : (16 * page .0 + i) % 16 ≡ i = omega arith in
     rw (p, o, pick-yes (ltb (page .0) (mapped s page frame .v)) (placeIn (pageAt (mapped s page frame) (page .0)) i) Nowhere (low s page frame m), shows s page frame h m)
+
+-- After a granted zero the frame's cells and tags are all 0.
+pub zero-blank :
+    (s : Pages) (frame : Frame) (cells tags : List ℕ) (i : ℕ) → zeroOf s frame cells tags .answer .code ≡ 0 → i < 16
+    → (getD (zeroOf s frame cells tags .cells) (16 * frame .0 + i) 0 ≡ 0) × (getD (zeroOf s frame cells tags .tags) (16 * frame .0 + i) 0 ≡ 0)
+unfolding zeroOf
+zero-blank s frame cells tags i e b =
+    let z = zero-served s frame (length cells) (length tags) e in
+    (rw e (cleared-here frame cells (omega (arith, z .of-cells, z .below)) i b), rw e (cleared-here frame tags (omega (arith, z .of-tags, z .below)) i b))

@@ -1,5 +1,5 @@
 -- The sweep's loop: its next cell is still as it was, and one cell more is passed in a turn. Assumes nothing.
-use Prim.Native.Nat.{ℕ, _+_, _-_, _*_, _/_, _<_, _≤_}
+use Prim.Native.Nat.{ℕ, _+_, _/_, _<_, _≤_}
 use native.Mathlib.Nat.{zero-add}
 use native.Mathlib.Omega.{arith}
 use mathlib.Core.Bool.{Bool, true, false, _&&_, and-false}
@@ -12,7 +12,7 @@ use borrow.Author.Tests.{ltb-true, ltb-false, lt-ltb, le-ltb, le-leb, lt-leb, eq
 use Rattle.pages.specs.declared.FrameEntry.{FrameEntry}
 use Rattle.pages.specs.declared.Range.{Range}
 use Rattle.pages.specs.Capability.{baseOf}
-use Rattle.pages.specs.Lists.{pick, mapEach}
+use Rattle.pages.specs.Lists.{pick}
 use Rattle.pages.specs.Range.{inside}
 use Rattle.pages.specs.Sweep.{shownAt, sweptTag, sweptTags}
 use Rattle.pages.proofs.Choice.{pick-twice}
@@ -75,6 +75,14 @@ module _ (frames : List FrameEntry) (r : Range) (from : ℕ) (cells tags : List 
           go false e =
               getD-set-other (sweptTags frames r from i cells tags) i j (pick (doomed frames r cells i) 0 (getD tags i 0)) 0 (eqb-false j i e)
               ∙ getD-swept i j m ∙ rw (← (ltb-next j i (eqb-false j i e))) (sym (getD-swept (i + 1) j m))
+
+  -- A cell whose capability is none that the sweep clears needs no write.
+  pub swept-stay : (i : ℕ) → i < length tags → from ≤ i → doomed frames r cells i ≡ false
+      → sweptTags frames r from i cells tags ≡ sweptTags frames r from (i + 1) cells tags
+  swept-stay i h k e =
+      sym (set-getD (sweptTags frames r from i cells tags) i 0)
+      ∙ ap (λ x. set (sweptTags frames r from i cells tags) i x) (swept-next i h ∙ rw e)
+      ∙ swept-hit i h k
 
   -- An untagged cell needs no write.
   pub swept-miss : (i : ℕ) → i < length tags → from ≤ i → getD (sweptTags frames r from i cells tags) i 0 ≡ 0

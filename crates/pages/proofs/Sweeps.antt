@@ -1,7 +1,6 @@
 -- What a sweep does to memory, whatever it holds: a sweep of n and then of m is one of n + m; no tag is set; and among
 -- the cells passed in Mapped frames no tagged one has its base in the range. Assumes nothing.
-use Prim.Native.Nat.{ℕ, _+_, _-_, _*_, _/_, _<_, _≤_, min}
-use native.Mathlib.Nat.{zero-add}
+use Prim.Native.Nat.{ℕ, _+_, _-_, _*_, _<_, _≤_}
 use native.Mathlib.Omega.{arith}
 use mathlib.Core.Bool.{Bool, true, false, _&&_, _||_, and-false}
 use mathlib.Core.List.{List}
@@ -10,14 +9,13 @@ use mathlib.Core.Path.{_≡_, refl, sym, ap, _∙_}
 use lib.ListN.{length, getD}
 use lib.Seq.{ext-getD}
 use lib.Dec.{leb, ltb}
-use borrow.Author.Tests.{ltb-true, ltb-false, lt-ltb, le-ltb, le-leb, lt-leb, leb-true, leb-false}
+use borrow.Author.Tests.{ltb-true, ltb-false, lt-ltb, le-leb, lt-leb, leb-false}
 use Rattle.pages.specs.declared.FrameEntry.{FrameEntry}
 use Rattle.pages.specs.declared.Pages.{Pages}
 use Rattle.pages.specs.declared.Range.{Range}
 use Rattle.pages.specs.Lists.{pick}
 use Rattle.pages.specs.Layer.{serves}
-use Rattle.pages.specs.Sweep.{passed, sweptTags, sweepOf}
-use Rattle.pages.proofs.Choice.{pick-yes, pick-no}
+use Rattle.pages.specs.Sweep.{passed, sweptTags, swept, passing, sweepOf}
 use Rattle.pages.proofs.Sweeping.{doomed, length-swept, getD-swept}
 
 -- Passing n cells and then m passes n + m.
@@ -80,3 +78,13 @@ module _ (frames : List FrameEntry) (r : Range) (cells tags : List ℕ) where
   pub swept-other : (from upto i : ℕ) → i < length tags → doomed frames r cells i ≡ false
       → getD (sweptTags frames r from upto cells tags) i 0 ≡ getD tags i 0
   swept-other from upto i b d = getD-swept frames r from cells tags upto i b ∙ rw (d, and-false (leb from i && ltb i upto))
+
+-- A sweep of n cells and then one of m is a sweep of n + m: the same answer, place and tags.
+pub sweep-sum :
+    (s : Pages) (r : Range) (place n m : ℕ) (cells tags : List ℕ) → serves s (length cells) (length tags) ≡ true
+    → sweepOf s r (place + passed s place n) m cells (sweepOf s r place n cells tags .tags) ≡ sweepOf s r place (n + m) cells tags
+unfolding sweepOf
+sweep-sum s r place n m cells tags h =
+    rw (h, length-swept (s .frames) r place cells tags (place + passed s place n), h, passed-sum s place n m)
+    (ap (λ t. passing (swept 0 (16 * s .f - (place + passed s place n + passed s (place + passed s place n) m)) (place + passed s place n + passed s (place + passed s place n) m)) t)
+    (swept-twice (s .frames) r cells tags place (place + passed s place n) (place + passed s place n + passed s (place + passed s place n) m) (omega arith) (omega arith)))

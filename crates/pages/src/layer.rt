@@ -101,7 +101,7 @@ impl Pages {
         FrameState::Dirty
     }
 
-    pub fn with_page(mut self, page: VirtualPage, state: PageState) -> Pages
+    pub(crate) fn with_page(mut self, page: VirtualPage, state: PageState) -> Pages
         ensures { λ r. ⌜ r ≡ withPage self (page .0) state ⌝ }
     {
         self.pages[page.0 as usize] = PageEntry { state };
@@ -109,7 +109,7 @@ impl Pages {
     }
 
     // Past the table's end nothing changes.
-    pub fn with_frame(mut self, frame: Frame, state: FrameState) -> Pages
+    pub(crate) fn with_frame(mut self, frame: Frame, state: FrameState) -> Pages
         ensures { λ r. ⌜ r ≡ withFrame self (frame .0) state ⌝ }
     {
         let k = frame.0 as usize;

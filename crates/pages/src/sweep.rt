@@ -26,15 +26,15 @@ fn shown_at(frames: [FrameEntry; 128], frame: usize) -> bool
     false
 }
 
-// The tag of a cell that the sweep passes.
-fn swept_tag(shown: bool, range: Range, cell: u64, tag: u8) -> u8
-    ensures { λ r. ⌜ r ≡ pick (shown && inside range (baseOf cell)) 0 tag ⌝ }
+// Whether the capability in a cell that the sweep passes loses its tag.
+fn doomed(shown: bool, range: Range, cell: u64) -> bool
+    ensures { λ r. ⌜ r ≡ (shown && inside range (baseOf cell)) ⌝ }
 {
     let dying = inside(range, base_of(cell) as u32);
-    if shown & dying { 0 } else { tag }
+    shown & dying
 }
 
-// Passes the cells from one place up to another. Most are untagged, so the tag is looked at first.
+// Passes the cells from one place up to another. Most are untagged, so the tag is looked at first; nothing is written but 0.
 fn sweep_tags(
     frames: [FrameEntry; 128],
     range: Range,
@@ -51,7 +51,9 @@ fn sweep_tags(
         let tag = tags[i];
         if tag != 0 {
             let shown = shown_at(frames, i / 16);
-            tags[i] = swept_tag(shown, range, cells[i], tag);
+            if doomed(shown, range, cells[i]) {
+                tags[i] = 0;
+            }
         }
         i += 1;
     }

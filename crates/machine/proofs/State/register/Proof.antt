@@ -2,7 +2,7 @@ use borrow.Author.Needs.{needs}
 use borrow.Author.Tests.{ltb-true}
 use lib.Dec.{ltb}
 use native.Mathlib.Omega.{arith}
-use mathlib.Core.Path.{_≡_, sym, _∙_}
+use mathlib.Core.Path.{sym, _∙_}
 use Rattle.pages.proofs.Choice.{pick-yes, pick-no, and-left, and-right}
 use Rattle.machine.specs.Words.{registerOf}
 use Rattle.machine.proofs.State.register.Statement.{statement}

@@ -2,7 +2,6 @@ use borrow.Author.Needs.{needs}
 use mathlib.Core.Path.{sym, _∙_, ap}
 use borrow.Author.Tests.{not-true, not-false}
 use Rattle.machine.specs.Step.{left}
-use Rattle.machine.specs.Formed.{answered}
 use Rattle.machine.proofs.Ruled.{judged-ruled, judged-size}
 use Rattle.machine.proofs.State.step.Statement.{statement}
 use Rattle.machine.proofs.State.step.Tie as tie

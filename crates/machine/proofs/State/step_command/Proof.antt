@@ -2,7 +2,7 @@ use borrow.Author.Needs.{needs}
 use mathlib.Core.Path.{sym, _∙_, ap}
 use borrow.Author.Tests.{not-true, not-false}
 use Rattle.machine.specs.Step.{Outcome, left}
-use Rattle.machine.specs.Command.{commandJudged, onReading, Ran, ran}
+use Rattle.machine.specs.Command.{commandJudged, onReading, ran}
 use Rattle.machine.proofs.State.step_command.Statement.{statement}
 use Rattle.machine.proofs.State.step_command.Tie as tie
 

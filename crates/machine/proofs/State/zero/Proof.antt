@@ -1,5 +1,5 @@
 use borrow.Author.Needs.{needs}
-use mathlib.Core.Path.{_≡_, sym, _∙_, ap}
+use mathlib.Core.Path.{sym, _∙_, ap}
 use Rattle.machine.specs.Reasons.{unnamed, notManager}
 use Rattle.machine.specs.Words.{empty}
 use Rattle.machine.specs.Step.{left}

@@ -9,7 +9,7 @@ use Rattle.pages.proofs.Arrays.{length-under}
 use Rattle.pages.proofs.Lists.{mapEach-turn, mapEach-whole, mapEach-map}
 use Rattle.pages.specs.Capability.{baseOf}
 use Rattle.pages.specs.declared.Range.{Range}
-use Rattle.pages.specs.Lists.{pick, mapEach}
+use Rattle.pages.specs.Lists.{mapEach}
 use Rattle.pages.specs.Range.{inside}
 use Rattle.machine.specs.declared.Slot.{Slot}
 use Rattle.machine.specs.Words.{keepTag, empty}

@@ -4,12 +4,12 @@ use borrow.Author.Needs.{needs}
 use mathlib.Core.Bool.{Bool}
 use mathlib.Core.List.{List}
 use lib.Dec.{ltb, eqb}
-use mathlib.Core.Path.{_≡_, refl, sym, _∙_, ap, subst}
+use mathlib.Core.Path.{_≡_, refl, _∙_, ap}
 use lib.ListN.{length, take, getD}
 use Rattle.pages.specs.Entries.{frameEntry, isShown, isDirty}
 use Rattle.pages.specs.declared.FrameState.the-variants.{Dirty}
 use Rattle.pages.specs.declared.FrameEntry.{FrameEntry}
-use Rattle.pages.specs.Layer.{Tally, frameSound}
+use Rattle.pages.specs.Layer.{frameSound}
 use Rattle.pages.specs.Lists.{each, pick}
 use Rattle.pages.proofs.Lists.{each-more, each-same}
 use Rattle.pages.proofs.Arrays.{length-under}

@@ -1,8 +1,7 @@
 use Rattle.pages.proofs.Replacing.{replaced, replaced-none, replaced-more, replaced-all}
-use borrow.Author.Needs.{needs}
 use Prim.Native.Nat.{_≤_, _-_}
 use native.Mathlib.Omega.{arith}
-use mathlib.Core.Path.{_≡_, refl, sym, _∙_, ap}
+use mathlib.Core.Path.{_≡_}
 use lib.ListN.{length}
 use Rattle.pages.specs.declared.PageState.the-variants.{Unmapped}
 use Rattle.pages.specs.Entries.{pageEntry}

@@ -1,5 +1,4 @@
 use borrow.Author.Needs.{needs}
-use mathlib.Core.Path.{_∙_}
 use Rattle.pages.specs.Mapping.{soiled}
 use Rattle.pages.proofs.Pages.soiled.Statement.{statement}
 use Rattle.pages.proofs.Pages.soiled.Tie as tie

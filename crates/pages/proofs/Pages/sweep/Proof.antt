@@ -5,7 +5,6 @@ use native.Mathlib.Omega.{arith}
 use lib.ListN.{length}
 use Rattle.pages.specs.Layer.{serves}
 use Rattle.pages.specs.Sweep.{sweepOf, passed}
-use Rattle.pages.proofs.Choice.{pick-yes, pick-no}
 use Rattle.pages.proofs.Memory.{served}
 use Rattle.pages.proofs.Pages.sweep.Statement.{statement}
 use Rattle.pages.proofs.Pages.sweep.Tie as tie

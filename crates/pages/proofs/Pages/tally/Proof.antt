@@ -1,8 +1,8 @@
 use native.Mathlib.Omega.{arith}
 use Prim.Native.Nat.{_≤_, _-_, _+_}
 use borrow.Author.Needs.{needs}
-use mathlib.Core.Path.{_≡_, refl, sym, _∙_, ap, subst}
-use lib.ListN.{length, take, getD, set, getD-replicate, length-set}
+use mathlib.Core.Path.{_≡_, refl, sym, subst}
+use lib.ListN.{length, take, getD-replicate, length-set}
 use Rattle.pages.specs.Entries.{pageEntry}
 use Rattle.pages.specs.declared.PageState.the-variants.{Unmapped}
 use Rattle.pages.specs.Layer.{Tally, mappings}

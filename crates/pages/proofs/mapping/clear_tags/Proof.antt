@@ -2,7 +2,7 @@ use lib.ListN.{length-set, set}
 use native.Mathlib.Omega.{arith}
 use Prim.Native.Nat.{_≤_, _-_}
 use borrow.Author.Needs.{needs}
-use mathlib.Core.Path.{_≡_, refl, sym, _∙_, ap}
+use mathlib.Core.Path.{_≡_, refl, _∙_, ap}
 use lib.ListN.{length, drop, replicate, drop-of-length-le}
 use mathlib.Core.List.{_++_, append-nil}
 use borrow.Author.Fill.{fill-none, fill-more}

@@ -1,5 +1,5 @@
 use borrow.Author.Needs.{needs}
-use mathlib.Core.Path.{sym, _∙_}
+use mathlib.Core.Path.{sym}
 use Rattle.pages.proofs.Choice.{pick-yes, pick-no}
 use Rattle.pages.specs.Mapping.{freedEntry}
 use Rattle.pages.proofs.ranges.freed_entry.Statement.{statement}

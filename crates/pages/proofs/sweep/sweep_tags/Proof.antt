@@ -2,10 +2,10 @@ use borrow.Author.Needs.{needs}
 use Prim.Native.Nat.{_≤_, _<_, _-_, _+_}
 use native.Mathlib.Omega.{arith}
 use mathlib.Core.Path.{_≡_, refl, sym, _∙_, ap}
-use lib.ListN.{length, length-set, set, getD}
-use Rattle.pages.specs.Lists.{pick}
+use lib.ListN.{length, getD}
+use Rattle.pages.proofs.Choice.{pick-yes}
 use Rattle.pages.specs.Sweep.{sweptTags}
-use Rattle.pages.proofs.Sweeping.{length-swept, swept-none, swept-next, swept-hit, swept-miss}
+use Rattle.pages.proofs.Sweeping.{doomed, length-swept, swept-none, swept-hit, swept-stay, swept-miss}
 use mathlib.Core.Logic.{⊎-elim}
 use Rattle.pages.proofs.sweep.sweep_tags.Statement.{statement}
 use Rattle.pages.proofs.sweep.sweep_tags.Tie as tie
@@ -25,17 +25,17 @@ slice-read-tag c = omega (arith, c .before .before .before .before .before .pre 
 shown-at-requires : tie.Need-shown-at-requires Inv-loop μ-loop
 shown-at-requires c κs = search needs
 
-mul-swept-tag : tie.Need-mul-swept-tag Inv-loop μ-loop
-mul-swept-tag c = omega (arith, c .before .before .before .before .before .before .before .pre .2 (omega arith), c .before .before .before .before .before .before .before .good)
+mul-doomed : tie.Need-mul-doomed Inv-loop μ-loop
+mul-doomed c = omega (arith, c .before .before .before .before .before .before .before .pre .2 (omega arith), c .before .before .before .before .before .before .before .good)
 
-shared-slice-read-swept-tag : tie.Need-shared-slice-read-swept-tag Inv-loop μ-loop
-shared-slice-read-swept-tag c = omega (arith, c .before .before .before .before .before .before .before .before .pre .0, c .before .before .before .before .before .before .before .before .pre .2 (omega arith))
+shared-slice-read-doomed : tie.Need-shared-slice-read-doomed Inv-loop μ-loop
+shared-slice-read-doomed c = omega (arith, c .before .before .before .before .before .before .before .before .pre .0, c .before .before .before .before .before .before .before .before .pre .2 (omega arith))
 
-swept-tag-requires : tie.Need-swept-tag-requires Inv-loop μ-loop
-swept-tag-requires c κs = search needs
+doomed-requires : tie.Need-doomed-requires Inv-loop μ-loop
+doomed-requires c κs = search needs
 
 slice-write-tags : tie.Need-slice-write-tags Inv-loop μ-loop
-slice-write-tags c = omega (arith, c .before .before .before .before .before .before .before .before .before .pre .2 (omega arith))
+slice-write-tags c = omega (arith, c .before .before .before .before .before .before .before .before .before .before .pre .2 (omega arith))
 
 add-i : tie.Need-add-i Inv-loop μ-loop
 add-i c = omega arith
@@ -47,8 +47,11 @@ loop-again : tie.Need-loop-again Inv-loop μ-loop
 loop-again c =
     let h : c .before .before .before .loop .i < length (c .before .before .before .before .before .before .args .tags .now) = omega (arith, c .before .before .before .before .before .before .pre .2 (omega arith)) in
     let e : c .if1 .tags ≡ sweptTags (c .before .before .before .before .before .before .args .frames) (c .before .before .before .before .before .before .args .range) (c .before .before .before .before .before .before .args .from) (c .before .before .before .loop .i + 1) (c .before .before .before .before .before .before .args .cells .now) (c .before .before .before .before .before .before .args .tags .now) =
-    ⊎-elim (λ w. rw (w .4, w .3 .ensures, w .1 .ensures, c .before .before .before .loop .inv .3, swept-next (c .before .before .before .before .before .before .args .frames) (c .before .before .before .before .before .before .args .range) (c .before .before .before .before .before .before .args .from) (c .before .before .before .before .before .before .args .cells .now) (c .before .before .before .before .before .before .args .tags .now) (c .before .before .before .loop .i) h) (swept-hit (c .before .before .before .before .before .before .args .frames) (c .before .before .before .before .before .before .args .range) (c .before .before .before .before .before .before .args .from) (c .before .before .before .before .before .before .args .cells .now) (c .before .before .before .before .before .before .args .tags .now) (c .before .before .before .loop .i) h (omega arith)))
-    (λ w. rw (w .1) (c .before .before .before .loop .inv .3 ∙ swept-miss (c .before .before .before .before .before .before .args .frames) (c .before .before .before .before .before .before .args .range) (c .before .before .before .before .before .before .args .from) (c .before .before .before .before .before .before .args .cells .now) (c .before .before .before .before .before .before .args .tags .now) (c .before .before .before .loop .i) h (omega arith) (rw (c .before .before .before .loop .inv .3) at (w .0 .left)))) (c .if1 .came)
+    ⊎-elim
+    (λ w. rw (w .5, c .before .before .before .loop .inv .3, ← (pick-yes (doomed (c .before .before .before .before .before .before .args .frames) (c .before .before .before .before .before .before .args .range) (c .before .before .before .before .before .before .args .cells .now) (c .before .before .before .loop .i)) 0 (getD (c .before .before .before .before .before .before .args .tags .now) (c .before .before .before .loop .i) 0) (rw (← (w .1 .ensures)) (sym (w .3 .ensures) ∙ w .4 .taken)))) (swept-hit (c .before .before .before .before .before .before .args .frames) (c .before .before .before .before .before .before .args .range) (c .before .before .before .before .before .before .args .from) (c .before .before .before .before .before .before .args .cells .now) (c .before .before .before .before .before .before .args .tags .now) (c .before .before .before .loop .i) h (omega arith)))
+    (⊎-elim
+    (λ w. rw (w .5) (c .before .before .before .loop .inv .3 ∙ swept-stay (c .before .before .before .before .before .before .args .frames) (c .before .before .before .before .before .before .args .range) (c .before .before .before .before .before .before .args .from) (c .before .before .before .before .before .before .args .cells .now) (c .before .before .before .before .before .before .args .tags .now) (c .before .before .before .loop .i) h (omega arith) (rw (← (w .1 .ensures)) (sym (w .3 .ensures) ∙ w .4 .left))))
+    (λ w. rw (w .1) (c .before .before .before .loop .inv .3 ∙ swept-miss (c .before .before .before .before .before .before .args .frames) (c .before .before .before .before .before .before .args .range) (c .before .before .before .before .before .before .args .from) (c .before .before .before .before .before .before .args .cells .now) (c .before .before .before .before .before .before .args .tags .now) (c .before .before .before .loop .i) h (omega arith) (rw (c .before .before .before .loop .inv .3) at (w .0 .left))))) (c .if1 .came)
     in
     (omega arith, omega arith, ap length e ∙ length-swept (c .before .before .before .before .before .before .args .frames) (c .before .before .before .before .before .before .args .range) (c .before .before .before .before .before .before .args .from) (c .before .before .before .before .before .before .args .cells .now) (c .before .before .before .before .before .before .args .tags .now) (c .before .before .before .loop .i + 1), e)
 
@@ -67,9 +70,9 @@ sweep-tags-spec =
     loop-holds
     slice-read-tag
     shown-at-requires
-    mul-swept-tag
-    shared-slice-read-swept-tag
-    swept-tag-requires
+    mul-doomed
+    shared-slice-read-doomed
+    doomed-requires
     slice-write-tags
     add-i
     loop-less

@@ -1,0 +1,18 @@
+use borrow.Author.Needs.{needs}
+use Rattle.pages.proofs.sweep.doomed.Statement.{statement}
+use Rattle.pages.proofs.sweep.doomed.Tie as tie
+
+base-of-requires : tie.Need-base-of-requires
+base-of-requires c κs = search needs
+
+cast-inside : tie.Need-cast-inside
+cast-inside c = search needs
+
+inside-requires : tie.Need-inside-requires
+inside-requires c κs = search needs
+
+returns : tie.Need-returns
+returns c = rw (c .inside .ensures, c .before .base-of .ensures)
+
+pub doomed-spec : {M : Type 1} → statement M
+doomed-spec = tie.close (tie.spec base-of-requires cast-inside inside-requires returns)
