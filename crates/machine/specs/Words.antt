@@ -5,7 +5,6 @@ use mathlib.Core.Bool.{Bool, false, not, _&&_}
 use mathlib.Core.List.{List}
 use lib.ListN.{getD}
 use lib.Dec.{ltb, eqb}
-use Rattle.pages.specs.Capability.{permits}
 use Rattle.pages.specs.Lists.{pick}
 use Rattle.reservations.specs.declared.Core.{Core}
 use Rattle.reservations.specs.Revocation.{dying}
@@ -43,10 +42,6 @@ byteOf tag = pick tag 1 0
 -- The word at a place of lent memory.
 unfoldable pub wordAt : List ℕ → List ℕ → ℕ → Slot
 wordAt cells tags at = slot (getD cells at 0) (tagOf (getD tags at 0))
-
--- 0B: a loaded word's "tag is dropped without permission 4".
-abbrev pub loaded : Slot → Slot → Slot
-loaded a w = keepTag w (permits (a .cell) 4)
 
 -- 0C: "While a revocation runs, a capability with base in the range is stored with tag 0."
 abbrev pub stored : Core → Slot → Slot

@@ -1,3 +1,4 @@
+-- `machine::State::addressed` meets its contract. The page layer's lookup at base + off, by the contracts of the two callees.
 use borrow.Author.Needs.{needs}
 use Rattle.machine.specs.Reasons.{addressed}
 use Rattle.machine.proofs.State.addressed.Statement.{statement}

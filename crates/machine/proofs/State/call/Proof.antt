@@ -1,3 +1,4 @@
+-- `machine::State::call` meets its contract. Refusal 1 where the test of well-formedness fails; else the step's own contract.
 use borrow.Author.Needs.{needs}
 use mathlib.Core.Path.{sym, _∙_}
 use borrow.Author.Tests.{not-true, not-false}

@@ -1,3 +1,4 @@
+-- `machine::State::collect` meets its contract. Refused by `ruled-down`; granted, the two loops leave the words that `done-collect` names.
 use borrow.Author.Needs.{needs}
 use Rattle.reservations.specs.Revocation.{collectOf, dying}
 use Rattle.pages.specs.Refusals.{first}

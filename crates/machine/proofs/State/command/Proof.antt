@@ -1,3 +1,4 @@
+-- `machine::State::command` meets its contract. Refusal 1 where the test of well-formedness fails; else the contract of `step_command`.
 use borrow.Author.Needs.{needs}
 use mathlib.Core.Path.{sym, _∙_}
 use borrow.Author.Tests.{not-true, not-false}

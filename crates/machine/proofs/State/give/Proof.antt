@@ -1,3 +1,4 @@
+-- `machine::State::give` meets its contract. Refused by `ruled-down`; granted, the table's own give and `done-core`.
 use borrow.Author.Needs.{needs}
 use mathlib.Core.Path.{_∙_}
 use Rattle.pages.specs.Refusals.{first}

@@ -1,3 +1,4 @@
+-- `machine::State::grant` meets its contract. Refused by `ruled-down`; granted, one mailbox is put: `done-mailbox`.
 use borrow.Author.Needs.{needs}
 use Rattle.machine.specs.Step.{withCore}
 use Rattle.pages.specs.Refusals.{first}

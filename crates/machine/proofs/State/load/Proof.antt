@@ -1,3 +1,4 @@
+-- `machine::State::load` meets its contract. Refused by `ruled-down`; granted, the word at the place goes to the register and is the answer: `done-fetch`.
 use borrow.Author.Needs.{needs}
 use Rattle.machine.specs.Step.{withCore}
 use Rattle.pages.specs.Refusals.{first}

@@ -1,3 +1,4 @@
+-- `machine::State::mailbox` meets its contract. Below 8 the array's element; past its end the default of `getD`.
 use borrow.Author.Needs.{needs}
 use native.Mathlib.Omega.{arith}
 use lib.ListN.{length, List·getD-eq-default}

@@ -1,3 +1,4 @@
+-- `machine::State::map` meets its contract. Refused by `ruled-down`; granted, the page layer's own map and `done-core`.
 use borrow.Author.Needs.{needs}
 use Rattle.pages.specs.Mapping.{mapOf}
 use Rattle.pages.specs.Refusals.{first}

@@ -1,3 +1,4 @@
+-- `machine::State::narrow` meets its contract. Refused by `ruled-down`; granted, one register is put: `done-register`.
 use borrow.Author.Needs.{needs}
 use Rattle.machine.specs.Step.{withCore}
 use Rattle.pages.specs.Refusals.{first}

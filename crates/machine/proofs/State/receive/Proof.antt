@@ -1,3 +1,4 @@
+-- `machine::State::receive` meets its contract. Refused by `ruled-down`; granted, a register and a mailbox are put: `done-both`.
 use borrow.Author.Needs.{needs}
 use Rattle.machine.specs.Step.{withCore}
 use Rattle.pages.specs.Refusals.{first}

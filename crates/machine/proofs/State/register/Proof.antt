@@ -1,3 +1,4 @@
+-- `machine::State::register` meets its contract. Both numbers below 8 give an index below 64; else the register is none.
 use borrow.Author.Needs.{needs}
 use borrow.Author.Tests.{ltb-true}
 use lib.Dec.{ltb}

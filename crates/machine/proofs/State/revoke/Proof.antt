@@ -1,3 +1,4 @@
+-- `machine::State::revoke` meets its contract. Refused by `ruled-down`; granted, the core's own revoke and `done-core`.
 use borrow.Author.Needs.{needs}
 use Rattle.reservations.specs.Revocation.{revokeOf}
 use Rattle.pages.specs.Refusals.{first}

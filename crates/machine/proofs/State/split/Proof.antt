@@ -1,3 +1,4 @@
+-- `machine::State::split` meets its contract. Refused by `ruled-down`; granted, the table's own split and `done-core`.
 use borrow.Author.Needs.{needs}
 use mathlib.Core.Path.{_∙_}
 use Rattle.machine.proofs.Ruled.{ruled-down, ruled-done, done-core}

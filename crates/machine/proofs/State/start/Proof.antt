@@ -1,3 +1,4 @@
+-- `machine::State::start` meets its contract. By the two outcomes of the range test.
 use borrow.Author.Needs.{needs}
 use mathlib.Core.Path.{sym, _∙_}
 use Rattle.machine.specs.Formed.{startOf, fresh}

@@ -1,3 +1,4 @@
+-- `machine::State::step` meets its contract. Refusal 2 where memory is of another size; else each arm hands over what its own method ensures (`judged-ruled`).
 use borrow.Author.Needs.{needs}
 use mathlib.Core.Path.{sym, _∙_, ap}
 use borrow.Author.Tests.{not-true, not-false}

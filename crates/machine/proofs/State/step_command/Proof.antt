@@ -1,3 +1,4 @@
+-- `machine::State::step_command` meets its contract. Refusal 2, the reader's refusal 3, or the step's own contract with the bytes that the reader used.
 use borrow.Author.Needs.{needs}
 use mathlib.Core.Path.{sym, _∙_, ap}
 use borrow.Author.Tests.{not-true, not-false}

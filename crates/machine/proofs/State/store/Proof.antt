@@ -1,3 +1,4 @@
+-- `machine::State::store` meets its contract. Refused by `ruled-down`; granted, one cell and its tag are written: `done-write`.
 use borrow.Author.Needs.{needs}
 use Rattle.machine.specs.Step.{withCore}
 use Rattle.pages.specs.Refusals.{first}
@@ -49,7 +50,23 @@ refused-requires c κs = search needs
 
 returns : tie.Need-returns
 unfolding first reasons
-returns c = rw (c .refused .ensures) (ruled-down (c .before .before .before .before .before .before .before .before .before .before .before .before .before .before .before .before .before .args .self) (Store (c .before .before .before .before .before .before .before .before .before .before .before .before .before .before .before .before .before .args .party) (c .before .before .before .before .before .before .before .before .before .before .before .before .before .before .before .before .before .args .a) (c .before .before .before .before .before .before .before .before .before .before .before .before .before .before .before .before .before .args .off) (c .before .before .before .before .before .before .before .before .before .before .before .before .before .before .before .before .before .args .s)) (c .before .before .first5 .result) (rw (c .before .before .first5 .ensures, c .before .before .before .first4 .ensures, c .before .before .before .before .first3 .ensures, c .before .before .before .before .before .may-not-store .ensures, c .before .before .before .before .before .before .before .unnamed .ensures, c .before .before .before .before .before .before .before .before .first2 .ensures, c .before .before .before .before .before .before .before .before .before .first .ensures, c .before .before .before .before .before .before .before .before .before .before .nowhere .ensures, c .before .before .before .before .before .before .before .before .before .before .before .length-of .ensures, c .before .before .before .before .before .before .before .before .before .before .before .before .addressed .ensures, c .before .before .before .before .before .before .before .before .before .before .before .before .before .before .register .ensures, c .before .before .before .before .before .before .before .before .before .before .before .before .before .register2 .ensures)) (c .before .if1 .taken) (c .before .before .before .before .before .before .before .before .before .before .before .before .before .before .before .before .before .args .cells .now) (c .before .before .before .before .before .before .before .before .before .before .before .before .before .before .before .before .before .args .tags .now))
+returns c =
+    let refused = c .refused in
+    let a = c .before .before .before .before .before .before .before .before .before .before .before .before .before .before .before .before .before .args in
+    let first5 = c .before .before .first5 in
+    let first4 = c .before .before .before .first4 in
+    let first3 = c .before .before .before .before .first3 in
+    let may-not-store = c .before .before .before .before .before .may-not-store in
+    let unnamed = c .before .before .before .before .before .before .before .unnamed in
+    let first2 = c .before .before .before .before .before .before .before .before .first2 in
+    let first = c .before .before .before .before .before .before .before .before .before .first in
+    let nowhere = c .before .before .before .before .before .before .before .before .before .before .nowhere in
+    let length-of = c .before .before .before .before .before .before .before .before .before .before .before .length-of in
+    let addressed = c .before .before .before .before .before .before .before .before .before .before .before .before .addressed in
+    let register = c .before .before .before .before .before .before .before .before .before .before .before .before .before .before .register in
+    let register2 = c .before .before .before .before .before .before .before .before .before .before .before .before .before .register2 in
+    let if1 = c .before .if1 in
+    rw (refused .ensures) (ruled-down (a .self) (Store (a .party) (a .a) (a .off) (a .s)) (first5 .result) (rw (first5 .ensures, first4 .ensures, first3 .ensures, may-not-store .ensures, unnamed .ensures, first2 .ensures, first .ensures, nowhere .ensures, length-of .ensures, addressed .ensures, register .ensures, register2 .ensures)) (if1 .taken) (a .cells .now) (a .tags .now))
 
 dying-requires : tie.Need-dying-requires
 dying-requires c κs = search needs
@@ -77,7 +94,28 @@ same-length-2 c = search needs
 
 returns-2 : tie.Need-returns-2
 unfolding first reasons effect withCore
-returns-2 c = ruled-done (c .before .before .before .before .before .before .before .before .before .before .before .before .before .before .before .before .before .before .before .before .before .before .before .before .before .before .before .before .before .args .self) (Store (c .before .before .before .before .before .before .before .before .before .before .before .before .before .before .before .before .before .before .before .before .before .before .before .before .before .before .before .before .before .args .party) (c .before .before .before .before .before .before .before .before .before .before .before .before .before .before .before .before .before .before .before .before .before .before .before .before .before .before .before .before .before .args .a) (c .before .before .before .before .before .before .before .before .before .before .before .before .before .before .before .before .before .before .before .before .before .before .before .before .before .before .before .before .before .args .off) (c .before .before .before .before .before .before .before .before .before .before .before .before .before .before .before .before .before .before .before .before .before .before .before .before .before .before .before .before .before .args .s)) (c .before .before .before .before .before .before .before .before .before .before .before .before .before .before .first5 .result) (rw (c .before .before .before .before .before .before .before .before .before .before .before .before .before .before .first5 .ensures, c .before .before .before .before .before .before .before .before .before .before .before .before .before .before .before .first4 .ensures, c .before .before .before .before .before .before .before .before .before .before .before .before .before .before .before .before .first3 .ensures, c .before .before .before .before .before .before .before .before .before .before .before .before .before .before .before .before .before .may-not-store .ensures, c .before .before .before .before .before .before .before .before .before .before .before .before .before .before .before .before .before .before .before .unnamed .ensures, c .before .before .before .before .before .before .before .before .before .before .before .before .before .before .before .before .before .before .before .before .first2 .ensures, c .before .before .before .before .before .before .before .before .before .before .before .before .before .before .before .before .before .before .before .before .before .first .ensures, c .before .before .before .before .before .before .before .before .before .before .before .before .before .before .before .before .before .before .before .before .before .before .nowhere .ensures, c .before .before .before .before .before .before .before .before .before .before .before .before .before .before .before .before .before .before .before .before .before .before .before .length-of .ensures, c .before .before .before .before .before .before .before .before .before .before .before .before .before .before .before .before .before .before .before .before .before .before .before .before .addressed .ensures, c .before .before .before .before .before .before .before .before .before .before .before .before .before .before .before .before .before .before .before .before .before .before .before .before .before .before .register .ensures, c .before .before .before .before .before .before .before .before .before .before .before .before .before .before .before .before .before .before .before .before .before .before .before .before .before .register2 .ensures)) (c .before .before .before .before .before .before .before .before .before .before .before .before .before .if1 .left) (c .before .before .before .before .before .before .before .before .before .before .before .before .before .before .before .before .before .before .before .before .before .before .before .before .before .before .before .before .before .args .cells .now) (c .before .before .before .before .before .before .before .before .before .before .before .before .before .before .before .before .before .before .before .before .before .before .before .before .before .before .before .before .before .args .tags .now) _ (rw (c .granted .ensures, c .before .before .before .put-tag .ensures, c .before .before .before .before .before .before .before .put-cell .ensures, c .before .before .before .before .before .before .before .before .before .before .keep-tag .ensures, c .before .before .before .before .before .before .before .before .before .before .before .dying .ensures, c .before .before .before .before .before .before .before .before .before .place-number .ensures, c .before .before .before .before .before .before .before .before .before .before .before .before .before .before .before .before .before .before .before .before .before .before .before .before .addressed .ensures, c .before .before .before .before .before .before .before .before .before .before .before .before .before .before .before .before .before .before .before .before .before .before .before .before .before .before .register .ensures, c .before .before .before .before .before .before .before .before .before .before .before .before .before .before .before .before .before .before .before .before .before .before .before .before .before .register2 .ensures) (done-write (c .before .before .before .before .before .before .before .before .before .before .before .before .before .before .before .before .before .before .before .before .before .before .before .before .before .before .before .before .before .args .self) (c .before .before .before .before .before .before .before .before .before .before .before .before .before .before .before .before .before .before .before .before .before .before .before .before .before .before .before .before .before .args .self .core) _ _ _ _ _))
+returns-2 c =
+    let a = c .before .before .before .before .before .before .before .before .before .before .before .before .before .before .before .before .before .before .before .before .before .before .before .before .before .before .before .before .before .args in
+    let first5 = c .before .before .before .before .before .before .before .before .before .before .before .before .before .before .first5 in
+    let first4 = c .before .before .before .before .before .before .before .before .before .before .before .before .before .before .before .first4 in
+    let first3 = c .before .before .before .before .before .before .before .before .before .before .before .before .before .before .before .before .first3 in
+    let may-not-store = c .before .before .before .before .before .before .before .before .before .before .before .before .before .before .before .before .before .may-not-store in
+    let unnamed = c .before .before .before .before .before .before .before .before .before .before .before .before .before .before .before .before .before .before .before .unnamed in
+    let first2 = c .before .before .before .before .before .before .before .before .before .before .before .before .before .before .before .before .before .before .before .before .first2 in
+    let first = c .before .before .before .before .before .before .before .before .before .before .before .before .before .before .before .before .before .before .before .before .before .first in
+    let nowhere = c .before .before .before .before .before .before .before .before .before .before .before .before .before .before .before .before .before .before .before .before .before .before .nowhere in
+    let length-of = c .before .before .before .before .before .before .before .before .before .before .before .before .before .before .before .before .before .before .before .before .before .before .before .length-of in
+    let addressed = c .before .before .before .before .before .before .before .before .before .before .before .before .before .before .before .before .before .before .before .before .before .before .before .before .addressed in
+    let register = c .before .before .before .before .before .before .before .before .before .before .before .before .before .before .before .before .before .before .before .before .before .before .before .before .before .before .register in
+    let register2 = c .before .before .before .before .before .before .before .before .before .before .before .before .before .before .before .before .before .before .before .before .before .before .before .before .before .register2 in
+    let if1 = c .before .before .before .before .before .before .before .before .before .before .before .before .before .if1 in
+    let granted = c .granted in
+    let put-tag = c .before .before .before .put-tag in
+    let put-cell = c .before .before .before .before .before .before .before .put-cell in
+    let keep-tag = c .before .before .before .before .before .before .before .before .before .before .keep-tag in
+    let dying = c .before .before .before .before .before .before .before .before .before .before .before .dying in
+    let place-number = c .before .before .before .before .before .before .before .before .before .place-number in
+    ruled-done (a .self) (Store (a .party) (a .a) (a .off) (a .s)) (first5 .result) (rw (first5 .ensures, first4 .ensures, first3 .ensures, may-not-store .ensures, unnamed .ensures, first2 .ensures, first .ensures, nowhere .ensures, length-of .ensures, addressed .ensures, register .ensures, register2 .ensures)) (if1 .left) (a .cells .now) (a .tags .now) _ (rw (granted .ensures, put-tag .ensures, put-cell .ensures, keep-tag .ensures, dying .ensures, place-number .ensures, addressed .ensures, register .ensures, register2 .ensures) (done-write (a .self) (a .self .core) _ _ _ _ _))
 
 pub store-spec : {M : Type 1} → statement M
 store-spec =

@@ -1,15 +1,14 @@
+-- `machine::State::sweep` meets its contract. Refused by `ruled-down`; granted, a revocation runs and memory is of the right size, so the core's sweep is `sweep-done`.
 use borrow.Author.Needs.{needs}
 use mathlib.Core.Path.{sym, _∙_, ap}
 use mathlib.Core.Bool.{false}
-use Rattle.machine.specs.Reasons.{unnamed, notManager}
+use Rattle.machine.specs.Reasons.{unnamed, notManager, reasons}
 use Rattle.machine.specs.Words.{slot}
-use Rattle.machine.specs.Step.{left}
+use Rattle.machine.specs.Step.{left, withCore}
 use Rattle.machine.specs.Formed.{answered}
 use Rattle.reservations.specs.Revocation.{Passing}
-use Rattle.machine.specs.Step.{withCore}
 use Rattle.pages.specs.Refusals.{first}
 use Rattle.machine.specs.Effects.{effect}
-use Rattle.machine.specs.Reasons.{reasons}
 use Rattle.machine.proofs.Ruled.{ruled-down, ruled-done, manager-clear, runs, sweep-done, done-sweep}
 use Rattle.calls.specs.declared.Call.the-variants.{Sweep}
 use Rattle.machine.proofs.State.sweep.Statement.{statement}

@@ -1,3 +1,4 @@
+-- `machine::State::take` meets its contract. Refused by `ruled-down`; granted, the table's own take and one register: `done-register`.
 use borrow.Author.Needs.{needs}
 use mathlib.Core.Path.{_∙_}
 use Rattle.pages.specs.Refusals.{first}

@@ -1,3 +1,4 @@
+-- `machine::State::unmap` meets its contract. Refused by `ruled-down`; granted, the page layer's own unmap and `done-core`.
 use borrow.Author.Needs.{needs}
 use Rattle.pages.specs.Mapping.{unmapOf}
 use Rattle.pages.specs.Refusals.{first}

@@ -1,3 +1,4 @@
+-- `machine::State::well_formed` meets its contract. The parts' own tests; the arrays have their lengths.
 use borrow.Author.Needs.{needs}
 use lib.ListN.{length}
 use mathlib.Core.Bool.{and-true}

@@ -1,3 +1,4 @@
+-- `machine::State::with_core` meets its contract. By computing.
 use mathlib.Core.Path.{refl}
 use Rattle.machine.specs.Step.{withCore}
 use Rattle.machine.proofs.State.with_core.Statement.{statement}

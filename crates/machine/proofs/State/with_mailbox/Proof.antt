@@ -1,3 +1,4 @@
+-- `machine::State::with_mailbox` meets its contract. Past the array's end `set` changes nothing.
 use borrow.Author.Needs.{needs}
 use mathlib.Core.Path.{_≡_, refl, sym, ap}
 use native.Mathlib.Omega.{arith}

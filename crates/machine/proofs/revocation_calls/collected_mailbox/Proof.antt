@@ -1,3 +1,4 @@
+-- `machine::revocation_calls::collected_mailbox` meets its contract. By the two outcomes of the test, which is `dying`'s.
 use borrow.Author.Needs.{needs}
 use mathlib.Core.Path.{sym}
 use Rattle.pages.proofs.Choice.{pick-yes, pick-no}

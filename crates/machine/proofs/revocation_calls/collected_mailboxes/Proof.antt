@@ -1,3 +1,4 @@
+-- `machine::revocation_calls::collected_mailboxes` meets its contract. After i turns the first i words are replaced: `mapEach-turn`.
 use borrow.Author.Needs.{needs}
 use Prim.Native.Nat.{ℕ, _≤_, _-_}
 use native.Mathlib.Omega.{arith}

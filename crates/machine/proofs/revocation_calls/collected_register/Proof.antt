@@ -1,3 +1,4 @@
+-- `machine::revocation_calls::collected_register` meets its contract. By the contracts of the callees.
 use borrow.Author.Needs.{needs}
 use Rattle.machine.proofs.revocation_calls.collected_register.Statement.{statement}
 use Rattle.machine.proofs.revocation_calls.collected_register.Tie as tie

@@ -1,3 +1,4 @@
+-- `machine::revocation_calls::manager_code` meets its contract. By the contract of `first`, twice.
 use borrow.Author.Needs.{needs}
 use Rattle.machine.proofs.revocation_calls.manager_code.Statement.{statement}
 use Rattle.machine.proofs.revocation_calls.manager_code.Tie as tie

@@ -1,3 +1,4 @@
+-- `machine::step::mailboxes_sound` meets its contract. After i turns the flag says that the first i mailboxes are sound: `each-more`.
 use borrow.Author.Needs.{needs}
 use Prim.Native.Nat.{_≤_, _-_}
 use native.Mathlib.Omega.{arith}

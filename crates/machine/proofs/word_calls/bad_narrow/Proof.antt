@@ -1,3 +1,4 @@
+-- `machine::word_calls::bad_narrow` meets its contract. By the contracts of the callees.
 use borrow.Author.Needs.{needs}
 use Rattle.machine.proofs.word_calls.bad_narrow.Statement.{statement}
 use Rattle.machine.proofs.word_calls.bad_narrow.Tie as tie

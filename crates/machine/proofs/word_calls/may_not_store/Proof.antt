@@ -1,3 +1,4 @@
+-- `machine::word_calls::may_not_store` meets its contract. By the contracts of the callees.
 use borrow.Author.Needs.{needs}
 use Rattle.machine.proofs.word_calls.may_not_store.Statement.{statement}
 use Rattle.machine.proofs.word_calls.may_not_store.Tie as tie

@@ -1,3 +1,4 @@
+-- `machine::word_calls::put_cell` meets its contract. Past the end `set` changes nothing.
 use borrow.Author.Needs.{needs}
 use mathlib.Core.Path.{sym}
 use lib.Seq.{set-out}

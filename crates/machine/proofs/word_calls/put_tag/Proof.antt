@@ -1,3 +1,4 @@
+-- `machine::word_calls::put_tag` meets its contract. Past the end `set` changes nothing; a flag as a byte is 1 or 0.
 use borrow.Author.Needs.{needs}
 use mathlib.Core.Path.{sym}
 use lib.Seq.{set-out}

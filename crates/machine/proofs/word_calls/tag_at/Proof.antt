@@ -1,3 +1,4 @@
+-- `machine::word_calls::tag_at` meets its contract. Past the end the default of `getD`.
 use borrow.Author.Needs.{needs}
 use mathlib.Core.Path.{sym}
 use lib.ListN.{List·getD-eq-default}

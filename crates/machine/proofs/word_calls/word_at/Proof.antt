@@ -1,3 +1,4 @@
+-- `machine::word_calls::word_at` meets its contract. By the contracts of the callees.
 use borrow.Author.Needs.{needs}
 use Rattle.machine.specs.Words.{wordAt}
 use Rattle.machine.proofs.word_calls.word_at.Statement.{statement}

@@ -1,3 +1,4 @@
+-- `pages::Pages::all_freed` meets its contract. After p turns the flag says that the first p pages are Freed where they lie in the range: `each-more`.
 use Prim.Native.Nat.{_≤_, _-_}
 use native.Mathlib.Omega.{arith}
 use mathlib.Core.Path.{_≡_, refl, _∙_, ap}

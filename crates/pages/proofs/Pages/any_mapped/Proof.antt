@@ -1,3 +1,4 @@
+-- `pages::Pages::any_mapped` meets its contract. After p turns the flag says that none of the first p pages is Mapped in the range: `each-more`.
 use Prim.Native.Nat.{_≤_, _-_}
 use native.Mathlib.Omega.{arith}
 use mathlib.Core.Path.{_≡_, refl, _∙_, ap}

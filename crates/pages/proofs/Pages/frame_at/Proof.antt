@@ -1,9 +1,8 @@
+-- `pages::Pages::frame_at` meets its contract. Past the array's end the default of `getD`.
 use borrow.Author.Needs.{needs}
-use mathlib.Core.Path.{refl, sym, ap}
+use mathlib.Core.Path.{refl, sym, ap, _≡_}
 use native.Mathlib.Omega.{arith}
-use lib.ListN.{List·getD-eq-default}
-use mathlib.Core.Path.{_≡_}
-use lib.ListN.{length}
+use lib.ListN.{List·getD-eq-default, length}
 use Rattle.pages.proofs.Arrays.{length-under}
 use Rattle.pages.specs.Layer.{frameAt}
 use Rattle.pages.proofs.Pages.frame_at.Statement.{statement}

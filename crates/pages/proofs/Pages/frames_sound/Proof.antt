@@ -1,3 +1,4 @@
+-- `pages::Pages::frames_sound` meets its contract. The loop tests each frame against the tally, which has the counts of the specification.
 use native.Mathlib.Omega.{arith}
 use Prim.Native.Nat.{ℕ, _≤_, _-_, _+_}
 use borrow.Author.Needs.{needs}

@@ -1,3 +1,4 @@
+-- `pages::Pages::freed` meets its contract. After p turns the first p entries are replaced: `replaced-more`.
 use Rattle.pages.proofs.Replacing.{replaced, replaced-none, replaced-more, replaced-all}
 use Prim.Native.Nat.{_≤_, _-_}
 use native.Mathlib.Omega.{arith}

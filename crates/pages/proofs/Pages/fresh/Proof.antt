@@ -1,3 +1,4 @@
+-- `pages::Pages::fresh` meets its contract. By the two outcomes of the range test.
 use borrow.Author.Needs.{needs}
 use mathlib.Core.Path.{sym, _∙_}
 use Rattle.pages.proofs.Choice.{pick-yes, pick-no}

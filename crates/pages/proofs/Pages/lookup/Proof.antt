@@ -1,3 +1,4 @@
+-- `pages::Pages::lookup` meets its contract. By the two outcomes of the test against V, and the entry's own place.
 use borrow.Author.Needs.{needs}
 use borrow.Author.Tests.{lt-ltb, le-ltb}
 use mathlib.Core.Path.{sym}

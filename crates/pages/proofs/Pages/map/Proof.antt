@@ -1,3 +1,4 @@
+-- `pages::Pages::map` meets its contract. Refused, the layer is as given; granted, the page's and the frame's entries are put.
 use borrow.Author.Needs.{needs}
 use mathlib.Core.Path.{sym, _∙_}
 use Rattle.pages.proofs.Refusals.{refused, granted}

@@ -1,3 +1,4 @@
+-- `pages::Pages::pages_sound` meets its contract. After p turns the flag says that the first p pages are sound: `each-more`.
 use borrow.Author.Needs.{needs}
 use Prim.Native.Nat.{_≤_, _-_}
 use native.Mathlib.Omega.{arith}

@@ -1,3 +1,4 @@
+-- `pages::Pages::soiled` meets its contract. By cases on the page's state.
 use borrow.Author.Needs.{needs}
 use Rattle.pages.specs.Mapping.{soiled}
 use Rattle.pages.proofs.Pages.soiled.Statement.{statement}

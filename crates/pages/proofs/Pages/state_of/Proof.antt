@@ -1,3 +1,4 @@
+-- `pages::Pages::state_of` meets its contract. Past the array's end the default of `getD`.
 use borrow.Author.Needs.{needs}
 use mathlib.Core.Path.{_≡_, refl, sym, ap}
 use native.Mathlib.Omega.{arith}

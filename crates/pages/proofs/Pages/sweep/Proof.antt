@@ -1,3 +1,4 @@
+-- `pages::Pages::sweep` meets its contract. Refusal 2 where memory is of another size; else the loop's tags, the place that it reaches and the cells left.
 use borrow.Author.Needs.{needs}
 use borrow.Author.Tests.{not-true, not-false}
 use mathlib.Core.Path.{sym, _∙_}

@@ -1,3 +1,4 @@
+-- `pages::Pages::tally` meets its contract. After p turns the tally has the counts over the first p pages: a page that maps a frame adds one (`tally-hit`), any other none (`tally-miss`).
 use native.Mathlib.Omega.{arith}
 use Prim.Native.Nat.{_≤_, _-_, _+_}
 use borrow.Author.Needs.{needs}

@@ -1,3 +1,4 @@
+-- `pages::Pages::unmap` meets its contract. Refused, the layer is as given; granted, the page is Freed and its frame soiled.
 use borrow.Author.Needs.{needs}
 use mathlib.Core.Path.{sym, _∙_}
 use Rattle.pages.proofs.Refusals.{refused, granted}

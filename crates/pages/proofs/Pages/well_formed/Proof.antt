@@ -1,3 +1,4 @@
+-- `pages::Pages::well_formed` meets its contract. The conjunction of the parts' tests; the arrays have their lengths.
 use borrow.Author.Needs.{needs}
 use lib.ListN.{length}
 use mathlib.Core.Bool.{and-true}

@@ -1,8 +1,8 @@
+-- `pages::Pages::with_frame` meets its contract. Past the array's end `set` changes nothing.
 use borrow.Author.Needs.{needs}
-use mathlib.Core.Path.{refl}
+use mathlib.Core.Path.{refl, _≡_, sym, ap}
 use lib.Seq.{set-out}
 use native.Mathlib.Omega.{arith}
-use mathlib.Core.Path.{_≡_, sym, ap}
 use lib.ListN.{length}
 use Rattle.pages.proofs.Arrays.{length-under}
 use Rattle.pages.specs.Layer.{withFrame}

@@ -1,3 +1,4 @@
+-- `pages::Pages::with_page` meets its contract. By computing: a byte is below 256.
 use borrow.Author.Needs.{needs}
 use mathlib.Core.Path.{refl}
 use Rattle.pages.specs.Layer.{withPage}

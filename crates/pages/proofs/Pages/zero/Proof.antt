@@ -1,3 +1,4 @@
+-- `pages::Pages::zero` meets its contract. Refused, all is as given; granted, the frame's part of cells and tags is cleared.
 use borrow.Author.Needs.{needs}
 use mathlib.Core.Path.{sym, _∙_}
 use native.Mathlib.Omega.{arith}

@@ -1,3 +1,4 @@
+-- `pages::Pages::zero_code` meets its contract. The nested calls of `first` are the list of reasons.
 use borrow.Author.Needs.{needs}
 use Rattle.pages.specs.Refusals.{first}
 use Rattle.pages.specs.Mapping.{zeroReasons}

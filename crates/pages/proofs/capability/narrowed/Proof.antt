@@ -1,3 +1,4 @@
+-- `pages::capability::narrowed` meets its contract. By the contracts of the three callees.
 use borrow.Author.Needs.{needs}
 use Rattle.pages.proofs.capability.narrowed.Statement.{statement}
 use Rattle.pages.proofs.capability.narrowed.Tie as tie

@@ -1,3 +1,4 @@
+-- `pages::entry::maps_below` meets its contract. By cases on the page's state.
 use borrow.Author.Needs.{needs}
 use Rattle.pages.proofs.entry.maps_below.Statement.{statement}
 use Rattle.pages.proofs.entry.maps_below.Tie as tie

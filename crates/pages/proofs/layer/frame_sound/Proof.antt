@@ -1,3 +1,4 @@
+-- `pages::layer::frame_sound` meets its contract. By the two outcomes of the test against F.
 use borrow.Author.Needs.{needs}
 use mathlib.Core.Path.{sym, _∙_}
 use borrow.Author.Tests.{lt-ltb, le-ltb}

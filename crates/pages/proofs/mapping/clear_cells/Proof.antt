@@ -1,9 +1,9 @@
-use lib.ListN.{length-set, set}
+-- `pages::mapping::clear_cells` meets its contract. After i turns the first i cells are 0 and the others as they were: `fill-more`.
+use lib.ListN.{length-set, set, length, drop, replicate, drop-of-length-le}
 use native.Mathlib.Omega.{arith}
 use Prim.Native.Nat.{_≤_, _-_}
 use borrow.Author.Needs.{needs}
 use mathlib.Core.Path.{_≡_, refl, _∙_, ap}
-use lib.ListN.{length, drop, replicate, drop-of-length-le}
 use mathlib.Core.List.{_++_, append-nil}
 use borrow.Author.Fill.{fill-none, fill-more}
 use Rattle.pages.proofs.mapping.clear_cells.Statement.{statement}

@@ -1,3 +1,4 @@
+-- `pages::mapping::clear_cells_of` meets its contract. The part comes back all 0 between what stood around it: `put-cleared`.
 use borrow.Author.Needs.{needs}
 use Rattle.pages.proofs.Memory.{put-cleared}
 use Rattle.pages.proofs.mapping.clear_cells_of.Statement.{statement}

@@ -1,3 +1,4 @@
+-- `pages::mapping::place_in` meets its contract. By cases on the page's state.
 use borrow.Author.Needs.{needs}
 use Rattle.pages.proofs.mapping.place_in.Statement.{statement}
 use Rattle.pages.proofs.mapping.place_in.Tie as tie

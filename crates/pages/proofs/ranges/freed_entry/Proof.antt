@@ -1,3 +1,4 @@
+-- `pages::ranges::freed_entry` meets its contract. By the two outcomes of the test.
 use borrow.Author.Needs.{needs}
 use mathlib.Core.Path.{sym}
 use Rattle.pages.proofs.Choice.{pick-yes, pick-no}

@@ -1,3 +1,4 @@
+-- `pages::ranges::inside` meets its contract. By computing.
 use borrow.Author.Needs.{needs}
 use mathlib.Core.Path.{refl}
 use Rattle.pages.specs.Range.{inside}

@@ -1,3 +1,4 @@
+-- `pages::ranges::not_mapped_in` meets its contract. By the contracts of the callees.
 use borrow.Author.Needs.{needs}
 use Rattle.pages.specs.Mapping.{notMappedIn}
 use Rattle.pages.proofs.ranges.not_mapped_in.Statement.{statement}

@@ -1,3 +1,4 @@
+-- `pages::sweep::doomed` meets its contract. By the contracts of the callees.
 use borrow.Author.Needs.{needs}
 use Rattle.pages.proofs.sweep.doomed.Statement.{statement}
 use Rattle.pages.proofs.sweep.doomed.Tie as tie

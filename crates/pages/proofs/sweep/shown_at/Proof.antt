@@ -1,3 +1,4 @@
+-- `pages::sweep::shown_at` meets its contract. Past the array's end the frame counts as an unused one, which is not Mapped.
 use borrow.Author.Needs.{needs}
 use lib.ListN.{length, List·getD-eq-default}
 use mathlib.Core.Path.{_≡_, sym, ap}

@@ -1,3 +1,4 @@
+-- `pages::sweep::sweep_tags` meets its contract. After the cells up to i are passed the tags are those of the specification up to i: a write where a capability dies (`swept-hit`), none elsewhere (`swept-stay`, `swept-miss`).
 use borrow.Author.Needs.{needs}
 use Prim.Native.Nat.{_≤_, _<_, _-_, _+_}
 use native.Mathlib.Omega.{arith}

@@ -1,3 +1,4 @@
+-- `reservations::Core::collect` meets its contract. Refused, the core is as given; granted, it is the collected one.
 use Rattle.reservations.specs.Revocation.{collectOf}
 use Rattle.reservations.proofs.Answers.{cored-refused, cored-granted}
 use borrow.Author.Needs.{needs}

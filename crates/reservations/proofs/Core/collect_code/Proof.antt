@@ -1,3 +1,4 @@
+-- `reservations::Core::collect_code` meets its contract. The one reason, from the two tests.
 use mathlib.Core.Path.{ap}
 use mathlib.Core.Bool.{not, _||_}
 use Rattle.reservations.specs.Revocation.{collectReasons}

@@ -1,3 +1,4 @@
+-- `reservations::Core::collected` meets its contract. By the contracts of the callees.
 use mathlib.Core.Path.{ap, _∙_}
 use Rattle.reservations.specs.Revocation.{core, collected, collectedRow, revoked}
 use Rattle.reservations.specs.Find.{rowOf, withRow, revokingOf}

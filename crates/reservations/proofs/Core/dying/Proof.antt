@@ -1,3 +1,4 @@
+-- `reservations::Core::dying` meets its contract. By the contracts of the callees.
 use mathlib.Core.Path.{ap, _∙_}
 use mathlib.Core.Bool.{_&&_}
 use Rattle.reservations.specs.Revocation.{dying, running, revoked}

@@ -1,3 +1,4 @@
+-- `reservations::Core::fresh` meets its contract. By the two outcomes of the range test.
 use mathlib.Core.Path.{_≡_, sym, ap, _∙_}
 use native.Mathlib.Omega.{arith}
 use mathlib.Core.Bool.{true, false, _&&_}

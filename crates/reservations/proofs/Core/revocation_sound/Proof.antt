@@ -1,3 +1,4 @@
+-- `reservations::Core::revocation_sound` meets its contract. By the two outcomes of the test whether a revocation runs.
 use mathlib.Core.Path.{sym, ap, _∙_}
 use mathlib.Core.Bool.{_&&_}
 use Rattle.reservations.specs.Revocation.{revocationSound, running, revoked, wholePages}

@@ -1,3 +1,4 @@
+-- `reservations::Core::revoke` meets its contract. Refused, the core is as given; granted, it is the one with the row Revoking.
 use mathlib.Core.Path.{ap, _∙_}
 use Rattle.pages.specs.Refusals.{first}
 use Rattle.reservations.specs.Revocation.{revokeReasonsAt, revokeReasons, revokeAt, revokeOf}

@@ -1,3 +1,4 @@
+-- `reservations::Core::revoke_at` meets its contract. By the contracts of the callees.
 use mathlib.Core.Path.{ap, _∙_}
 use Rattle.reservations.specs.Revocation.{core, revokeAt, revokingRow}
 use Rattle.reservations.specs.Find.{rowOf, withRow}

@@ -1,3 +1,4 @@
+-- `reservations::Core::revoke_code` meets its contract. Reason by reason, in the list's order.
 use mathlib.Core.Path.{ap, _∙_}
 use mathlib.Core.Bool.{not}
 use Rattle.reservations.specs.Revocation.{revokeReasonsAt, wholePages}

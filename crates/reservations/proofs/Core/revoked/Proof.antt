@@ -1,3 +1,4 @@
+-- `reservations::Core::revoked` meets its contract. By the contracts of the callees.
 use mathlib.Core.Path.{ap, _∙_}
 use Rattle.reservations.specs.Revocation.{revoked}
 use Rattle.reservations.specs.Find.{rowOf}

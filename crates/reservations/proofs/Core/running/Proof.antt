@@ -1,3 +1,4 @@
+-- `reservations::Core::running` meets its contract. By the contracts of the callees.
 use mathlib.Core.Path.{ap, _∙_}
 use mathlib.Core.Bool.{not}
 use Rattle.reservations.specs.Revocation.{running}

@@ -1,3 +1,4 @@
+-- `reservations::Core::sweep` meets its contract. Refused, all is as given; granted, the page layer's own sweep, with the place that it reaches.
 use mathlib.Core.Path.{sym, ap, _∙_}
 use Rattle.reservations.specs.Revocation.{coreSwept, passing, sweptCore, sweepCoreOf, revoked}
 use Rattle.pages.specs.Sweep.{sweepOf}

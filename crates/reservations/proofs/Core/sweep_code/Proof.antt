@@ -1,3 +1,4 @@
+-- `reservations::Core::sweep_code` meets its contract. Reason by reason, in the list's order.
 use mathlib.Core.Path.{ap}
 use mathlib.Core.Bool.{not}
 use Rattle.reservations.specs.Revocation.{sweepReasons}

@@ -1,3 +1,4 @@
+-- `reservations::Core::well_formed` meets its contract. The conjunction of the parts' tests.
 use mathlib.Core.Path.{ap, _∙_}
 use mathlib.Core.Bool.{_&&_}
 use lib.Dec.{leb}

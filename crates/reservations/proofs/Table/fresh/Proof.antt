@@ -1,3 +1,4 @@
+-- `reservations::Table::fresh` meets its contract. By the two outcomes of the test for no cells.
 use mathlib.Core.Path.{sym}
 use borrow.Author.Tests.{eq-eqb, ne-eqb}
 use Rattle.pages.proofs.Choice.{pick-yes, pick-no}

@@ -1,3 +1,4 @@
+-- `reservations::Table::merge` meets its contract. Refused, the table is as given; granted, two rows are one.
 use mathlib.Core.Path.{sym, ap, _∙_}
 use Rattle.pages.specs.Refusals.{first}
 use Rattle.reservations.specs.Operations.{mergeReasonsAt, mergeReasons, mergeAt, mergeOf}

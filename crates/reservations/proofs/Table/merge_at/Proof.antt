@@ -1,3 +1,4 @@
+-- `reservations::Table::merge_at` meets its contract. By cases on the row found.
 use mathlib.Core.Path.{sym, ap, _∙_}
 use Rattle.reservations.specs.declared.Found.the-variants.{At}
 use Rattle.reservations.specs.Rows.{gather}

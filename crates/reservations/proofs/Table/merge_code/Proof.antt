@@ -1,3 +1,4 @@
+-- `reservations::Table::merge_code` meets its contract. Reason by reason, in the list's order.
 use mathlib.Core.Path.{ap}
 use mathlib.Core.Bool.{not}
 use Rattle.reservations.proofs.Answers.{judged, judged-last}

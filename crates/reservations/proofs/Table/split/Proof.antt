@@ -1,3 +1,4 @@
+-- `reservations::Table::split` meets its contract. Refused, the table is as given; granted, one row is two.
 use mathlib.Core.Path.{sym, ap, _∙_}
 use Rattle.pages.specs.Refusals.{first}
 use Rattle.reservations.specs.Find.{inUse}

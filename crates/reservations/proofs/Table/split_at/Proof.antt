@@ -1,3 +1,4 @@
+-- `reservations::Table::split_at` meets its contract. By cases on the row found.
 use mathlib.Core.Path.{sym, ap, _∙_}
 use native.Mathlib.Omega.{arith}
 use borrow.Author.Tests.{ltb-true, leb-false}

@@ -1,3 +1,4 @@
+-- `reservations::Table::well_formed` meets its contract. The conjunction of the parts' tests; the array has its length.
 use mathlib.Core.Path.{_≡_}
 use Rattle.pages.proofs.Arrays.{length-under}
 use mathlib.Core.Bool.{true}

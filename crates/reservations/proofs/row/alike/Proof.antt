@@ -1,3 +1,4 @@
+-- `reservations::row::alike` meets its contract. By the contracts of the callees.
 use borrow.Author.Needs.{needs}
 use Rattle.reservations.proofs.row.alike.Statement.{statement}
 use Rattle.reservations.proofs.row.alike.Tie as tie

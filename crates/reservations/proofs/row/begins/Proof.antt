@@ -1,3 +1,4 @@
+-- `reservations::row::begins` meets its contract. By the contracts of the callees.
 use borrow.Author.Needs.{needs}
 use Rattle.reservations.proofs.row.begins.Statement.{statement}
 use Rattle.reservations.proofs.row.begins.Tie as tie

@@ -1,3 +1,4 @@
+-- `reservations::row::is_blank` meets its contract. By the contracts of the callees.
 use borrow.Author.Needs.{needs}
 use Rattle.reservations.proofs.row.is_blank.Statement.{statement}
 use Rattle.reservations.proofs.row.is_blank.Tie as tie

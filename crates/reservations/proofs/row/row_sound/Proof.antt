@@ -1,3 +1,4 @@
+-- `reservations::row::row_sound` meets its contract. By the contracts of the callees.
 use borrow.Author.Needs.{needs}
 use Rattle.reservations.proofs.row.row_sound.Statement.{statement}
 use Rattle.reservations.proofs.row.row_sound.Tie as tie

@@ -1,3 +1,4 @@
+-- `reservations::tiling::follows` meets its contract. By the contracts of the callees.
 use borrow.Author.Needs.{needs}
 use Rattle.reservations.proofs.tiling.follows.Statement.{statement}
 use Rattle.reservations.proofs.tiling.follows.Tie as tie
