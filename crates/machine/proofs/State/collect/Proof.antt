@@ -20,7 +20,13 @@ refused-requires c κs = search needs
 
 returns : tie.Need-returns
 unfolding first reasons collectOf
-returns c = rw (c .refused .ensures) (ruled-down (c .before .before .before .before .before .args .self) (Collect (c .before .before .before .before .before .args .party)) (c .before .before .manager-code .result) (rw (c .before .before .manager-code .ensures, c .before .before .before .collect .ensures)) (c .before .if1 .taken))
+returns c =
+    let refused = c .refused in
+    let a = c .before .before .before .before .before .args in
+    let manager-code = c .before .before .manager-code in
+    let collect = c .before .before .before .collect in
+    let if1 = c .before .if1 in
+    rw (refused .ensures) (ruled-down (a .self) (Collect (a .party)) (manager-code .result) (rw (manager-code .ensures, collect .ensures)) (if1 .taken))
 
 running-requires : tie.Need-running-requires
 running-requires c κs = search needs
@@ -39,7 +45,17 @@ granted-requires c κs = search needs
 
 returns-2 : tie.Need-returns-2
 unfolding first reasons effect collectOf dying
-returns-2 c = λ cells tags. ruled-done (c .before .before .before .before .before .before .before .before .before .before .before .before .args .self) (Collect (c .before .before .before .before .before .before .before .before .before .before .before .before .args .party)) (c .before .before .before .before .before .before .before .before .before .manager-code .result) (rw (c .before .before .before .before .before .before .before .before .before .manager-code .ensures, c .before .before .before .before .before .before .before .before .before .before .collect .ensures)) (c .before .before .before .before .before .before .before .before .if1 .left) cells tags _ (rw (c .granted .ensures, c .before .before .collected-mailboxes .ensures, c .before .before .before .collected-registers .ensures, c .before .before .before .before .before .before .revoked .ensures, c .before .before .before .before .before .before .before .running .ensures, c .before .before .before .before .before .before .before .before .before .before .collect .ensures) (done-collect (c .before .before .before .before .before .before .before .before .before .before .before .before .args .self) _ _ _))
+returns-2 c =
+    let a = c .before .before .before .before .before .before .before .before .before .before .before .before .args in
+    let manager-code = c .before .before .before .before .before .before .before .before .before .manager-code in
+    let collect = c .before .before .before .before .before .before .before .before .before .before .collect in
+    let if1 = c .before .before .before .before .before .before .before .before .if1 in
+    let granted = c .granted in
+    let collected-mailboxes = c .before .before .collected-mailboxes in
+    let collected-registers = c .before .before .before .collected-registers in
+    let revoked = c .before .before .before .before .before .before .revoked in
+    let running = c .before .before .before .before .before .before .before .running in
+    λ cells tags. ruled-done (a .self) (Collect (a .party)) (manager-code .result) (rw (manager-code .ensures, collect .ensures)) (if1 .left) cells tags _ (rw (granted .ensures, collected-mailboxes .ensures, collected-registers .ensures, revoked .ensures, running .ensures, collect .ensures) (done-collect (a .self) _ _ _))
 
 pub collect-spec : {M : Type 1} → statement M
 collect-spec =

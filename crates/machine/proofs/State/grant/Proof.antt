@@ -32,7 +32,17 @@ refused-requires c κs = search needs
 
 returns : tie.Need-returns
 unfolding first reasons
-returns c = rw (c .refused .ensures) (ruled-down (c .before .before .before .before .before .before .before .before .before .args .self) (Grant (c .before .before .before .before .before .before .before .before .before .args .party) (c .before .before .before .before .before .before .before .before .before .args .s) (c .before .before .before .before .before .before .before .before .before .args .to)) (c .before .before .first3 .result) (rw (c .before .before .first3 .ensures, c .before .before .before .first2 .ensures, c .before .before .before .before .first .ensures, c .before .before .before .before .before .before .unnamed .ensures, c .before .before .before .before .before .before .before .mailbox .ensures, c .before .before .before .before .before .before .before .before .register .ensures)) (c .before .if1 .taken))
+returns c =
+    let refused = c .refused in
+    let a = c .before .before .before .before .before .before .before .before .before .args in
+    let first3 = c .before .before .first3 in
+    let first2 = c .before .before .before .first2 in
+    let first = c .before .before .before .before .first in
+    let unnamed = c .before .before .before .before .before .before .unnamed in
+    let mailbox = c .before .before .before .before .before .before .before .mailbox in
+    let register = c .before .before .before .before .before .before .before .before .register in
+    let if1 = c .before .if1 in
+    rw (refused .ensures) (ruled-down (a .self) (Grant (a .party) (a .s) (a .to)) (first3 .result) (rw (first3 .ensures, first2 .ensures, first .ensures, unnamed .ensures, mailbox .ensures, register .ensures)) (if1 .taken))
 
 with-mailbox-requires : tie.Need-with-mailbox-requires
 with-mailbox-requires c κs = search needs
@@ -42,7 +52,18 @@ granted-requires c κs = search needs
 
 returns-2 : tie.Need-returns-2
 unfolding first reasons effect withCore
-returns-2 c = λ cells tags. ruled-done (c .before .before .before .before .before .before .before .before .before .before .args .self) (Grant (c .before .before .before .before .before .before .before .before .before .before .args .party) (c .before .before .before .before .before .before .before .before .before .before .args .s) (c .before .before .before .before .before .before .before .before .before .before .args .to)) (c .before .before .before .first3 .result) (rw (c .before .before .before .first3 .ensures, c .before .before .before .before .first2 .ensures, c .before .before .before .before .before .first .ensures, c .before .before .before .before .before .before .before .unnamed .ensures, c .before .before .before .before .before .before .before .before .mailbox .ensures, c .before .before .before .before .before .before .before .before .before .register .ensures)) (c .before .before .if1 .left) cells tags _ (rw (c .granted .ensures, c .before .with-mailbox .ensures, c .before .before .before .before .before .before .before .before .before .register .ensures) (done-mailbox (c .before .before .before .before .before .before .before .before .before .before .args .self) (c .before .before .before .before .before .before .before .before .before .before .args .self .core) _ _ _ _ _))
+returns-2 c =
+    let a = c .before .before .before .before .before .before .before .before .before .before .args in
+    let first3 = c .before .before .before .first3 in
+    let first2 = c .before .before .before .before .first2 in
+    let first = c .before .before .before .before .before .first in
+    let unnamed = c .before .before .before .before .before .before .before .unnamed in
+    let mailbox = c .before .before .before .before .before .before .before .before .mailbox in
+    let register = c .before .before .before .before .before .before .before .before .before .register in
+    let if1 = c .before .before .if1 in
+    let granted = c .granted in
+    let with-mailbox = c .before .with-mailbox in
+    λ cells tags. ruled-done (a .self) (Grant (a .party) (a .s) (a .to)) (first3 .result) (rw (first3 .ensures, first2 .ensures, first .ensures, unnamed .ensures, mailbox .ensures, register .ensures)) (if1 .left) cells tags _ (rw (granted .ensures, with-mailbox .ensures, register .ensures) (done-mailbox (a .self) (a .self .core) _ _ _ _ _))
 
 pub grant-spec : {M : Type 1} → statement M
 grant-spec =

@@ -47,7 +47,22 @@ refused-requires c κs = search needs
 
 returns : tie.Need-returns
 unfolding first reasons
-returns c = rw (c .refused .ensures) (ruled-down (c .before .before .before .before .before .before .before .before .before .before .before .before .before .before .before .before .args .self) (Load (c .before .before .before .before .before .before .before .before .before .before .before .before .before .before .before .before .args .party) (c .before .before .before .before .before .before .before .before .before .before .before .before .before .before .before .before .args .a) (c .before .before .before .before .before .before .before .before .before .before .before .before .before .before .before .before .args .off) (c .before .before .before .before .before .before .before .before .before .before .before .before .before .before .before .before .args .d)) (c .before .before .first5 .result) (rw (c .before .before .first5 .ensures, c .before .before .before .first4 .ensures, c .before .before .before .before .first3 .ensures, c .before .before .before .before .before .may-load .ensures, c .before .before .before .before .before .before .before .unnamed .ensures, c .before .before .before .before .before .before .before .before .first2 .ensures, c .before .before .before .before .before .before .before .before .before .first .ensures, c .before .before .before .before .before .before .before .before .before .before .nowhere .ensures, c .before .before .before .before .before .before .before .before .before .before .before .length-of .ensures, c .before .before .before .before .before .before .before .before .before .before .before .before .addressed .ensures, c .before .before .before .before .before .before .before .before .before .before .before .before .before .register .ensures)) (c .before .if1 .taken) (c .before .before .before .before .before .before .before .before .before .before .before .before .before .before .before .before .args .cells .now) (c .before .before .before .before .before .before .before .before .before .before .before .before .before .before .before .before .args .tags .now))
+returns c =
+    let refused = c .refused in
+    let a = c .before .before .before .before .before .before .before .before .before .before .before .before .before .before .before .before .args in
+    let first5 = c .before .before .first5 in
+    let first4 = c .before .before .before .first4 in
+    let first3 = c .before .before .before .before .first3 in
+    let may-load = c .before .before .before .before .before .may-load in
+    let unnamed = c .before .before .before .before .before .before .before .unnamed in
+    let first2 = c .before .before .before .before .before .before .before .before .first2 in
+    let first = c .before .before .before .before .before .before .before .before .before .first in
+    let nowhere = c .before .before .before .before .before .before .before .before .before .before .nowhere in
+    let length-of = c .before .before .before .before .before .before .before .before .before .before .before .length-of in
+    let addressed = c .before .before .before .before .before .before .before .before .before .before .before .before .addressed in
+    let register = c .before .before .before .before .before .before .before .before .before .before .before .before .before .register in
+    let if1 = c .before .if1 in
+    rw (refused .ensures) (ruled-down (a .self) (Load (a .party) (a .a) (a .off) (a .d)) (first5 .result) (rw (first5 .ensures, first4 .ensures, first3 .ensures, may-load .ensures, unnamed .ensures, first2 .ensures, first .ensures, nowhere .ensures, length-of .ensures, addressed .ensures, register .ensures)) (if1 .taken) (a .cells .now) (a .tags .now))
 
 place-number-requires : tie.Need-place-number-requires
 place-number-requires c κs = search needs
@@ -69,7 +84,27 @@ granted-requires c κs = search needs
 
 returns-2 : tie.Need-returns-2
 unfolding first reasons effect withCore
-returns-2 c = ruled-done (c .before .before .before .before .before .before .before .before .before .before .before .before .before .before .before .before .before .before .before .before .before .args .self) (Load (c .before .before .before .before .before .before .before .before .before .before .before .before .before .before .before .before .before .before .before .before .before .args .party) (c .before .before .before .before .before .before .before .before .before .before .before .before .before .before .before .before .before .before .before .before .before .args .a) (c .before .before .before .before .before .before .before .before .before .before .before .before .before .before .before .before .before .before .before .before .before .args .off) (c .before .before .before .before .before .before .before .before .before .before .before .before .before .before .before .before .before .before .before .before .before .args .d)) (c .before .before .before .before .before .before .before .first5 .result) (rw (c .before .before .before .before .before .before .before .first5 .ensures, c .before .before .before .before .before .before .before .before .first4 .ensures, c .before .before .before .before .before .before .before .before .before .first3 .ensures, c .before .before .before .before .before .before .before .before .before .before .may-load .ensures, c .before .before .before .before .before .before .before .before .before .before .before .before .unnamed .ensures, c .before .before .before .before .before .before .before .before .before .before .before .before .before .first2 .ensures, c .before .before .before .before .before .before .before .before .before .before .before .before .before .before .first .ensures, c .before .before .before .before .before .before .before .before .before .before .before .before .before .before .before .nowhere .ensures, c .before .before .before .before .before .before .before .before .before .before .before .before .before .before .before .before .length-of .ensures, c .before .before .before .before .before .before .before .before .before .before .before .before .before .before .before .before .before .addressed .ensures, c .before .before .before .before .before .before .before .before .before .before .before .before .before .before .before .before .before .before .register .ensures)) (c .before .before .before .before .before .before .if1 .left) (c .before .before .before .before .before .before .before .before .before .before .before .before .before .before .before .before .before .before .before .before .before .args .cells .now) (c .before .before .before .before .before .before .before .before .before .before .before .before .before .before .before .before .before .before .before .before .before .args .tags .now) _ (rw (c .granted .ensures, c .before .with-register .ensures, c .before .before .keep-tag .ensures, c .before .before .before .may-load-capability .ensures, c .before .before .before .before .word-at .ensures, c .before .before .before .before .before .place-number .ensures, c .before .before .before .before .before .before .before .before .before .before .before .before .before .before .before .before .before .addressed .ensures, c .before .before .before .before .before .before .before .before .before .before .before .before .before .before .before .before .before .before .register .ensures) (done-fetch (c .before .before .before .before .before .before .before .before .before .before .before .before .before .before .before .before .before .before .before .before .before .args .self) (c .before .before .before .before .before .before .before .before .before .before .before .before .before .before .before .before .before .before .before .before .before .args .self .core) _ _ _ _ _ _ _))
+returns-2 c =
+    let a = c .before .before .before .before .before .before .before .before .before .before .before .before .before .before .before .before .before .before .before .before .before .args in
+    let first5 = c .before .before .before .before .before .before .before .first5 in
+    let first4 = c .before .before .before .before .before .before .before .before .first4 in
+    let first3 = c .before .before .before .before .before .before .before .before .before .first3 in
+    let may-load = c .before .before .before .before .before .before .before .before .before .before .may-load in
+    let unnamed = c .before .before .before .before .before .before .before .before .before .before .before .before .unnamed in
+    let first2 = c .before .before .before .before .before .before .before .before .before .before .before .before .before .first2 in
+    let first = c .before .before .before .before .before .before .before .before .before .before .before .before .before .before .first in
+    let nowhere = c .before .before .before .before .before .before .before .before .before .before .before .before .before .before .before .nowhere in
+    let length-of = c .before .before .before .before .before .before .before .before .before .before .before .before .before .before .before .before .length-of in
+    let addressed = c .before .before .before .before .before .before .before .before .before .before .before .before .before .before .before .before .before .addressed in
+    let register = c .before .before .before .before .before .before .before .before .before .before .before .before .before .before .before .before .before .before .register in
+    let if1 = c .before .before .before .before .before .before .if1 in
+    let granted = c .granted in
+    let with-register = c .before .with-register in
+    let keep-tag = c .before .before .keep-tag in
+    let may-load-capability = c .before .before .before .may-load-capability in
+    let word-at = c .before .before .before .before .word-at in
+    let place-number = c .before .before .before .before .before .place-number in
+    ruled-done (a .self) (Load (a .party) (a .a) (a .off) (a .d)) (first5 .result) (rw (first5 .ensures, first4 .ensures, first3 .ensures, may-load .ensures, unnamed .ensures, first2 .ensures, first .ensures, nowhere .ensures, length-of .ensures, addressed .ensures, register .ensures)) (if1 .left) (a .cells .now) (a .tags .now) _ (rw (granted .ensures, with-register .ensures, keep-tag .ensures, may-load-capability .ensures, word-at .ensures, place-number .ensures, addressed .ensures, register .ensures) (done-fetch (a .self) (a .self .core) _ _ _ _ _ _ _))
 
 pub load-spec : {M : Type 1} → statement M
 load-spec =

@@ -35,7 +35,18 @@ refused-requires c κs = search needs
 
 returns : tie.Need-returns
 unfolding first reasons
-returns c = rw (c .refused .ensures) (ruled-down (c .before .before .before .before .before .before .before .before .before .before .args .self) (Narrow (c .before .before .before .before .before .before .before .before .before .before .args .party) (c .before .before .before .before .before .before .before .before .before .before .args .s) (c .before .before .before .before .before .before .before .before .before .before .args .off) (c .before .before .before .before .before .before .before .before .before .before .args .len) (c .before .before .before .before .before .before .before .before .before .before .args .mask) (c .before .before .before .before .before .before .before .before .before .before .args .d)) (c .before .before .first3 .result) (rw (c .before .before .first3 .ensures, c .before .before .before .first2 .ensures, c .before .before .before .before .first .ensures, c .before .before .before .before .before .bad-narrow .ensures, c .before .before .before .before .before .before .before .unnamed .ensures, c .before .before .before .before .before .before .before .before .length-of .ensures, c .before .before .before .before .before .before .before .before .before .register .ensures)) (c .before .if1 .taken))
+returns c =
+    let refused = c .refused in
+    let a = c .before .before .before .before .before .before .before .before .before .before .args in
+    let first3 = c .before .before .first3 in
+    let first2 = c .before .before .before .first2 in
+    let first = c .before .before .before .before .first in
+    let bad-narrow = c .before .before .before .before .before .bad-narrow in
+    let unnamed = c .before .before .before .before .before .before .before .unnamed in
+    let length-of = c .before .before .before .before .before .before .before .before .length-of in
+    let register = c .before .before .before .before .before .before .before .before .before .register in
+    let if1 = c .before .if1 in
+    rw (refused .ensures) (ruled-down (a .self) (Narrow (a .party) (a .s) (a .off) (a .len) (a .mask) (a .d)) (first3 .result) (rw (first3 .ensures, first2 .ensures, first .ensures, bad-narrow .ensures, unnamed .ensures, length-of .ensures, register .ensures)) (if1 .taken))
 
 narrowed-requires : tie.Need-narrowed-requires
 narrowed-requires c κs = search needs
@@ -48,7 +59,20 @@ granted-requires c κs = search needs
 
 returns-2 : tie.Need-returns-2
 unfolding first reasons effect withCore
-returns-2 c = λ cells tags. ruled-done (c .before .before .before .before .before .before .before .before .before .before .before .before .args .self) (Narrow (c .before .before .before .before .before .before .before .before .before .before .before .before .args .party) (c .before .before .before .before .before .before .before .before .before .before .before .before .args .s) (c .before .before .before .before .before .before .before .before .before .before .before .before .args .off) (c .before .before .before .before .before .before .before .before .before .before .before .before .args .len) (c .before .before .before .before .before .before .before .before .before .before .before .before .args .mask) (c .before .before .before .before .before .before .before .before .before .before .before .before .args .d)) (c .before .before .before .before .first3 .result) (rw (c .before .before .before .before .first3 .ensures, c .before .before .before .before .before .first2 .ensures, c .before .before .before .before .before .before .first .ensures, c .before .before .before .before .before .before .before .bad-narrow .ensures, c .before .before .before .before .before .before .before .before .before .unnamed .ensures, c .before .before .before .before .before .before .before .before .before .before .length-of .ensures, c .before .before .before .before .before .before .before .before .before .before .before .register .ensures)) (c .before .before .before .if1 .left) cells tags _ (rw (c .granted .ensures, c .before .with-register .ensures, c .before .before .narrowed .ensures, c .before .before .before .before .before .before .before .before .before .before .before .register .ensures) (done-register (c .before .before .before .before .before .before .before .before .before .before .before .before .args .self) (c .before .before .before .before .before .before .before .before .before .before .before .before .args .self .core) _ _ _ _ _ _))
+returns-2 c =
+    let a = c .before .before .before .before .before .before .before .before .before .before .before .before .args in
+    let first3 = c .before .before .before .before .first3 in
+    let first2 = c .before .before .before .before .before .first2 in
+    let first = c .before .before .before .before .before .before .first in
+    let bad-narrow = c .before .before .before .before .before .before .before .bad-narrow in
+    let unnamed = c .before .before .before .before .before .before .before .before .before .unnamed in
+    let length-of = c .before .before .before .before .before .before .before .before .before .before .length-of in
+    let register = c .before .before .before .before .before .before .before .before .before .before .before .register in
+    let if1 = c .before .before .before .if1 in
+    let granted = c .granted in
+    let with-register = c .before .with-register in
+    let narrowed = c .before .before .narrowed in
+    λ cells tags. ruled-done (a .self) (Narrow (a .party) (a .s) (a .off) (a .len) (a .mask) (a .d)) (first3 .result) (rw (first3 .ensures, first2 .ensures, first .ensures, bad-narrow .ensures, unnamed .ensures, length-of .ensures, register .ensures)) (if1 .left) cells tags _ (rw (granted .ensures, with-register .ensures, narrowed .ensures, register .ensures) (done-register (a .self) (a .self .core) _ _ _ _ _ _))
 
 pub narrow-spec : {M : Type 1} → statement M
 narrow-spec =

@@ -17,7 +17,12 @@ refused-requires c κs = search needs
 
 returns : tie.Need-returns
 unfolding first reasons
-returns c = rw (c .refused .ensures) (ruled-down (c .before .before .before .args .self) (Number (c .before .before .before .args .party) (c .before .before .before .args .d) (c .before .before .before .args .value)) (c .before .before .first .result) (rw (c .before .before .first .ensures)) (c .before .if1 .taken))
+returns c =
+    let refused = c .refused in
+    let a = c .before .before .before .args in
+    let first = c .before .before .first in
+    let if1 = c .before .if1 in
+    rw (refused .ensures) (ruled-down (a .self) (Number (a .party) (a .d) (a .value)) (first .result) (rw (first .ensures)) (if1 .taken))
 
 with-register-requires : tie.Need-with-register-requires
 with-register-requires c κs = search needs
@@ -27,7 +32,13 @@ granted-requires c κs = search needs
 
 returns-2 : tie.Need-returns-2
 unfolding first reasons effect withCore
-returns-2 c = λ cells tags. ruled-done (c .before .before .before .before .args .self) (Number (c .before .before .before .before .args .party) (c .before .before .before .before .args .d) (c .before .before .before .before .args .value)) (c .before .before .before .first .result) (rw (c .before .before .before .first .ensures)) (c .before .before .if1 .left) cells tags _ (rw (c .granted .ensures, c .before .with-register .ensures) (done-register (c .before .before .before .before .args .self) (c .before .before .before .before .args .self .core) _ _ _ _ _ _))
+returns-2 c =
+    let a = c .before .before .before .before .args in
+    let first = c .before .before .before .first in
+    let if1 = c .before .before .if1 in
+    let granted = c .granted in
+    let with-register = c .before .with-register in
+    λ cells tags. ruled-done (a .self) (Number (a .party) (a .d) (a .value)) (first .result) (rw (first .ensures)) (if1 .left) cells tags _ (rw (granted .ensures, with-register .ensures) (done-register (a .self) (a .self .core) _ _ _ _ _ _))
 
 pub number-spec : {M : Type 1} → statement M
 number-spec =

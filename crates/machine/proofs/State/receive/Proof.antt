@@ -23,7 +23,14 @@ refused-requires c κs = search needs
 
 returns : tie.Need-returns
 unfolding first reasons
-returns c = rw (c .refused .ensures) (ruled-down (c .before .before .before .before .before .before .args .self) (Receive (c .before .before .before .before .before .before .args .party) (c .before .before .before .before .before .before .args .d)) (c .before .before .first2 .result) (rw (c .before .before .first2 .ensures, c .before .before .before .first .ensures, c .before .before .before .before .before .mailbox .ensures)) (c .before .if1 .taken))
+returns c =
+    let refused = c .refused in
+    let a = c .before .before .before .before .before .before .args in
+    let first2 = c .before .before .first2 in
+    let first = c .before .before .before .first in
+    let mailbox = c .before .before .before .before .before .mailbox in
+    let if1 = c .before .if1 in
+    rw (refused .ensures) (ruled-down (a .self) (Receive (a .party) (a .d)) (first2 .result) (rw (first2 .ensures, first .ensures, mailbox .ensures)) (if1 .taken))
 
 with-register-requires : tie.Need-with-register-requires
 with-register-requires c κs = search needs
@@ -39,7 +46,17 @@ granted-requires c κs = search needs
 
 returns-2 : tie.Need-returns-2
 unfolding first reasons effect withCore
-returns-2 c = λ cells tags. ruled-done (c .before .before .before .before .before .before .before .before .before .args .self) (Receive (c .before .before .before .before .before .before .before .before .before .args .party) (c .before .before .before .before .before .before .before .before .before .args .d)) (c .before .before .before .before .before .first2 .result) (rw (c .before .before .before .before .before .first2 .ensures, c .before .before .before .before .before .before .first .ensures, c .before .before .before .before .before .before .before .before .mailbox .ensures)) (c .before .before .before .before .if1 .left) cells tags _ (rw (c .granted .ensures, c .before .with-mailbox .ensures, c .before .before .empty .ensures, c .before .before .before .with-register .ensures, c .before .before .before .before .before .before .before .before .mailbox .ensures) (done-both (c .before .before .before .before .before .before .before .before .before .args .self) (c .before .before .before .before .before .before .before .before .before .args .self .core) _ _ _ _ _ _ _ _))
+returns-2 c =
+    let a = c .before .before .before .before .before .before .before .before .before .args in
+    let first2 = c .before .before .before .before .before .first2 in
+    let first = c .before .before .before .before .before .before .first in
+    let mailbox = c .before .before .before .before .before .before .before .before .mailbox in
+    let if1 = c .before .before .before .before .if1 in
+    let granted = c .granted in
+    let with-mailbox = c .before .with-mailbox in
+    let empty = c .before .before .empty in
+    let with-register = c .before .before .before .with-register in
+    λ cells tags. ruled-done (a .self) (Receive (a .party) (a .d)) (first2 .result) (rw (first2 .ensures, first .ensures, mailbox .ensures)) (if1 .left) cells tags _ (rw (granted .ensures, with-mailbox .ensures, empty .ensures, with-register .ensures, mailbox .ensures) (done-both (a .self) (a .self .core) _ _ _ _ _ _ _ _))
 
 pub receive-spec : {M : Type 1} → statement M
 receive-spec =

@@ -20,7 +20,13 @@ refused-requires c κs = search needs
 
 returns : tie.Need-returns
 unfolding first reasons revokeOf
-returns c = rw (c .refused .ensures) (ruled-down (c .before .before .before .before .before .args .self) (Revoke (c .before .before .before .before .before .args .party) (c .before .before .before .before .before .args .base)) (c .before .before .manager-code .result) (rw (c .before .before .manager-code .ensures, c .before .before .before .revoke .ensures)) (c .before .if1 .taken))
+returns c =
+    let refused = c .refused in
+    let a = c .before .before .before .before .before .args in
+    let manager-code = c .before .before .manager-code in
+    let revoke = c .before .before .before .revoke in
+    let if1 = c .before .if1 in
+    rw (refused .ensures) (ruled-down (a .self) (Revoke (a .party) (a .base)) (manager-code .result) (rw (manager-code .ensures, revoke .ensures)) (if1 .taken))
 
 with-core-requires : tie.Need-with-core-requires
 with-core-requires c κs = search needs
@@ -30,7 +36,14 @@ granted-requires c κs = search needs
 
 returns-2 : tie.Need-returns-2
 unfolding first reasons effect revokeOf
-returns-2 c = λ cells tags. ruled-done (c .before .before .before .before .before .before .before .args .self) (Revoke (c .before .before .before .before .before .before .before .args .party) (c .before .before .before .before .before .before .before .args .base)) (c .before .before .before .before .manager-code .result) (rw (c .before .before .before .before .manager-code .ensures, c .before .before .before .before .before .revoke .ensures)) (c .before .before .before .if1 .left) cells tags _ (rw (c .granted .ensures, c .before .with-core .ensures, c .before .before .before .before .before .revoke .ensures) (done-core _ _ _ _ _))
+returns-2 c =
+    let a = c .before .before .before .before .before .before .before .args in
+    let manager-code = c .before .before .before .before .manager-code in
+    let revoke = c .before .before .before .before .before .revoke in
+    let if1 = c .before .before .before .if1 in
+    let granted = c .granted in
+    let with-core = c .before .with-core in
+    λ cells tags. ruled-done (a .self) (Revoke (a .party) (a .base)) (manager-code .result) (rw (manager-code .ensures, revoke .ensures)) (if1 .left) cells tags _ (rw (granted .ensures, with-core .ensures, revoke .ensures) (done-core _ _ _ _ _))
 
 pub revoke-spec : {M : Type 1} → statement M
 revoke-spec =

@@ -21,7 +21,13 @@ refused-requires c κs = search needs
 
 returns : tie.Need-returns
 unfolding first reasons splitOf
-returns c = rw (c .refused .ensures) (ruled-down (c .before .before .before .before .before .before .args .self) (Split (c .before .before .before .before .before .before .args .party) (c .before .before .before .before .before .before .args .base) (c .before .before .before .before .before .before .args .len)) _ (c .before .before .first .ensures ∙ rw (c .before .before .before .split .ensures)) (c .before .if1 .taken))
+returns c =
+    let refused = c .refused in
+    let a = c .before .before .before .before .before .before .args in
+    let first = c .before .before .first in
+    let split = c .before .before .before .split in
+    let if1 = c .before .if1 in
+    rw (refused .ensures) (ruled-down (a .self) (Split (a .party) (a .base) (a .len)) _ (first .ensures ∙ rw (split .ensures)) (if1 .taken))
 
 with-table-requires : tie.Need-with-table-requires
 with-table-requires c κs = search needs
@@ -31,7 +37,14 @@ granted-requires c κs = search needs
 
 returns-2 : tie.Need-returns-2
 unfolding first reasons effect splitOf
-returns-2 c = λ cells tags. ruled-done (c .before .before .before .before .before .before .before .before .args .self) (Split (c .before .before .before .before .before .before .before .before .args .party) (c .before .before .before .before .before .before .before .before .args .base) (c .before .before .before .before .before .before .before .before .args .len)) _ (c .before .before .before .before .first .ensures ∙ rw (c .before .before .before .before .before .split .ensures)) (c .before .before .before .if1 .left) cells tags _ (rw (c .granted .ensures, c .before .with-table .ensures, c .before .before .before .before .before .split .ensures) (done-core _ _ _ _ _))
+returns-2 c =
+    let a = c .before .before .before .before .before .before .before .before .args in
+    let first = c .before .before .before .before .first in
+    let split = c .before .before .before .before .before .split in
+    let if1 = c .before .before .before .if1 in
+    let granted = c .granted in
+    let with-table = c .before .with-table in
+    λ cells tags. ruled-done (a .self) (Split (a .party) (a .base) (a .len)) _ (first .ensures ∙ rw (split .ensures)) (if1 .left) cells tags _ (rw (granted .ensures, with-table .ensures, split .ensures) (done-core _ _ _ _ _))
 
 pub split-spec : {M : Type 1} → statement M
 split-spec =

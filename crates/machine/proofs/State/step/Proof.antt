@@ -14,7 +14,12 @@ refused-requires : tie.Need-refused-requires
 refused-requires c κs = search needs
 
 returns : tie.Need-returns
-returns c = judged-size (c .before .before .before .before .before .before .before .args .self) (c .before .before .before .before .before .before .before .args .call) (c .before .before .before .before .before .before .before .args .cells .now) (c .before .before .before .before .before .before .before .args .tags .now) _ (sym (c .before .before .serves .ensures) ∙ not-true _ (c .before .if1 .taken)) (ap (λ r. left r (c .before .before .before .before .before .before .before .args .cells .now) (c .before .before .before .before .before .before .before .args .tags .now)) (c .refused .ensures))
+returns c =
+    let a = c .before .before .before .before .before .before .before .args in
+    let serves = c .before .before .serves in
+    let if1 = c .before .if1 in
+    let refused = c .refused in
+    judged-size (a .self) (a .call) (a .cells .now) (a .tags .now) _ (sym (serves .ensures) ∙ not-true _ (if1 .taken)) (ap (λ r. left r (a .cells .now) (a .tags .now)) (refused .ensures))
 
 enum-known-call : tie.Need-enum-known-call
 enum-known-call c = search needs
@@ -113,19 +118,49 @@ receive-requires : tie.Need-receive-requires
 receive-requires c κs = search needs
 
 returns-2 : tie.Need-returns-2
-returns-2 c = rw (c .before .before .call .given .1) (judged-ruled (c .before .before .before .before .before .before .before .before .before .before .args .self) _ (c .before .before .before .before .before .before .before .before .before .before .args .cells .now) (c .before .before .before .before .before .before .before .before .before .before .args .tags .now) _ (sym (c .before .before .before .before .before .serves .ensures) ∙ not-false _ (c .before .before .before .before .if1 .left)) (c .take .ensures (c .before .before .before .before .before .before .before .before .before .before .args .cells .now) (c .before .before .before .before .before .before .before .before .before .before .args .tags .now)))
+returns-2 c =
+    let call = c .before .before .call in
+    let a = c .before .before .before .before .before .before .before .before .before .before .args in
+    let serves = c .before .before .before .before .before .serves in
+    let if1 = c .before .before .before .before .if1 in
+    let take = c .take in
+    rw (call .given .1) (judged-ruled (a .self) _ (a .cells .now) (a .tags .now) _ (sym (serves .ensures) ∙ not-false _ (if1 .left)) (take .ensures (a .cells .now) (a .tags .now)))
 
 returns-3 : tie.Need-returns-3
-returns-3 c = rw (c .before .before .call2 .given .1) (judged-ruled (c .before .before .before .before .before .before .before .before .before .before .args .self) _ (c .before .before .before .before .before .before .before .before .before .before .args .cells .now) (c .before .before .before .before .before .before .before .before .before .before .args .tags .now) _ (sym (c .before .before .before .before .before .serves .ensures) ∙ not-false _ (c .before .before .before .before .if1 .left)) (c .split .ensures (c .before .before .before .before .before .before .before .before .before .before .args .cells .now) (c .before .before .before .before .before .before .before .before .before .before .args .tags .now)))
+returns-3 c =
+    let call2 = c .before .before .call2 in
+    let a = c .before .before .before .before .before .before .before .before .before .before .args in
+    let serves = c .before .before .before .before .before .serves in
+    let if1 = c .before .before .before .before .if1 in
+    let split = c .split in
+    rw (call2 .given .1) (judged-ruled (a .self) _ (a .cells .now) (a .tags .now) _ (sym (serves .ensures) ∙ not-false _ (if1 .left)) (split .ensures (a .cells .now) (a .tags .now)))
 
 returns-4 : tie.Need-returns-4
-returns-4 c = rw (c .before .before .call3 .given .1) (judged-ruled (c .before .before .before .before .before .before .before .before .before .before .args .self) _ (c .before .before .before .before .before .before .before .before .before .before .args .cells .now) (c .before .before .before .before .before .before .before .before .before .before .args .tags .now) _ (sym (c .before .before .before .before .before .serves .ensures) ∙ not-false _ (c .before .before .before .before .if1 .left)) (c .merge .ensures (c .before .before .before .before .before .before .before .before .before .before .args .cells .now) (c .before .before .before .before .before .before .before .before .before .before .args .tags .now)))
+returns-4 c =
+    let call3 = c .before .before .call3 in
+    let a = c .before .before .before .before .before .before .before .before .before .before .args in
+    let serves = c .before .before .before .before .before .serves in
+    let if1 = c .before .before .before .before .if1 in
+    let merge = c .merge in
+    rw (call3 .given .1) (judged-ruled (a .self) _ (a .cells .now) (a .tags .now) _ (sym (serves .ensures) ∙ not-false _ (if1 .left)) (merge .ensures (a .cells .now) (a .tags .now)))
 
 returns-5 : tie.Need-returns-5
-returns-5 c = rw (c .before .before .call4 .given .1) (judged-ruled (c .before .before .before .before .before .before .before .before .before .before .args .self) _ (c .before .before .before .before .before .before .before .before .before .before .args .cells .now) (c .before .before .before .before .before .before .before .before .before .before .args .tags .now) _ (sym (c .before .before .before .before .before .serves .ensures) ∙ not-false _ (c .before .before .before .before .if1 .left)) (c .give .ensures (c .before .before .before .before .before .before .before .before .before .before .args .cells .now) (c .before .before .before .before .before .before .before .before .before .before .args .tags .now)))
+returns-5 c =
+    let call4 = c .before .before .call4 in
+    let a = c .before .before .before .before .before .before .before .before .before .before .args in
+    let serves = c .before .before .before .before .before .serves in
+    let if1 = c .before .before .before .before .if1 in
+    let give = c .give in
+    rw (call4 .given .1) (judged-ruled (a .self) _ (a .cells .now) (a .tags .now) _ (sym (serves .ensures) ∙ not-false _ (if1 .left)) (give .ensures (a .cells .now) (a .tags .now)))
 
 returns-6 : tie.Need-returns-6
-returns-6 c = rw (c .before .before .call5 .given .1) (judged-ruled (c .before .before .before .before .before .before .before .before .before .before .args .self) _ (c .before .before .before .before .before .before .before .before .before .before .args .cells .now) (c .before .before .before .before .before .before .before .before .before .before .args .tags .now) _ (sym (c .before .before .before .before .before .serves .ensures) ∙ not-false _ (c .before .before .before .before .if1 .left)) (c .revoke .ensures (c .before .before .before .before .before .before .before .before .before .before .args .cells .now) (c .before .before .before .before .before .before .before .before .before .before .args .tags .now)))
+returns-6 c =
+    let call5 = c .before .before .call5 in
+    let a = c .before .before .before .before .before .before .before .before .before .before .args in
+    let serves = c .before .before .before .before .before .serves in
+    let if1 = c .before .before .before .before .if1 in
+    let revoke = c .revoke in
+    rw (call5 .given .1) (judged-ruled (a .self) _ (a .cells .now) (a .tags .now) _ (sym (serves .ensures) ∙ not-false _ (if1 .left)) (revoke .ensures (a .cells .now) (a .tags .now)))
 
 same-length : tie.Need-same-length
 same-length c = search needs
@@ -134,16 +169,40 @@ same-length-2 : tie.Need-same-length-2
 same-length-2 c = search needs
 
 returns-7 : tie.Need-returns-7
-returns-7 c = rw (c .before .before .before .before .before .before .call6 .given .1) (judged-ruled (c .before .before .before .before .before .before .before .before .before .before .before .before .before .before .args .self) _ (c .before .before .before .before .before .before .before .before .before .before .before .before .before .before .args .cells .now) (c .before .before .before .before .before .before .before .before .before .before .before .before .before .before .args .tags .now) _ (sym (c .before .before .before .before .before .before .before .before .before .serves .ensures) ∙ not-false _ (c .before .before .before .before .before .before .before .before .if1 .left)) (c .before .before .sweep .ensures))
+returns-7 c =
+    let call6 = c .before .before .before .before .before .before .call6 in
+    let a = c .before .before .before .before .before .before .before .before .before .before .before .before .before .before .args in
+    let serves = c .before .before .before .before .before .before .before .before .before .serves in
+    let if1 = c .before .before .before .before .before .before .before .before .if1 in
+    let sweep = c .before .before .sweep in
+    rw (call6 .given .1) (judged-ruled (a .self) _ (a .cells .now) (a .tags .now) _ (sym (serves .ensures) ∙ not-false _ (if1 .left)) (sweep .ensures))
 
 returns-8 : tie.Need-returns-8
-returns-8 c = rw (c .before .before .call7 .given .1) (judged-ruled (c .before .before .before .before .before .before .before .before .before .before .args .self) _ (c .before .before .before .before .before .before .before .before .before .before .args .cells .now) (c .before .before .before .before .before .before .before .before .before .before .args .tags .now) _ (sym (c .before .before .before .before .before .serves .ensures) ∙ not-false _ (c .before .before .before .before .if1 .left)) (c .collect .ensures (c .before .before .before .before .before .before .before .before .before .before .args .cells .now) (c .before .before .before .before .before .before .before .before .before .before .args .tags .now)))
+returns-8 c =
+    let call7 = c .before .before .call7 in
+    let a = c .before .before .before .before .before .before .before .before .before .before .args in
+    let serves = c .before .before .before .before .before .serves in
+    let if1 = c .before .before .before .before .if1 in
+    let collect = c .collect in
+    rw (call7 .given .1) (judged-ruled (a .self) _ (a .cells .now) (a .tags .now) _ (sym (serves .ensures) ∙ not-false _ (if1 .left)) (collect .ensures (a .cells .now) (a .tags .now)))
 
 returns-9 : tie.Need-returns-9
-returns-9 c = rw (c .before .before .call8 .given .1) (judged-ruled (c .before .before .before .before .before .before .before .before .before .before .args .self) _ (c .before .before .before .before .before .before .before .before .before .before .args .cells .now) (c .before .before .before .before .before .before .before .before .before .before .args .tags .now) _ (sym (c .before .before .before .before .before .serves .ensures) ∙ not-false _ (c .before .before .before .before .if1 .left)) (c .map .ensures (c .before .before .before .before .before .before .before .before .before .before .args .cells .now) (c .before .before .before .before .before .before .before .before .before .before .args .tags .now)))
+returns-9 c =
+    let call8 = c .before .before .call8 in
+    let a = c .before .before .before .before .before .before .before .before .before .before .args in
+    let serves = c .before .before .before .before .before .serves in
+    let if1 = c .before .before .before .before .if1 in
+    let map = c .map in
+    rw (call8 .given .1) (judged-ruled (a .self) _ (a .cells .now) (a .tags .now) _ (sym (serves .ensures) ∙ not-false _ (if1 .left)) (map .ensures (a .cells .now) (a .tags .now)))
 
 returns-10 : tie.Need-returns-10
-returns-10 c = rw (c .before .before .call9 .given .1) (judged-ruled (c .before .before .before .before .before .before .before .before .before .before .args .self) _ (c .before .before .before .before .before .before .before .before .before .before .args .cells .now) (c .before .before .before .before .before .before .before .before .before .before .args .tags .now) _ (sym (c .before .before .before .before .before .serves .ensures) ∙ not-false _ (c .before .before .before .before .if1 .left)) (c .unmap .ensures (c .before .before .before .before .before .before .before .before .before .before .args .cells .now) (c .before .before .before .before .before .before .before .before .before .before .args .tags .now)))
+returns-10 c =
+    let call9 = c .before .before .call9 in
+    let a = c .before .before .before .before .before .before .before .before .before .before .args in
+    let serves = c .before .before .before .before .before .serves in
+    let if1 = c .before .before .before .before .if1 in
+    let unmap = c .unmap in
+    rw (call9 .given .1) (judged-ruled (a .self) _ (a .cells .now) (a .tags .now) _ (sym (serves .ensures) ∙ not-false _ (if1 .left)) (unmap .ensures (a .cells .now) (a .tags .now)))
 
 same-length-3 : tie.Need-same-length-3
 same-length-3 c = search needs
@@ -152,7 +211,13 @@ same-length-4 : tie.Need-same-length-4
 same-length-4 c = search needs
 
 returns-11 : tie.Need-returns-11
-returns-11 c = rw (c .before .before .before .before .before .before .before .before .call10 .given .1) (judged-ruled (c .before .before .before .before .before .before .before .before .before .before .before .before .before .before .before .before .args .self) _ (c .before .before .before .before .before .before .before .before .before .before .before .before .before .before .before .before .args .cells .now) (c .before .before .before .before .before .before .before .before .before .before .before .before .before .before .before .before .args .tags .now) _ (sym (c .before .before .before .before .before .before .before .before .before .before .before .serves .ensures) ∙ not-false _ (c .before .before .before .before .before .before .before .before .before .before .if1 .left)) (c .before .before .before .before .zero .ensures))
+returns-11 c =
+    let call10 = c .before .before .before .before .before .before .before .before .call10 in
+    let a = c .before .before .before .before .before .before .before .before .before .before .before .before .before .before .before .before .args in
+    let serves = c .before .before .before .before .before .before .before .before .before .before .before .serves in
+    let if1 = c .before .before .before .before .before .before .before .before .before .before .if1 in
+    let zero = c .before .before .before .before .zero in
+    rw (call10 .given .1) (judged-ruled (a .self) _ (a .cells .now) (a .tags .now) _ (sym (serves .ensures) ∙ not-false _ (if1 .left)) (zero .ensures))
 
 same-length-5 : tie.Need-same-length-5
 same-length-5 c = search needs
@@ -161,7 +226,13 @@ same-length-6 : tie.Need-same-length-6
 same-length-6 c = search needs
 
 returns-12 : tie.Need-returns-12
-returns-12 c = rw (c .before .before .before .before .call11 .given .1) (judged-ruled (c .before .before .before .before .before .before .before .before .before .before .before .before .args .self) _ (c .before .before .before .before .before .before .before .before .before .before .before .before .args .cells .now) (c .before .before .before .before .before .before .before .before .before .before .before .before .args .tags .now) _ (sym (c .before .before .before .before .before .before .before .serves .ensures) ∙ not-false _ (c .before .before .before .before .before .before .if1 .left)) (c .load .ensures))
+returns-12 c =
+    let call11 = c .before .before .before .before .call11 in
+    let a = c .before .before .before .before .before .before .before .before .before .before .before .before .args in
+    let serves = c .before .before .before .before .before .before .before .serves in
+    let if1 = c .before .before .before .before .before .before .if1 in
+    let load = c .load in
+    rw (call11 .given .1) (judged-ruled (a .self) _ (a .cells .now) (a .tags .now) _ (sym (serves .ensures) ∙ not-false _ (if1 .left)) (load .ensures))
 
 same-length-7 : tie.Need-same-length-7
 same-length-7 c = search needs
@@ -170,19 +241,49 @@ same-length-8 : tie.Need-same-length-8
 same-length-8 c = search needs
 
 returns-13 : tie.Need-returns-13
-returns-13 c = rw (c .before .before .before .before .before .before .before .before .call12 .given .1) (judged-ruled (c .before .before .before .before .before .before .before .before .before .before .before .before .before .before .before .before .args .self) _ (c .before .before .before .before .before .before .before .before .before .before .before .before .before .before .before .before .args .cells .now) (c .before .before .before .before .before .before .before .before .before .before .before .before .before .before .before .before .args .tags .now) _ (sym (c .before .before .before .before .before .before .before .before .before .before .before .serves .ensures) ∙ not-false _ (c .before .before .before .before .before .before .before .before .before .before .if1 .left)) (c .before .before .before .before .store .ensures))
+returns-13 c =
+    let call12 = c .before .before .before .before .before .before .before .before .call12 in
+    let a = c .before .before .before .before .before .before .before .before .before .before .before .before .before .before .before .before .args in
+    let serves = c .before .before .before .before .before .before .before .before .before .before .before .serves in
+    let if1 = c .before .before .before .before .before .before .before .before .before .before .if1 in
+    let store = c .before .before .before .before .store in
+    rw (call12 .given .1) (judged-ruled (a .self) _ (a .cells .now) (a .tags .now) _ (sym (serves .ensures) ∙ not-false _ (if1 .left)) (store .ensures))
 
 returns-14 : tie.Need-returns-14
-returns-14 c = rw (c .before .before .call13 .given .1) (judged-ruled (c .before .before .before .before .before .before .before .before .before .before .args .self) _ (c .before .before .before .before .before .before .before .before .before .before .args .cells .now) (c .before .before .before .before .before .before .before .before .before .before .args .tags .now) _ (sym (c .before .before .before .before .before .serves .ensures) ∙ not-false _ (c .before .before .before .before .if1 .left)) (c .narrow .ensures (c .before .before .before .before .before .before .before .before .before .before .args .cells .now) (c .before .before .before .before .before .before .before .before .before .before .args .tags .now)))
+returns-14 c =
+    let call13 = c .before .before .call13 in
+    let a = c .before .before .before .before .before .before .before .before .before .before .args in
+    let serves = c .before .before .before .before .before .serves in
+    let if1 = c .before .before .before .before .if1 in
+    let narrow = c .narrow in
+    rw (call13 .given .1) (judged-ruled (a .self) _ (a .cells .now) (a .tags .now) _ (sym (serves .ensures) ∙ not-false _ (if1 .left)) (narrow .ensures (a .cells .now) (a .tags .now)))
 
 returns-15 : tie.Need-returns-15
-returns-15 c = rw (c .before .before .call14 .given .1) (judged-ruled (c .before .before .before .before .before .before .before .before .before .before .args .self) _ (c .before .before .before .before .before .before .before .before .before .before .args .cells .now) (c .before .before .before .before .before .before .before .before .before .before .args .tags .now) _ (sym (c .before .before .before .before .before .serves .ensures) ∙ not-false _ (c .before .before .before .before .if1 .left)) (c .number .ensures (c .before .before .before .before .before .before .before .before .before .before .args .cells .now) (c .before .before .before .before .before .before .before .before .before .before .args .tags .now)))
+returns-15 c =
+    let call14 = c .before .before .call14 in
+    let a = c .before .before .before .before .before .before .before .before .before .before .args in
+    let serves = c .before .before .before .before .before .serves in
+    let if1 = c .before .before .before .before .if1 in
+    let number = c .number in
+    rw (call14 .given .1) (judged-ruled (a .self) _ (a .cells .now) (a .tags .now) _ (sym (serves .ensures) ∙ not-false _ (if1 .left)) (number .ensures (a .cells .now) (a .tags .now)))
 
 returns-16 : tie.Need-returns-16
-returns-16 c = rw (c .before .before .call15 .given .1) (judged-ruled (c .before .before .before .before .before .before .before .before .before .before .args .self) _ (c .before .before .before .before .before .before .before .before .before .before .args .cells .now) (c .before .before .before .before .before .before .before .before .before .before .args .tags .now) _ (sym (c .before .before .before .before .before .serves .ensures) ∙ not-false _ (c .before .before .before .before .if1 .left)) (c .grant .ensures (c .before .before .before .before .before .before .before .before .before .before .args .cells .now) (c .before .before .before .before .before .before .before .before .before .before .args .tags .now)))
+returns-16 c =
+    let call15 = c .before .before .call15 in
+    let a = c .before .before .before .before .before .before .before .before .before .before .args in
+    let serves = c .before .before .before .before .before .serves in
+    let if1 = c .before .before .before .before .if1 in
+    let grant = c .grant in
+    rw (call15 .given .1) (judged-ruled (a .self) _ (a .cells .now) (a .tags .now) _ (sym (serves .ensures) ∙ not-false _ (if1 .left)) (grant .ensures (a .cells .now) (a .tags .now)))
 
 returns-17 : tie.Need-returns-17
-returns-17 c = rw (c .before .before .call16 .given .1) (judged-ruled (c .before .before .before .before .before .before .before .before .before .before .args .self) _ (c .before .before .before .before .before .before .before .before .before .before .args .cells .now) (c .before .before .before .before .before .before .before .before .before .before .args .tags .now) _ (sym (c .before .before .before .before .before .serves .ensures) ∙ not-false _ (c .before .before .before .before .if1 .left)) (c .receive .ensures (c .before .before .before .before .before .before .before .before .before .before .args .cells .now) (c .before .before .before .before .before .before .before .before .before .before .args .tags .now)))
+returns-17 c =
+    let call16 = c .before .before .call16 in
+    let a = c .before .before .before .before .before .before .before .before .before .before .args in
+    let serves = c .before .before .before .before .before .serves in
+    let if1 = c .before .before .before .before .if1 in
+    let receive = c .receive in
+    rw (call16 .given .1) (judged-ruled (a .self) _ (a .cells .now) (a .tags .now) _ (sym (serves .ensures) ∙ not-false _ (if1 .left)) (receive .ensures (a .cells .now) (a .tags .now)))
 
 pub step-spec : {M : Type 1} → statement M
 step-spec =

@@ -40,7 +40,13 @@ same-length-2 c = search needs
 
 returns-2 : tie.Need-returns-2
 unfolding commandJudged onReading
-returns-2 c = rw (sym (c .before .before .before .before .before .before .before .before .before .before .before .before .serves .ensures) ∙ not-false _ (c .before .before .before .before .before .before .before .before .before .before .before .if1 .left), sym (c .before .before .before .before .before .before .before .before .before .before .read-at .ensures .is) ∙ c .before .before .before .before .before .before .before .before .call .given .1) (ap (λ (o : Outcome). ran (record { answered = o .answer; used = c .before .before .before .before .before .before .before .before .call .given .0 .1 .0 }) (o .cells) (o .tags)) (c .before .before .before .before .step .ensures))
+returns-2 c =
+    let serves = c .before .before .before .before .before .before .before .before .before .before .before .before .serves in
+    let if1 = c .before .before .before .before .before .before .before .before .before .before .before .if1 in
+    let read-at = c .before .before .before .before .before .before .before .before .before .before .read-at in
+    let call = c .before .before .before .before .before .before .before .before .call in
+    let step = c .before .before .before .before .step in
+    rw (sym (serves .ensures) ∙ not-false _ (if1 .left), sym (read-at .ensures .is) ∙ call .given .1) (ap (λ (o : Outcome). ran (record { answered = o .answer; used = call .given .0 .1 .0 }) (o .cells) (o .tags)) (step .ensures))
 
 returns-3 : tie.Need-returns-3
 unfolding commandJudged onReading

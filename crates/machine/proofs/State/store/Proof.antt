@@ -51,7 +51,6 @@ refused-requires c κs = search needs
 returns : tie.Need-returns
 unfolding first reasons
 returns c =
-    let refused = c .refused in
     let a = c .before .before .before .before .before .before .before .before .before .before .before .before .before .before .before .before .before .args in
     let first5 = c .before .before .first5 in
     let first4 = c .before .before .before .first4 in
@@ -66,7 +65,7 @@ returns c =
     let register = c .before .before .before .before .before .before .before .before .before .before .before .before .before .before .register in
     let register2 = c .before .before .before .before .before .before .before .before .before .before .before .before .before .register2 in
     let if1 = c .before .if1 in
-    rw (refused .ensures) (ruled-down (a .self) (Store (a .party) (a .a) (a .off) (a .s)) (first5 .result) (rw (first5 .ensures, first4 .ensures, first3 .ensures, may-not-store .ensures, unnamed .ensures, first2 .ensures, first .ensures, nowhere .ensures, length-of .ensures, addressed .ensures, register .ensures, register2 .ensures)) (if1 .taken) (a .cells .now) (a .tags .now))
+    let refused = c .refused in let a = a in let first5 = first5 in let first4 = first4 in let first3 = first3 in let may-not-store = may-not-store in let unnamed = unnamed in let first2 = first2 in let first = first in let nowhere = nowhere in let length-of = length-of in let addressed = addressed in let register = register in let register2 = register2 in let if1 = if1 in rw (refused .ensures) (ruled-down (a .self) (Store (a .party) (a .a) (a .off) (a .s)) (first5 .result) (rw (first5 .ensures, first4 .ensures, first3 .ensures, may-not-store .ensures, unnamed .ensures, first2 .ensures, first .ensures, nowhere .ensures, length-of .ensures, addressed .ensures, register .ensures, register2 .ensures)) (if1 .taken) (a .cells .now) (a .tags .now))
 
 dying-requires : tie.Need-dying-requires
 dying-requires c κs = search needs
@@ -109,13 +108,12 @@ returns-2 c =
     let register = c .before .before .before .before .before .before .before .before .before .before .before .before .before .before .before .before .before .before .before .before .before .before .before .before .before .before .register in
     let register2 = c .before .before .before .before .before .before .before .before .before .before .before .before .before .before .before .before .before .before .before .before .before .before .before .before .before .register2 in
     let if1 = c .before .before .before .before .before .before .before .before .before .before .before .before .before .if1 in
-    let granted = c .granted in
     let put-tag = c .before .before .before .put-tag in
     let put-cell = c .before .before .before .before .before .before .before .put-cell in
     let keep-tag = c .before .before .before .before .before .before .before .before .before .before .keep-tag in
     let dying = c .before .before .before .before .before .before .before .before .before .before .before .dying in
     let place-number = c .before .before .before .before .before .before .before .before .before .place-number in
-    ruled-done (a .self) (Store (a .party) (a .a) (a .off) (a .s)) (first5 .result) (rw (first5 .ensures, first4 .ensures, first3 .ensures, may-not-store .ensures, unnamed .ensures, first2 .ensures, first .ensures, nowhere .ensures, length-of .ensures, addressed .ensures, register .ensures, register2 .ensures)) (if1 .left) (a .cells .now) (a .tags .now) _ (rw (granted .ensures, put-tag .ensures, put-cell .ensures, keep-tag .ensures, dying .ensures, place-number .ensures, addressed .ensures, register .ensures, register2 .ensures) (done-write (a .self) (a .self .core) _ _ _ _ _))
+    let a = a in let first5 = first5 in let first4 = first4 in let first3 = first3 in let may-not-store = may-not-store in let unnamed = unnamed in let first2 = first2 in let first = first in let nowhere = nowhere in let length-of = length-of in let addressed = addressed in let register = register in let register2 = register2 in let if1 = if1 in let granted = c .granted in let put-tag = put-tag in let put-cell = put-cell in let keep-tag = keep-tag in let dying = dying in let place-number = place-number in ruled-done (a .self) (Store (a .party) (a .a) (a .off) (a .s)) (first5 .result) (rw (first5 .ensures, first4 .ensures, first3 .ensures, may-not-store .ensures, unnamed .ensures, first2 .ensures, first .ensures, nowhere .ensures, length-of .ensures, addressed .ensures, register .ensures, register2 .ensures)) (if1 .left) (a .cells .now) (a .tags .now) _ (rw (granted .ensures, put-tag .ensures, put-cell .ensures, keep-tag .ensures, dying .ensures, place-number .ensures, addressed .ensures, register .ensures, register2 .ensures) (done-write (a .self) (a .self .core) _ _ _ _ _))
 
 pub store-spec : {M : Type 1} → statement M
 store-spec =

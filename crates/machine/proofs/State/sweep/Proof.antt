@@ -28,7 +28,14 @@ refused-requires c κs = search needs
 
 returns : tie.Need-returns
 unfolding first reasons
-returns c = rw (c .refused .ensures) (ruled-down (c .before .before .before .before .before .before .before .before .args .self) (Sweep (c .before .before .before .before .before .before .before .before .args .party) (c .before .before .before .before .before .before .before .before .args .n)) (c .before .before .manager-code .result) (rw (c .before .before .manager-code .ensures, c .before .before .before .first .ensures, c .before .before .before .before .running .ensures)) (c .before .if1 .taken) (c .before .before .before .before .before .before .before .before .args .cells .now) (c .before .before .before .before .before .before .before .before .args .tags .now))
+returns c =
+    let refused = c .refused in
+    let a = c .before .before .before .before .before .before .before .before .args in
+    let manager-code = c .before .before .manager-code in
+    let first = c .before .before .before .first in
+    let running = c .before .before .before .before .running in
+    let if1 = c .before .if1 in
+    rw (refused .ensures) (ruled-down (a .self) (Sweep (a .party) (a .n)) (manager-code .result) (rw (manager-code .ensures, first .ensures, running .ensures)) (if1 .taken) (a .cells .now) (a .tags .now))
 
 sweep-requires : tie.Need-sweep-requires
 sweep-requires c κs = search needs
@@ -48,12 +55,16 @@ same-length c = search needs
 returns-2 : tie.Need-returns-2
 unfolding first reasons effect
 returns-2 c =
-    let on = sym (c .before .before .before .before .before .before .before .before .before .before .before .running .ensures) ∙ runs _ _ (c .before .before .before .before .before .before .before .before .before .before .first .ensures) (manager-clear (unnamed (c .before .before .before .before .before .before .before .before .before .before .before .before .before .before .before .args .party)) (notManager (c .before .before .before .before .before .before .before .before .before .before .before .before .before .before .before .args .party)) _ _ (c .before .before .before .before .before .before .before .before .before .manager-code .ensures) (c .before .before .before .before .before .before .before .before .if1 .left)) in
-    let z = c .before .before .before .before .before .before .sweep .ensures ∙ sweep-done (c .before .before .before .before .before .before .before .before .before .before .before .before .before .before .before .args .self .core) (c .before .before .before .before .before .before .before .before .before .before .before .before .before .before .before .args .n) (c .before .before .before .before .before .before .before .before .before .before .before .before .before .before .before .args .cells .now) (c .before .before .before .before .before .before .before .before .before .before .before .before .before .before .before .args .tags .now) on (c .before .before .before .before .before .before .before .before .before .before .before .before .before .before .before .pre) in
-    ruled-done (c .before .before .before .before .before .before .before .before .before .before .before .before .before .before .before .args .self) (Sweep (c .before .before .before .before .before .before .before .before .before .before .before .before .before .before .before .args .party) (c .before .before .before .before .before .before .before .before .before .before .before .before .before .before .before .args .n)) (c .before .before .before .before .before .before .before .before .before .manager-code .result) (rw (c .before .before .before .before .before .before .before .before .before .manager-code .ensures, c .before .before .before .before .before .before .before .before .before .before .first .ensures, c .before .before .before .before .before .before .before .before .before .before .before .running .ensures)) (c .before .before .before .before .before .before .before .before .if1 .left) (c .before .before .before .before .before .before .before .before .before .before .before .before .before .before .before .args .cells .now) (c .before .before .before .before .before .before .before .before .before .before .before .before .before .before .before .args .tags .now) _
-    (rw (c .granted .ensures, c .before .before .with-core .ensures)
-    (ap (λ (y : Passing). left (answered 0 (slot (y .answer .left) false) (withCore (c .before .before .before .before .before .before .before .before .before .before .before .before .before .before .before .args .self) (y .answer .core))) (c .before .before .before .before .before .before .before .before .before .before .before .before .before .before .before .args .cells .now) (y .tags)) z
-    ∙ done-sweep (c .before .before .before .before .before .before .before .before .before .before .before .before .before .before .before .args .self) _ _ _ _ _ _ _))
+    let running = c .before .before .before .before .before .before .before .before .before .before .before .running in
+    let first = c .before .before .before .before .before .before .before .before .before .before .first in
+    let a = c .before .before .before .before .before .before .before .before .before .before .before .before .before .before .before .args in
+    let manager-code = c .before .before .before .before .before .before .before .before .before .manager-code in
+    let if1 = c .before .before .before .before .before .before .before .before .if1 in
+    let sweep = c .before .before .before .before .before .before .sweep in
+    let pre = c .before .before .before .before .before .before .before .before .before .before .before .before .before .before .before .pre in
+    let granted = c .granted in
+    let with-core = c .before .before .with-core in
+    let on = sym (running .ensures) ∙ runs _ _ (first .ensures) (manager-clear (unnamed (a .party)) (notManager (a .party)) _ _ (manager-code .ensures) (if1 .left)) in let z = sweep .ensures ∙ sweep-done (a .self .core) (a .n) (a .cells .now) (a .tags .now) on pre in ruled-done (a .self) (Sweep (a .party) (a .n)) (manager-code .result) (rw (manager-code .ensures, first .ensures, running .ensures)) (if1 .left) (a .cells .now) (a .tags .now) _ (rw (granted .ensures, with-core .ensures) (ap (λ (y : Passing). left (answered 0 (slot (y .answer .left) false) (withCore (a .self) (y .answer .core))) (a .cells .now) (y .tags)) z ∙ done-sweep (a .self) _ _ _ _ _ _ _))
 
 pub sweep-spec : {M : Type 1} → statement M
 sweep-spec =

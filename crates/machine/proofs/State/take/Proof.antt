@@ -21,7 +21,13 @@ refused-requires c κs = search needs
 
 returns : tie.Need-returns
 unfolding first reasons takeOf
-returns c = rw (c .refused .ensures) (ruled-down (c .before .before .before .before .before .before .args .self) (Take (c .before .before .before .before .before .before .args .party) (c .before .before .before .before .before .before .args .base) (c .before .before .before .before .before .before .args .reg)) _ (c .before .before .first .ensures ∙ rw (c .before .before .before .take .ensures)) (c .before .if1 .taken))
+returns c =
+    let refused = c .refused in
+    let a = c .before .before .before .before .before .before .args in
+    let first = c .before .before .first in
+    let take = c .before .before .before .take in
+    let if1 = c .before .if1 in
+    rw (refused .ensures) (ruled-down (a .self) (Take (a .party) (a .base) (a .reg)) _ (first .ensures ∙ rw (take .ensures)) (if1 .taken))
 
 capability-requires : tie.Need-capability-requires
 capability-requires c κs = search needs
@@ -40,7 +46,16 @@ granted-requires c κs = search needs
 
 returns-2 : tie.Need-returns-2
 unfolding first reasons effect takeOf
-returns-2 c = λ cells tags. ruled-done (c .before .before .before .before .before .before .before .before .before .before .args .self) (Take (c .before .before .before .before .before .before .before .before .before .before .args .party) (c .before .before .before .before .before .before .before .before .before .before .args .base) (c .before .before .before .before .before .before .before .before .before .before .args .reg)) _ (c .before .before .before .before .before .before .first .ensures ∙ rw (c .before .before .before .before .before .before .before .take .ensures)) (c .before .before .before .before .before .if1 .left) cells tags _ (rw (c .granted .ensures, c .before .with-register .ensures, c .before .before .with-table .ensures, c .before .before .before .capability .ensures, c .before .before .before .before .before .before .before .take .ensures) (done-register _ _ _ _ _ _ _ _))
+returns-2 c =
+    let a = c .before .before .before .before .before .before .before .before .before .before .args in
+    let first = c .before .before .before .before .before .before .first in
+    let take = c .before .before .before .before .before .before .before .take in
+    let if1 = c .before .before .before .before .before .if1 in
+    let granted = c .granted in
+    let with-register = c .before .with-register in
+    let with-table = c .before .before .with-table in
+    let capability = c .before .before .before .capability in
+    λ cells tags. ruled-done (a .self) (Take (a .party) (a .base) (a .reg)) _ (first .ensures ∙ rw (take .ensures)) (if1 .left) cells tags _ (rw (granted .ensures, with-register .ensures, with-table .ensures, capability .ensures, take .ensures) (done-register _ _ _ _ _ _ _ _))
 
 pub take-spec : {M : Type 1} → statement M
 take-spec =

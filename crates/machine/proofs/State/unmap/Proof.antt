@@ -20,7 +20,13 @@ refused-requires c κs = search needs
 
 returns : tie.Need-returns
 unfolding first reasons unmapOf
-returns c = rw (c .refused .ensures) (ruled-down (c .before .before .before .before .before .before .args .self) (Unmap (c .before .before .before .before .before .before .args .party) (c .before .before .before .before .before .before .args .page)) (c .before .before .manager-code .result) (rw (c .before .before .manager-code .ensures, c .before .before .before .unmap .ensures)) (c .before .if1 .taken))
+returns c =
+    let refused = c .refused in
+    let a = c .before .before .before .before .before .before .args in
+    let manager-code = c .before .before .manager-code in
+    let unmap = c .before .before .before .unmap in
+    let if1 = c .before .if1 in
+    rw (refused .ensures) (ruled-down (a .self) (Unmap (a .party) (a .page)) (manager-code .result) (rw (manager-code .ensures, unmap .ensures)) (if1 .taken))
 
 with-pages-requires : tie.Need-with-pages-requires
 with-pages-requires c κs = search needs
@@ -30,7 +36,14 @@ granted-requires c κs = search needs
 
 returns-2 : tie.Need-returns-2
 unfolding first reasons effect unmapOf
-returns-2 c = λ cells tags. ruled-done (c .before .before .before .before .before .before .before .before .args .self) (Unmap (c .before .before .before .before .before .before .before .before .args .party) (c .before .before .before .before .before .before .before .before .args .page)) (c .before .before .before .before .manager-code .result) (rw (c .before .before .before .before .manager-code .ensures, c .before .before .before .before .before .unmap .ensures)) (c .before .before .before .if1 .left) cells tags _ (rw (c .granted .ensures, c .before .with-pages .ensures, c .before .before .before .before .before .unmap .ensures) (done-core _ _ _ _ _))
+returns-2 c =
+    let a = c .before .before .before .before .before .before .before .before .args in
+    let manager-code = c .before .before .before .before .manager-code in
+    let unmap = c .before .before .before .before .before .unmap in
+    let if1 = c .before .before .before .if1 in
+    let granted = c .granted in
+    let with-pages = c .before .with-pages in
+    λ cells tags. ruled-done (a .self) (Unmap (a .party) (a .page)) (manager-code .result) (rw (manager-code .ensures, unmap .ensures)) (if1 .left) cells tags _ (rw (granted .ensures, with-pages .ensures, unmap .ensures) (done-core _ _ _ _ _))
 
 pub unmap-spec : {M : Type 1} → statement M
 unmap-spec =

@@ -25,7 +25,13 @@ refused-requires c κs = search needs
 
 returns : tie.Need-returns
 unfolding first reasons
-returns c = rw (c .refused .ensures) (ruled-down (c .before .before .before .before .before .before .before .before .args .self) (Zero (c .before .before .before .before .before .before .before .before .args .party) (c .before .before .before .before .before .before .before .before .args .frame)) (c .before .before .manager-code .result) (rw (c .before .before .manager-code .ensures, c .before .before .before .dirty-code .ensures)) (c .before .if1 .taken) (c .before .before .before .before .before .before .before .before .args .cells .now) (c .before .before .before .before .before .before .before .before .args .tags .now))
+returns c =
+    let refused = c .refused in
+    let a = c .before .before .before .before .before .before .before .before .args in
+    let manager-code = c .before .before .manager-code in
+    let dirty-code = c .before .before .before .dirty-code in
+    let if1 = c .before .if1 in
+    rw (refused .ensures) (ruled-down (a .self) (Zero (a .party) (a .frame)) (manager-code .result) (rw (manager-code .ensures, dirty-code .ensures)) (if1 .taken) (a .cells .now) (a .tags .now))
 
 zero-requires : tie.Need-zero-requires
 zero-requires c κs = search needs
@@ -45,12 +51,15 @@ same-length-2 c = search needs
 returns-2 : tie.Need-returns-2
 unfolding first reasons effect
 returns-2 c =
-    let clear = sym (c .before .before .before .before .before .before .before .before .before .before .before .before .dirty-code .ensures) ∙ manager-clear (unnamed (c .before .before .before .before .before .before .before .before .before .before .before .before .before .before .before .before .before .args .party)) (notManager (c .before .before .before .before .before .before .before .before .before .before .before .before .before .before .before .before .before .args .party)) _ _ (c .before .before .before .before .before .before .before .before .before .before .before .manager-code .ensures) (c .before .before .before .before .before .before .before .before .before .before .if1 .left) in
-    let z = c .before .before .before .before .before .before .before .zero .ensures ∙ zero-done (c .before .before .before .before .before .before .before .before .before .before .before .before .before .before .before .before .before .args .self .core .pages) (c .before .before .before .before .before .before .before .before .before .before .before .before .before .before .before .before .before .args .frame) (c .before .before .before .before .before .before .before .before .before .before .before .before .before .before .before .before .before .args .cells .now) (c .before .before .before .before .before .before .before .before .before .before .before .before .before .before .before .before .before .args .tags .now) (c .before .before .before .before .before .before .before .before .before .before .before .before .before .before .before .before .before .pre) clear in
-    ruled-done (c .before .before .before .before .before .before .before .before .before .before .before .before .before .before .before .before .before .args .self) (Zero (c .before .before .before .before .before .before .before .before .before .before .before .before .before .before .before .before .before .args .party) (c .before .before .before .before .before .before .before .before .before .before .before .before .before .before .before .before .before .args .frame)) (c .before .before .before .before .before .before .before .before .before .before .before .manager-code .result) (rw (c .before .before .before .before .before .before .before .before .before .before .before .manager-code .ensures, c .before .before .before .before .before .before .before .before .before .before .before .before .dirty-code .ensures)) (c .before .before .before .before .before .before .before .before .before .before .if1 .left) (c .before .before .before .before .before .before .before .before .before .before .before .before .before .before .before .before .before .args .cells .now) (c .before .before .before .before .before .before .before .before .before .before .before .before .before .before .before .before .before .args .tags .now) _
-    (rw (c .granted .ensures, c .before .with-pages .ensures)
-    (ap (λ (y : Zeroed). left (answered 0 empty (withCore (c .before .before .before .before .before .before .before .before .before .before .before .before .before .before .before .before .before .args .self) (withPages (c .before .before .before .before .before .before .before .before .before .before .before .before .before .before .before .before .before .args .self .core) (y .answer .pages)))) (y .cells) (y .tags)) z
-    ∙ done-clear (c .before .before .before .before .before .before .before .before .before .before .before .before .before .before .before .before .before .args .self) _ _ _ _ _))
+    let dirty-code = c .before .before .before .before .before .before .before .before .before .before .before .before .dirty-code in
+    let a = c .before .before .before .before .before .before .before .before .before .before .before .before .before .before .before .before .before .args in
+    let manager-code = c .before .before .before .before .before .before .before .before .before .before .before .manager-code in
+    let if1 = c .before .before .before .before .before .before .before .before .before .before .if1 in
+    let zero = c .before .before .before .before .before .before .before .zero in
+    let pre = c .before .before .before .before .before .before .before .before .before .before .before .before .before .before .before .before .before .pre in
+    let granted = c .granted in
+    let with-pages = c .before .with-pages in
+    let clear = sym (dirty-code .ensures) ∙ manager-clear (unnamed (a .party)) (notManager (a .party)) _ _ (manager-code .ensures) (if1 .left) in let z = zero .ensures ∙ zero-done (a .self .core .pages) (a .frame) (a .cells .now) (a .tags .now) pre clear in ruled-done (a .self) (Zero (a .party) (a .frame)) (manager-code .result) (rw (manager-code .ensures, dirty-code .ensures)) (if1 .left) (a .cells .now) (a .tags .now) _ (rw (granted .ensures, with-pages .ensures) (ap (λ (y : Zeroed). left (answered 0 empty (withCore (a .self) (withPages (a .self .core) (y .answer .pages)))) (y .cells) (y .tags)) z ∙ done-clear (a .self) _ _ _ _ _))
 
 pub zero-spec : {M : Type 1} → statement M
 zero-spec =

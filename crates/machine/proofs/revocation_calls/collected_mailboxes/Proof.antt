@@ -52,10 +52,17 @@ loop-less : tie.Need-loop-less Inv-loop μ-loop
 loop-less c = omega arith
 
 loop-again : tie.Need-loop-again Inv-loop μ-loop
-loop-again c = (omega arith, c .before .before .before .loop .inv .1, mapEach-turn (collected (c .before .before .before .before .args .running) (c .before .before .before .before .args .range)) (c .before .before .before .before .args .t3) (c .before .before .before .loop .words) (c .before .before .before .loop .i) empty _ (omega arith) (c .before .before .before .loop .inv .2) (c .collected-mailbox .ensures))
+loop-again c =
+    let loop = c .before .before .before .loop in
+    let a = c .before .before .before .before .args in
+    let collected-mailbox = c .collected-mailbox in
+    (omega arith, loop .inv .1, mapEach-turn (collected (a .running) (a .range)) (a .t3) (loop .words) (loop .i) empty _ (omega arith) (loop .inv .2) (collected-mailbox .ensures))
 
 returns : tie.Need-returns Inv-loop μ-loop
-returns c = c .before .loop .inv .2 ∙ mapEach-whole (collected (c .before .before .args .running) (c .before .before .args .range)) (c .before .before .args .t3) (c .before .loop .i) (omega arith) ∙ mapEach-map (collected (c .before .before .args .running) (c .before .before .args .range) 0) 0 (c .before .before .args .t3)
+returns c =
+    let loop = c .before .loop in
+    let a = c .before .before .args in
+    loop .inv .2 ∙ mapEach-whole (collected (a .running) (a .range)) (a .t3) (loop .i) (omega arith) ∙ mapEach-map (collected (a .running) (a .range) 0) 0 (a .t3)
 
 pub collected-mailboxes-spec : {M : Type 1} → statement M
 collected-mailboxes-spec =

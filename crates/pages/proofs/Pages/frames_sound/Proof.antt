@@ -58,11 +58,19 @@ loop-less c = omega arith
 
 loop-again : tie.Need-loop-again Inv-loop μ-loop
 unfolding counted
-loop-again c = (omega arith, c .before .before .before .loop .inv .1, rw (each-more (counted (c .before .before .before .before .before .before .args .self .f) (c .before .before .before .before .before .tally .result)) (c .before .before .before .before .before .before .args .self .frames) (c .before .before .before .loop .k) (frameEntry Dirty) (omega arith)) (cc))
+loop-again c =
+    let loop = c .before .before .before .loop in
+    let a = c .before .before .before .before .before .before .args in
+    let tally = c .before .before .before .before .before .tally in
+    (omega arith, loop .inv .1, rw (each-more (counted (a .self .f) (tally .result)) (a .self .frames) (loop .k) (frameEntry Dirty) (omega arith)) cc)
 
 returns : tie.Need-returns Inv-loop μ-loop
 unfolding counted frameSound
-returns c = c .before .loop .inv .2 ∙ ap (each (counted (c .before .before .before .before .args .self .f) (c .before .before .before .tally .result)) 0) (take-all (c .before .loop .k) (c .before .before .before .before .args .self .frames) (omega arith)) ∙ each-same (counted (c .before .before .before .before .args .self .f) (c .before .before .before .tally .result)) (frameSound (c .before .before .before .before .args .self .f) (c .before .before .before .before .args .self .pages)) 0 (c .before .before .before .before .args .self .frames) (λ i x h. rw (c .before .before .before .tally .ensures (0 + i) (omega (arith, c .before .loop .inv .1))))
+returns c =
+    let loop = c .before .loop in
+    let a = c .before .before .before .before .args in
+    let tally = c .before .before .before .tally in
+    loop .inv .2 ∙ ap (each (counted (a .self .f) (tally .result)) 0) (take-all (loop .k) (a .self .frames) (omega arith)) ∙ each-same (counted (a .self .f) (tally .result)) (frameSound (a .self .f) (a .self .pages)) 0 (a .self .frames) (λ i x h. rw (tally .ensures (0 + i) (omega (arith, loop .inv .1))))
 
 pub frames-sound-spec : {M : Type 1} → statement M
 frames-sound-spec =

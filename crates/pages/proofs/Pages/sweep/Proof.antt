@@ -33,7 +33,12 @@ cast-sweep-tags : tie.Need-cast-sweep-tags
 cast-sweep-tags c = search needs
 
 sweep-tags-requires : tie.Need-sweep-tags-requires
-sweep-tags-requires c κs = let h = served (c .before .before .before .before .before .before .before .before .args .self) (length (c .before .before .before .before .before .before .before .before .args .cells .now)) (length (c .before .before .before .before .before .before .before .before .args .tags .now)) (sym (c .before .before .before .before .before .serves .ensures) ∙ not-false _ (c .before .before .before .before .if1 .left)) in (h .0 ∙ sym (h .1), omega arith, λ k. omega (arith, h .1, c .before .before .count-passed .ensures))
+sweep-tags-requires c κs =
+    let a = c .before .before .before .before .before .before .before .before .args in
+    let serves = c .before .before .before .before .before .serves in
+    let if1 = c .before .before .before .before .if1 in
+    let count-passed = c .before .before .count-passed in
+    let h = served (a .self) (length (a .cells .now)) (length (a .tags .now)) (sym (serves .ensures) ∙ not-false _ (if1 .left)) in (h .0 ∙ sym (h .1), omega arith, λ k. omega (arith, h .1, count-passed .ensures))
 
 cells-left-requires : tie.Need-cells-left-requires
 cells-left-requires c κs = search needs
@@ -43,7 +48,13 @@ same-length c = search needs
 
 returns-2 : tie.Need-returns-2
 unfolding sweepOf passed
-returns-2 c = rw (c .cells-left .ensures, c .before .before .before .sweep-tags .ensures, c .before .before .before .before .before .before .count-passed .ensures, sym (c .before .before .before .before .before .before .before .before .before .serves .ensures) ∙ not-false _ (c .before .before .before .before .before .before .before .before .if1 .left))
+returns-2 c =
+    let cells-left = c .cells-left in
+    let sweep-tags = c .before .before .before .sweep-tags in
+    let count-passed = c .before .before .before .before .before .before .count-passed in
+    let serves = c .before .before .before .before .before .before .before .before .before .serves in
+    let if1 = c .before .before .before .before .before .before .before .before .if1 in
+    rw (cells-left .ensures, sweep-tags .ensures, count-passed .ensures, sym (serves .ensures) ∙ not-false _ (if1 .left))
 
 pub sweep-spec : {M : Type 1} → statement M
 sweep-spec =

@@ -40,7 +40,11 @@ array-read-tally : tie.Need-array-read-tally Inv-loop μ-loop
 array-read-tally c = omega arith
 
 add-tally : tie.Need-add-tally Inv-loop μ-loop
-add-tally c = omega (arith, c .before .before .before .before .loop .inv .3 (c .before .frame-number .result) (omega arith), mappings-le (c .before .frame-number .result) (take (c .before .before .before .before .loop .p) (c .before .before .before .before .before .before .args .self .pages)), length-take-le (c .before .before .before .before .loop .p) (c .before .before .before .before .before .before .args .self .pages) (omega arith))
+add-tally c =
+    let loop = c .before .before .before .before .loop in
+    let frame-number = c .before .frame-number in
+    let a = c .before .before .before .before .before .before .args in
+    omega (arith, loop .inv .3 (frame-number .result) (omega arith), mappings-le (frame-number .result) (take (loop .p) (a .self .pages)), length-take-le (loop .p) (a .self .pages) (omega arith))
 
 mul-tally-2 : tie.Need-mul-tally-2 Inv-loop μ-loop
 mul-tally-2 c = omega arith
@@ -55,15 +59,16 @@ loop-less : tie.Need-loop-less Inv-loop μ-loop
 loop-less c = omega arith
 
 loop-again : tie.Need-loop-again Inv-loop μ-loop
-loop-again c = (
-  omega arith,
-  c .before .before .before .before .loop .inv .1,
-  ⊎-elim (λ w. rw (w .1, length-set) (c .before .before .before .before .loop .inv .2)) (λ w. rw (w .1) (c .before .before .before .before .loop .inv .2)) (c .if1 .came),
-  ⊎-elim
-      (λ w. subst (λ t. Tally t (take (c .before .before .before .before .loop .p + 1) (c .before .before .before .before .before .before .args .self .pages))) (sym (w .1)) (tally-hit (c .before .before .before .before .loop .tally) (c .before .before .before .before .before .before .args .self .pages) (c .before .before .before .before .loop .p) (pageEntry Unmapped) (c .before .frame-number .result) (omega arith) (c .before .frame-number .ensures) (w .0 .taken) (c .before .before .before .before .loop .inv .2) (c .before .before .before .before .loop .inv .3)))
-      (λ w. subst (λ t. Tally t (take (c .before .before .before .before .loop .p + 1) (c .before .before .before .before .before .before .args .self .pages))) (sym (w .1)) (tally-miss (c .before .before .before .before .loop .tally) (c .before .before .before .before .before .before .args .self .pages) (c .before .before .before .before .loop .p) (pageEntry Unmapped) (omega arith) (rw (← (c .before .frame-number .ensures)) (w .0 .left)) (c .before .before .before .before .loop .inv .3)))
-      (c .if1 .came),
-)
+loop-again c =
+    let loop = c .before .before .before .before .loop in
+    let if1 = c .if1 in
+    let a = c .before .before .before .before .before .before .args in
+    let frame-number = c .before .frame-number in (
+      omega arith,
+      loop .inv .1,
+      ⊎-elim (λ w. rw (w .1, length-set) (loop .inv .2)) (λ w. rw (w .1) (loop .inv .2)) (if1 .came),
+      ⊎-elim (λ w. subst (λ t. Tally t (take (loop .p + 1) (a .self .pages))) (sym (w .1)) (tally-hit (loop .tally) (a .self .pages) (loop .p) (pageEntry Unmapped) (frame-number .result) (omega arith) (frame-number .ensures) (w .0 .taken) (loop .inv .2) (loop .inv .3))) (λ w. subst (λ t. Tally t (take (loop .p + 1) (a .self .pages))) (sym (w .1)) (tally-miss (loop .tally) (a .self .pages) (loop .p) (pageEntry Unmapped) (omega arith) (rw (← (frame-number .ensures)) (w .0 .left)) (loop .inv .3))) (if1 .came),
+    )
 
 returns : tie.Need-returns Inv-loop μ-loop
 returns c = subst (Tally (c .before .loop .tally)) (take-all (c .before .loop .p) (c .before .before .before .args .self .pages) (omega arith)) (c .before .loop .inv .3)

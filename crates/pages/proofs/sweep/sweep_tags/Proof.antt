@@ -46,15 +46,11 @@ loop-less c = omega arith
 
 loop-again : tie.Need-loop-again Inv-loop μ-loop
 loop-again c =
-    let h : c .before .before .before .loop .i < length (c .before .before .before .before .before .before .args .tags .now) = omega (arith, c .before .before .before .before .before .before .pre .2 (omega arith)) in
-    let e : c .if1 .tags ≡ sweptTags (c .before .before .before .before .before .before .args .frames) (c .before .before .before .before .before .before .args .range) (c .before .before .before .before .before .before .args .from) (c .before .before .before .loop .i + 1) (c .before .before .before .before .before .before .args .cells .now) (c .before .before .before .before .before .before .args .tags .now) =
-    ⊎-elim
-    (λ w. rw (w .5, c .before .before .before .loop .inv .3, ← (pick-yes (doomed (c .before .before .before .before .before .before .args .frames) (c .before .before .before .before .before .before .args .range) (c .before .before .before .before .before .before .args .cells .now) (c .before .before .before .loop .i)) 0 (getD (c .before .before .before .before .before .before .args .tags .now) (c .before .before .before .loop .i) 0) (rw (← (w .1 .ensures)) (sym (w .3 .ensures) ∙ w .4 .taken)))) (swept-hit (c .before .before .before .before .before .before .args .frames) (c .before .before .before .before .before .before .args .range) (c .before .before .before .before .before .before .args .from) (c .before .before .before .before .before .before .args .cells .now) (c .before .before .before .before .before .before .args .tags .now) (c .before .before .before .loop .i) h (omega arith)))
-    (⊎-elim
-    (λ w. rw (w .5) (c .before .before .before .loop .inv .3 ∙ swept-stay (c .before .before .before .before .before .before .args .frames) (c .before .before .before .before .before .before .args .range) (c .before .before .before .before .before .before .args .from) (c .before .before .before .before .before .before .args .cells .now) (c .before .before .before .before .before .before .args .tags .now) (c .before .before .before .loop .i) h (omega arith) (rw (← (w .1 .ensures)) (sym (w .3 .ensures) ∙ w .4 .left))))
-    (λ w. rw (w .1) (c .before .before .before .loop .inv .3 ∙ swept-miss (c .before .before .before .before .before .before .args .frames) (c .before .before .before .before .before .before .args .range) (c .before .before .before .before .before .before .args .from) (c .before .before .before .before .before .before .args .cells .now) (c .before .before .before .before .before .before .args .tags .now) (c .before .before .before .loop .i) h (omega arith) (rw (c .before .before .before .loop .inv .3) at (w .0 .left))))) (c .if1 .came)
-    in
-    (omega arith, omega arith, ap length e ∙ length-swept (c .before .before .before .before .before .before .args .frames) (c .before .before .before .before .before .before .args .range) (c .before .before .before .before .before .before .args .from) (c .before .before .before .before .before .before .args .cells .now) (c .before .before .before .before .before .before .args .tags .now) (c .before .before .before .loop .i + 1), e)
+    let loop = c .before .before .before .loop in
+    let a = c .before .before .before .before .before .before .args in
+    let pre = c .before .before .before .before .before .before .pre in
+    let if1 = c .if1 in
+    let h : loop .i < length (a .tags .now) = omega (arith, pre .2 (omega arith)) in let e : if1 .tags ≡ sweptTags (a .frames) (a .range) (a .from) (loop .i + 1) (a .cells .now) (a .tags .now) = ⊎-elim (λ w. rw (w .5, loop .inv .3, ← (pick-yes (doomed (a .frames) (a .range) (a .cells .now) (loop .i)) 0 (getD (a .tags .now) (loop .i) 0) (rw (← (w .1 .ensures)) (sym (w .3 .ensures) ∙ w .4 .taken)))) (swept-hit (a .frames) (a .range) (a .from) (a .cells .now) (a .tags .now) (loop .i) h (omega arith))) (⊎-elim (λ w. rw (w .5) (loop .inv .3 ∙ swept-stay (a .frames) (a .range) (a .from) (a .cells .now) (a .tags .now) (loop .i) h (omega arith) (rw (← (w .1 .ensures)) (sym (w .3 .ensures) ∙ w .4 .left)))) (λ w. rw (w .1) (loop .inv .3 ∙ swept-miss (a .frames) (a .range) (a .from) (a .cells .now) (a .tags .now) (loop .i) h (omega arith) (rw (loop .inv .3) at (w .0 .left))))) (if1 .came) in (omega arith, omega arith, ap length e ∙ length-swept (a .frames) (a .range) (a .from) (a .cells .now) (a .tags .now) (loop .i + 1), e)
 
 same-length : tie.Need-same-length Inv-loop μ-loop
 same-length c = c .before .loop .inv .2
