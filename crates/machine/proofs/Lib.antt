@@ -1,1 +1,4 @@
 pub mod Ruled
+pub mod Judging
+pub mod Lowest
+pub mod Written
