@@ -5,3 +5,5 @@ pub mod Written
 pub mod Dependence
 pub mod Lists
 pub mod PagesKept
+pub mod Lengths
+pub mod Keeps
