@@ -1,7 +1,7 @@
 -- Where privacy begins: the refusal and the effect of a call depend only on the core, the mailboxes and the registers that
 -- the call reads. Other registers and the contents of lent memory play no part. Assumes nothing.
 use Prim.Native.Nat.{ℕ, _*_}
-use mathlib.Core.Bool.{Bool, true, not}
+use mathlib.Core.Bool.{true, not}
 use mathlib.Core.List.{List, _∷_}
 use mathlib.Core.Path.{_≡_, sym, ap, _∙_}
 use lib.ListN.{length}
@@ -14,7 +14,7 @@ use Rattle.machine.specs.Formed.{wellFormed}
 use Rattle.machine.specs.Reasons.{reads, reasons}
 use Rattle.machine.specs.Effects.{effect}
 use Rattle.machine.specs.Step.{reasonsOn, effectOn, stepOf}
-use Rattle.machine.proofs.Lowest.{allReasons, step-code}
+use Rattle.machine.proofs.Lowest.{step-code}
 
 -- Two states that a call cannot tell apart.
 pub record Alike (s t : State) (c : Call) : Type 0 where

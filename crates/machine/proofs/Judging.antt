@@ -15,7 +15,7 @@ use Rattle.pages.proofs.Choice.{pick-yes}
 use Rattle.machine.specs.declared.State.{State}
 use Rattle.machine.specs.Formed.{wellFormed}
 use Rattle.machine.specs.Step.{Outcome, refused, done, reasonsOn, effectOn, ruled, judged, stepOf}
-use Rattle.machine.specs.Command.{Ran, used, commandJudged, commandOf}
+use Rattle.machine.specs.Command.{used, commandJudged, commandOf}
 
 -- What holds of a choice holds if it holds of each side under its test.
 pub pick-by : {A : Type 0} (P : A → Type 0) (b : Bool) (x y : A) → (b ≡ true → P x) → (b ≡ false → P y) → P (pick b x y)

@@ -1,10 +1,10 @@
 -- A step keeps the state well formed, granted or refused, for all sixteen kinds of call; and a granted start is well
 -- formed. Assumes nothing.
-use Prim.Native.Nat.{ℕ, _+_, _*_, _<_, _≤_}
+use Prim.Native.Nat.{ℕ, _*_, _<_}
 use native.Mathlib.Omega.{arith}
 use mathlib.Core.Bool.{Bool, true, false, not, _&&_, _||_}
-use mathlib.Core.List.{List, [], _∷_}
-use mathlib.Core.Path.{_≡_, refl, sym, ap, subst, _∙_}
+use mathlib.Core.List.{List, []}
+use mathlib.Core.Path.{_≡_, refl, subst, _∙_}
 use lib.ListN.{length}
 use lib.Dec.{ltb, eqb}
 use borrow.Author.Tests.{ltb-true, eqb-true, eq-eqb, not-false}
@@ -14,11 +14,13 @@ use Rattle.pages.specs.Layer.{inRange, serves}
 use Rattle.pages.specs.Lists.{pick, each}
 use Rattle.pages.specs.Refusals.{first}
 use Rattle.pages.proofs.Choice.{and-left, and-right, or-false}
+use Rattle.pages.proofs.Formed as layer
 use Rattle.pages.proofs.Refusals.{first-clear}
 use Rattle.reservations.specs.declared.Core.{Core}
-use Rattle.reservations.specs.Revocation.{core, running, dying, freshCore, coreSound, sweepCoreOf}
-use Rattle.reservations.proofs.CoreKept.{core-take, core-split, core-merge, core-give}
+use Rattle.reservations.specs.Revocation.{core, running, dying, coreSound}
+use Rattle.reservations.proofs.CoreKept.{core-facts, core-take, core-split, core-merge, core-give}
 use Rattle.reservations.proofs.Revocations.{core-revoke, core-collect, core-sweep}
+use Rattle.reservations.proofs.Sound as table
 use Rattle.reservations.proofs.Starts.{core-fresh}
 use Rattle.reservations.proofs.Truth.{both}
 use Rattle.machine.specs.declared.Slot.{Slot}
@@ -26,9 +28,9 @@ use Rattle.machine.specs.declared.State.{State}
 use Rattle.machine.specs.Words.{empty, collectedMailbox}
 use Rattle.machine.specs.Formed.{mailboxSound, mailboxesSound, sized, wellFormed, fresh, startOf}
 use Rattle.machine.specs.Reasons.{Reads, reads, reasons, unnamed, notManager}
-use Rattle.machine.specs.Effects.{MailboxChange, keepMailboxes, putMailbox, collectMailboxes, Effect, effect, sweptTo}
-use Rattle.machine.specs.Step.{Outcome, refused, mailboxesAfter, done, reasonsOn, effectOn, judged, stepOf}
-use Rattle.machine.proofs.Judging.{Granted, judged-by, step-by}
+use Rattle.machine.specs.Effects.{MailboxChange, keepMailboxes, putMailbox, collectMailboxes, effect, sweptTo}
+use Rattle.machine.specs.Step.{mailboxesAfter, done, reasonsOn, effectOn, judged, stepOf}
+use Rattle.machine.proofs.Judging.{judged-by, step-by}
 use Rattle.machine.proofs.Lengths.{length-registers, length-mailboxes}
 use Rattle.machine.proofs.Lists.{each-set, each-map}
 use Rattle.machine.proofs.PagesKept.{core-map, core-unmap, core-zero}
@@ -60,6 +62,27 @@ formed s f =
     both (coreSound (s .core) && each mailboxSound 0 (s .mailboxes)) (sized s)
     (both (coreSound (s .core)) (each mailboxSound 0 (s .mailboxes)) (f .core) (f .mailboxes))
     (both (eqb (length (s .registers)) 64) (eqb (length (s .mailboxes)) 8) (eq-eqb (length (s .registers)) 64 (f .of-registers)) (eq-eqb (length (s .mailboxes)) 8 (f .of-mailboxes)))
+
+-- The lengths of all arrays of a well-formed state, and so, by `step-keeps` below, of the state after every step.
+pub record Arrays (s : State) : Type 0 where
+  pub of-registers : length (s .registers) ≡ 64
+  pub of-mailboxes : length (s .mailboxes) ≡ 8
+  pub of-pages : length (s .core .pages .pages) ≡ 256
+  pub of-frames : length (s .core .pages .frames) ≡ 128
+  pub of-rows : length (s .core .table .rows) ≡ 64
+
+pub arrays : (s : State) → wellFormed s ≡ true → Arrays s
+arrays s w =
+    let f = facts s w in
+    let c = core-facts (s .core) (f .core) in
+    let p = layer.sound (s .core .pages) (c .layer) in
+    record {
+      of-registers = f .of-registers;
+      of-mailboxes = f .of-mailboxes;
+      of-pages = p .long-pages;
+      of-frames = p .long-frames;
+      of-rows = table.sound (16 * s .core .pages .v) (s .core .table) (c .rows) .rows;
+    }
 
 -- A word that is put into a mailbox is a capability, or none.
 unfoldable pub putsSound : MailboxChange → Bool

@@ -1,10 +1,10 @@
 -- A step keeps the numbers of registers and mailboxes, of lent cells and of lent tags. By what an effect changes, not by
 -- call. Assumes nothing.
-use Prim.Native.Nat.{ℕ, _+_, _*_, _<_, _≤_}
+use Prim.Native.Nat.{ℕ, _+_, _*_}
 use native.Mathlib.Omega.{arith}
-use mathlib.Core.Bool.{Bool, true, false}
+use mathlib.Core.Bool.{Bool, true}
 use mathlib.Core.List.{List}
-use mathlib.Core.Path.{_≡_, refl, sym, ap, _∙_}
+use mathlib.Core.Path.{_≡_, refl}
 use lib.ListN.{length, length-set, length-map}
 use lib.Dec.{ltb}
 use borrow.Author.Tests.{ltb-true, lt-ltb}
@@ -22,9 +22,9 @@ use Rattle.machine.specs.declared.Slot.{Slot}
 use Rattle.machine.specs.declared.State.{State}
 use Rattle.machine.specs.Words.{byteOf, collectedRegister, collectedMailbox}
 use Rattle.machine.specs.Reasons.{Reads, reads, reasons, unnamed, notManager}
-use Rattle.machine.specs.Effects.{RegisterChange, keepRegisters, putRegister, fetchInto, collectRegisters, MailboxChange, keepMailboxes, putMailbox, collectMailboxes, MemoryChange, keepMemory, writeWord, clearFrame, sweepCells, Effect, effect}
+use Rattle.machine.specs.Effects.{RegisterChange, keepRegisters, putRegister, fetchInto, collectRegisters, MailboxChange, keepMailboxes, putMailbox, collectMailboxes, MemoryChange, keepMemory, writeWord, clearFrame, sweepCells, effect}
 use Rattle.machine.specs.Step.{Outcome, refused, fetched, registersAfter, mailboxesAfter, cellsAfter, tagsAfter, done, reasonsOn, effectOn, judged, stepOf}
-use Rattle.machine.proofs.Judging.{Granted, judged-by, step-by}
+use Rattle.machine.proofs.Judging.{judged-by, step-by}
 use Rattle.machine.proofs.PagesKept.{zero-clear}
 
 pub length-registers : (ch : RegisterChange) (s : State) (cells tags : List ℕ) → length (registersAfter ch s cells tags) ≡ length (s .registers)
@@ -94,7 +94,7 @@ pub record Sized (s : State) (cells tags : List ℕ) (o : Outcome) : Type 0 wher
   pub of-cells : length (o .cells) ≡ length cells
   pub of-tags : length (o .tags) ≡ length tags
 
-refused-sized : (s : State) (cells tags : List ℕ) (k : ℕ) → Sized s cells tags (refused k s cells tags)
+pub refused-sized : (s : State) (cells tags : List ℕ) (k : ℕ) → Sized s cells tags (refused k s cells tags)
 refused-sized s cells tags k = record { of-registers = refl; of-mailboxes = refl; of-cells = refl; of-tags = refl }
 
 done-sized : (s : State) (c : Call) (cells tags : List ℕ) → serves (s .core .pages) (length cells) (length tags) ≡ true

@@ -7,3 +7,4 @@ pub mod Lists
 pub mod PagesKept
 pub mod Lengths
 pub mod Keeps
+pub mod Commands

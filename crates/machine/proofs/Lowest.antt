@@ -21,7 +21,7 @@ use Rattle.reservations.specs.Revocation.{revokeReasonsAt, revokeReasons, colle
 use Rattle.machine.specs.declared.State.{State}
 use Rattle.machine.specs.Formed.{wellFormed}
 use Rattle.machine.specs.Reasons.{reasons}
-use Rattle.machine.specs.Step.{Outcome, refused, done, reasonsOn, effectOn, ruled, judged, stepOf}
+use Rattle.machine.specs.Step.{refused, done, reasonsOn, effectOn, ruled, judged, stepOf}
 use Rattle.machine.proofs.Judging.{pick-by}
 
 -- All reasons against a call: 1, 2, and those of its kind.

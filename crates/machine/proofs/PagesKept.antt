@@ -4,9 +4,8 @@ use Prim.Native.Nat.{ℕ, _*_, _<_}
 use native.Mathlib.Nat.{zero-add}
 use native.Mathlib.Omega.{arith}
 use mathlib.Core.Bool.{Bool, true, false, not, _&&_, _||_, or-true}
-use mathlib.Core.List.{List}
-use mathlib.Core.Path.{_≡_, refl, sym, ap, subst, _∙_}
-use lib.ListN.{length, getD, set}
+use mathlib.Core.Path.{_≡_, refl, sym, subst, _∙_}
+use lib.ListN.{length}
 use lib.Dec.{eqb}
 use borrow.Author.Tests.{eqb-true, leb-false, not-false}
 use Rattle.pages.specs.declared.Pages.{Pages}
@@ -17,10 +16,10 @@ use Rattle.pages.specs.declared.PageState.{PageState}
 use Rattle.pages.specs.declared.PageState.the-variants.{Unmapped, Freed, Mapped}
 use Rattle.pages.specs.declared.FrameState.{FrameState}
 use Rattle.pages.specs.declared.FrameState.the-variants.{Dirty, Free, Mapped as Shown}
-use Rattle.pages.specs.Entries.{isDirty, isUnmapped, pageEntry}
+use Rattle.pages.specs.Entries.{isDirty, pageEntry}
 use Rattle.pages.specs.Freed.{isFreed, freedIn, allFreed}
 use Rattle.pages.specs.Layer.{pageAt, frameAt, withPage, withFrame, wellFormed}
-use Rattle.pages.specs.Lists.{pick, each}
+use Rattle.pages.specs.Lists.{pick}
 use Rattle.pages.specs.Mapping.{noFrame, mapReasons, mapped, mapOf, unmapReasons, soiled, unmapped, unmapOf, dirtyReasons}
 use Rattle.pages.specs.Range.{pageInside}
 use Rattle.pages.specs.Refusals.{first}
@@ -33,9 +32,8 @@ use Rattle.pages.proofs.States.{is-dirty}
 use Rattle.reservations.specs.declared.Core.{Core}
 use Rattle.reservations.specs.Find.{revokingOf, rowOf}
 use Rattle.reservations.specs.Tiling.{tableSound}
-use Rattle.reservations.specs.Revocation.{core, running, revoked, wholePages, revocationSound, coreSound}
-use Rattle.reservations.proofs.CoreKept.{CoreFacts, core-facts, core-made}
-use Rattle.reservations.proofs.Revocations.{freed-while}
+use Rattle.reservations.specs.Revocation.{running, revoked, wholePages, revocationSound, coreSound}
+use Rattle.reservations.proofs.CoreKept.{core-facts, core-made}
 use Rattle.reservations.proofs.Truth.{both}
 use Rattle.machine.specs.Effects.{withPages}
 use Rattle.machine.proofs.Judging.{pick-by}

@@ -8,7 +8,7 @@ use mathlib.Core.Path.{_≡_, refl, sym, ap, _∙_}
 use lib.ListN.{length, drop}
 use lib.Seq.{drop-at}
 use lib.Dec.{eqb}
-use borrow.Author.Tests.{eqb-true, eqb-false, ne-eqb}
+use borrow.Author.Tests.{ne-eqb}
 use Rattle.calls.specs.declared.Call.{Call}
 use Rattle.calls.specs.Commands.{bytesOf}
 use Rattle.calls.specs.Reader.{readOf}
@@ -19,8 +19,8 @@ use Rattle.pages.specs.Lists.{pick}
 use Rattle.pages.specs.Refusals.{first}
 use Rattle.machine.specs.declared.State.{State}
 use Rattle.machine.specs.Formed.{wellFormed}
-use Rattle.machine.specs.Step.{Outcome, refused, reasonsOn, ruled, judged, stepOf}
-use Rattle.machine.specs.Command.{Ran, used, onReading, commandJudged, commandOf}
+use Rattle.machine.specs.Step.{refused, reasonsOn, ruled, judged, stepOf}
+use Rattle.machine.specs.Command.{used, onReading, commandJudged, commandOf}
 use Rattle.machine.proofs.Lowest.{first-within, reasons-rise, ruled-code}
 
 -- The bytes that a command of n bytes uses, by the code that is answered: none under refusals 1 and 2.
