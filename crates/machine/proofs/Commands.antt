@@ -53,8 +53,10 @@ module _ (s : State) (input : List ℕ) (at : ℕ) (cells tags : List ℕ) where
       command-by (λ r. (r .command .answered .code ≡ 0 → ⊥) → outcome r ≡ refused (r .command .answered .code) s cells tags) (λ k n b z. refl)
       (λ c n h. refused-keeps s c cells tags)
 
+  -- Its code is 0 to 19.
   pub command-at-most : commandOf s input at cells tags .command .answered .code ≤ 19
   command-at-most = command-by (λ r. r .command .answered .code ≤ 19) (λ k n b. omega arith) (λ c n h. code-at-most s c cells tags)
 
+  -- It keeps the numbers of registers, mailboxes, lent cells and lent tags.
   pub command-sized : Sized s cells tags (outcome (commandOf s input at cells tags))
   command-sized = command-by (λ r. Sized s cells tags (outcome r)) (λ k n b. refused-sized s cells tags k) (λ c n h. step-sized s c cells tags)

@@ -16,18 +16,20 @@ use Rattle.machine.specs.Effects.{effect}
 use Rattle.machine.specs.Step.{reasonsOn, effectOn, stepOf}
 use Rattle.machine.proofs.Lowest.{step-code}
 
--- Two states that a call cannot tell apart.
+-- Two states that agree in the core, the mailboxes and the registers that the call reads.
 pub record Alike (s t : State) (c : Call) : Type 0 where
   pub core : s .core ≡ t .core
   pub mailboxes : s .mailboxes ≡ t .mailboxes
   pub read : reads (s .registers) c ≡ reads (t .registers) c
 
 module _ (s t : State) (c : Call) (a : Alike s t c) where
+  -- The same reasons speak against the call.
   pub same-reasons : reasonsOn s c ≡ reasonsOn t c
   same-reasons =
       ap (λ k. reasons k (s .mailboxes) (reads (s .registers) c) c) (a .core)
       ∙ ap (λ m. reasons (t .core) m (reads (s .registers) c) c) (a .mailboxes) ∙ ap (λ r. reasons (t .core) (t .mailboxes) r c) (a .read)
 
+  -- The call has the same effect.
   pub same-effect : effectOn s c ≡ effectOn t c
   same-effect =
       ap (λ k. effect k (s .mailboxes) (reads (s .registers) c) c) (a .core)

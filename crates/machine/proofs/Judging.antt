@@ -39,6 +39,7 @@ module _ (s : State) (c : Call) (cells tags : List ℕ) (P : Outcome → Type 0)
       pick-by P (eqb code 0) (done s (effectOn s c) cells tags) (refused code s cells tags) (λ e. granted (eqb-true code 0 e))
       (λ e. down code (eqb-false code 0 e))
 
+  -- The same by refusal 2 first.
   pub judged-by :
       (serves (s .core .pages) (length cells) (length tags) ≡ true → first (reasonsOn s c) ≡ 0 → P (done s (effectOn s c) cells tags))
       → ((k : ℕ) → (k ≡ 0 → ⊥) → P (refused k s cells tags)) → P (judged s c cells tags)
@@ -47,6 +48,7 @@ module _ (s : State) (c : Call) (cells tags : List ℕ) (P : Outcome → Type 0)
       pick-by P (serves (s .core .pages) (length cells) (length tags)) (ruled s c cells tags) (refused 2 s cells tags)
       (λ e. ruled-by (granted e) down) (λ e. down 2 (λ z. omega arith))
 
+  -- The same by refusals 1 and 2 first.
   pub step-by :
       (Granted s c cells tags → P (done s (effectOn s c) cells tags)) → ((k : ℕ) → (k ≡ 0 → ⊥) → P (refused k s cells tags))
       → P (stepOf s c cells tags)

@@ -71,6 +71,7 @@ pub record Arrays (s : State) : Type 0 where
   pub of-frames : length (s .core .pages .frames) ≡ 128
   pub of-rows : length (s .core .table .rows) ≡ 64
 
+-- A well-formed state has arrays of these lengths.
 pub arrays : (s : State) → wellFormed s ≡ true → Arrays s
 arrays s w =
     let f = facts s w in
@@ -98,6 +99,7 @@ collected-sound c i w h = go (w .tag && dying c (w .cell))
     go true = refl
     go false = h
 
+-- Mailboxes stay sound, by what becomes of them.
 pub mailboxes-kept : (ch : MailboxChange) (s : State) → putsSound ch ≡ true → each mailboxSound 0 (s .mailboxes) ≡ true
     → each mailboxSound 0 (mailboxesAfter ch s) ≡ true
 unfolding putsSound mailboxesAfter
@@ -131,7 +133,7 @@ puts-sound c mail r (Receive p d) e = refl
 
 -- The core after a granted call is well formed: each crate below says so of its own operations.
 module _ (c : Core) (ok : coreSound c ≡ true) (mail : List Slot) (r : Reads) (cells tags : List ℕ) where
-  -- What a granted command of the manager has found, besides its own reasons.
+  -- 06: the place that a sweep reaches.
   swept-sound : (n : ℕ) → serves (c .pages) (length cells) (length tags) ≡ true → running c ≡ true → coreSound (core (c .pages) (c .table) (sweptTo c n)) ≡ true
   swept-sound n m run = subst (λ o. coreSound (o .answer .core) ≡ true) (sweep-done c n cells tags run m) (core-sweep c ok n cells tags)
 

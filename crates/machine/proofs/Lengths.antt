@@ -27,6 +27,7 @@ use Rattle.machine.specs.Step.{Outcome, refused, fetched, registersAfter
 use Rattle.machine.proofs.Judging.{judged-by, step-by}
 use Rattle.machine.proofs.PagesKept.{zero-clear}
 
+-- Registers and mailboxes, by what becomes of them.
 pub length-registers : (ch : RegisterChange) (s : State) (cells tags : List ℕ) → length (registersAfter ch s cells tags) ≡ length (s .registers)
 unfolding registersAfter
 length-registers keepRegisters s cells tags = refl
@@ -47,6 +48,7 @@ clearsBelow f (writeWord at w) = true
 clearsBelow f (clearFrame frame) = ltb (frame .0) f
 clearsBelow f (sweepCells r from upto) = true
 
+-- Lent cells and tags, 16 × f of each, by what becomes of them.
 module _ (f : ℕ) where
   pub length-cells : (ch : MemoryChange) (cells : List ℕ) → length cells ≡ 16 * f → clearsBelow f ch ≡ true → length (cellsAfter ch cells) ≡ length cells
   unfolding cellsAfter clearsBelow
@@ -94,6 +96,7 @@ pub record Sized (s : State) (cells tags : List ℕ) (o : Outcome) : Type 0 wher
   pub of-cells : length (o .cells) ≡ length cells
   pub of-tags : length (o .tags) ≡ length tags
 
+-- A refusal keeps them all; so does a call that is done.
 pub refused-sized : (s : State) (cells tags : List ℕ) (k : ℕ) → Sized s cells tags (refused k s cells tags)
 refused-sized s cells tags k = record { of-registers = refl; of-mailboxes = refl; of-cells = refl; of-tags = refl }
 

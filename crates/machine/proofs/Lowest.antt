@@ -107,6 +107,7 @@ first-within above most (r ∷ rest) e =
     go false (inl z) w l = inl z
     go false (inr p) w l = inr (omega (arith, p .0), p .1)
 
+-- The first that applies is at most the upper bound.
 pub first-most : (above most : ℕ) (l : List Reason) → rising above most l ≡ true → first l ≤ most
 first-most above most l e = go (first-within above most l e .1)
   where
@@ -147,6 +148,7 @@ pub all-rise : (s : State) (c : Call) (cells tags : List ℕ) → rising 0 19 (a
 all-rise s c cells tags = unfold rising in rising-wider 2 3 19 (reasonsOn s c) (omega arith) (reasons-rise s c)
 
 module _ (s : State) (c : Call) (cells tags : List ℕ) where
+  -- By refusals 4 to 19 the number answered is that of the first of them that applies.
   pub ruled-code : ruled s c cells tags .answer .code ≡ first (reasonsOn s c)
   unfolding ruled done
   ruled-code =

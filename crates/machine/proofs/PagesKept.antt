@@ -39,7 +39,7 @@ use Rattle.machine.specs.Effects.{withPages}
 use Rattle.machine.proofs.Judging.{pick-by}
 use Rattle.machine.proofs.Lists.{each-set}
 
--- A layer of the same size whose pages of the revoked range are Freed may stand in place of the old one.
+-- The revocation that runs needs of the layer only that the pages of its range stay Freed.
 revocation-kept : (c : Core) (p : Pages) → revocationSound c ≡ true → (allFreed (c .pages) (revoked c) ≡ true → allFreed p (revoked c) ≡ true)
     → revocationSound (withPages c p) ≡ true
 unfolding revocationSound running revoked
@@ -59,6 +59,7 @@ pub record Follows (s t : Pages) : Type 0 where
   pub layer : wellFormed t ≡ true
   pub freed : (r : Range) → allFreed s r ≡ true → allFreed t r ≡ true
 
+-- Such a layer may stand in place of the old one.
 pub pages-kept : (c : Core) (p : Pages) → coreSound c ≡ true → Follows (c .pages) p → coreSound (withPages c p) ≡ true
 pages-kept c p ok f =
     let facts = core-facts c ok in
@@ -132,6 +133,7 @@ module _ (s : Pages) (h : wellFormed s ≡ true) where
   stays : Follows s s
   stays = record { same-v = refl; same-f = refl; layer = h; freed = λ r a. a }
 
+  -- 08, granted or refused.
   pub map-follows : (page : VirtualPage) (frame : Frame) → Follows s (mapOf s page frame .pages)
   map-follows page frame = record {
     same-v = unfold mapOf in pick-by (λ t. t .v ≡ s .v) granted (mapped s page frame) s (λ e. mapped-size s page frame .0) (λ e. refl);
@@ -150,6 +152,7 @@ module _ (s : Pages) (h : wellFormed s ≡ true) where
       granted : Bool
       granted = eqb (first (mapReasons s page frame)) 0
 
+  -- 09, granted or refused.
   pub unmap-follows : (page : VirtualPage) → Follows s (unmapOf s page .pages)
   unmap-follows page = record {
     same-v = unfold unmapOf in pick-by (λ t. t .v ≡ s .v) granted (unmapped s page) s (λ e. unmapped-size s page .0) (λ e. refl);
@@ -174,6 +177,7 @@ module _ (s : Pages) (h : wellFormed s ≡ true) where
         freed = λ r a. frame-freed s (frame .0) Free r ∙ a;
       }
 
+-- 08, 09 and 0A keep the core well formed.
 module _ (c : Core) (ok : coreSound c ≡ true) where
   pub core-map : (page : VirtualPage) (frame : Frame) → coreSound (withPages c (mapOf (c .pages) page frame .pages)) ≡ true
   core-map page frame = pages-kept c (mapOf (c .pages) page frame .pages) ok (map-follows (c .pages) (core-facts c ok .layer) page frame)
