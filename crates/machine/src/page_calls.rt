@@ -5,13 +5,10 @@ use crate::revocation_calls::manager_code;
 use pages::Frame;
 use pages::Pages;
 use pages::VirtualPage;
-ghost use mathlib.Core.Bool.{true};
 ghost use mathlib.Core.Path.{_≡_};
-ghost use lib.ListN.{length};
-ghost use Rattle.calls.specs.declared.Call.the-variants.{Map, Unmap, Zero};
-ghost use Rattle.pages.specs.Layer.{serves};
+ghost use Rattle.calls.specs.declared.Call.the-variants.{Map, Unmap};
 ghost use Rattle.machine.specs.Effects.{withPages};
-ghost use Rattle.machine.specs.Step.{Rules, left, ruled, withCore};
+ghost use Rattle.machine.specs.Step.{Rules, withCore};
 
 impl State {
     pub(crate) fn with_pages(mut self, pages: Pages) -> State
@@ -47,28 +44,6 @@ impl State {
         if code != 0 {
             return self.refused(code);
         }
-        let after = done.pages;
-        self.with_pages(after).granted(0, false)
-    }
-
-    // Lent memory is of the right size: the step has looked.
-    pub(crate) fn zero(
-        self,
-        party: u8,
-        frame: Frame,
-        cells: &mut [u64],
-        tags: &mut [u8],
-    ) -> Answered
-        requires { ⌜ serves (self .core .pages) (length (now cells)) (length (now tags)) ≡ true ⌝ }
-        ensures { λ r. ⌜ left r (now (cells .exit)) (now (tags .exit)) ≡ ruled self (Zero party frame) (now (cells .entry)) (now (tags .entry)) ⌝ }
-    {
-        let core = self.core;
-        let pages = core.pages;
-        let code = manager_code(party, pages.dirty_code(frame));
-        if code != 0 {
-            return self.refused(code);
-        }
-        let done = pages.zero(frame, cells, tags);
         let after = done.pages;
         self.with_pages(after).granted(0, false)
     }

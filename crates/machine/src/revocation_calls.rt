@@ -11,15 +11,12 @@ use pages::refusal::first;
 ghost use mathlib.Core.Bool.{not, _&&_};
 ghost use mathlib.Core.List.{map};
 ghost use mathlib.Core.Path.{_≡_};
-ghost use lib.ListN.{length};
-ghost use mathlib.Core.Bool.{true};
-ghost use Rattle.calls.specs.declared.Call.the-variants.{Revoke, Sweep, Collect};
+ghost use Rattle.calls.specs.declared.Call.the-variants.{Revoke, Collect};
 ghost use Rattle.pages.specs.Capability.{baseOf};
-ghost use Rattle.pages.specs.Layer.{serves};
 ghost use Rattle.pages.specs.Lists.{pick};
 ghost use Rattle.pages.specs.Range.{inside};
 ghost use Rattle.machine.specs.Reasons.{unnamed, notManager};
-ghost use Rattle.machine.specs.Step.{Rules, left, ruled};
+ghost use Rattle.machine.specs.Step.{Rules};
 ghost use Rattle.machine.specs.Words.{empty, keepTag};
 
 // Refusals 4 and 5 of a manager's command, or else what the later ones come to.
@@ -84,22 +81,6 @@ impl State {
         }
         let after = done.core;
         self.with_core(after).granted(0, false)
-    }
-
-    // Lent memory is of the right size: the step has looked.
-    pub(crate) fn sweep(self, party: u8, n: u16, cells: &[u64], tags: &mut [u8]) -> Answered
-        requires { ⌜ serves (self .core .pages) (length (now cells)) (length (now tags)) ≡ true ⌝ }
-        ensures { λ r. ⌜ left r (now (cells .entry)) (now (tags .exit)) ≡ ruled self (Sweep party n) (now (cells .entry)) (now (tags .entry)) ⌝ }
-    {
-        let core = self.core;
-        let running = core.running();
-        let code = manager_code(party, first(11, !running, 0));
-        if code != 0 {
-            return self.refused(code);
-        }
-        let done = core.sweep(n, cells, tags);
-        let after = done.core;
-        self.with_core(after).granted(done.left as u64, false)
     }
 
     pub(crate) fn collect(self, party: u8) -> Answered

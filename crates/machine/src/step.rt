@@ -3,17 +3,24 @@ use crate::Answered;
 use crate::Commanded;
 use crate::Slot;
 use crate::State;
+use crate::revocation_calls::manager_code;
 use crate::words::empty;
 use calls::Call;
 use calls::Reading;
 use calls::read_at;
+use pages::Frame;
 use pages::layer::in_range;
+use pages::refusal::first;
 use reservations::Core;
+ghost use lib.ListN.{length};
+ghost use mathlib.Core.Bool.{true};
 ghost use mathlib.Core.Path.{_≡_};
+ghost use Rattle.calls.specs.declared.Call.the-variants.{Sweep, Zero};
+ghost use Rattle.pages.specs.Layer.{serves};
 ghost use Rattle.pages.specs.Lists.{each};
 ghost use Rattle.machine.specs.Command.{ran, commandJudged, commandOf};
 ghost use Rattle.machine.specs.Formed.{mailboxSound, wellFormed, startOf};
-ghost use Rattle.machine.specs.Step.{left, judged, stepOf};
+ghost use Rattle.machine.specs.Step.{left, ruled, judged, stepOf};
 
 fn mailbox_sound(word: Slot) -> bool
     ensures { λ r. ⌜ r ≡ mailboxSound 0 word ⌝ }
@@ -63,6 +70,38 @@ impl State {
         let sound = core.well_formed();
         let mail = mailboxes_sound(words);
         sound & mail
+    }
+
+    // 06, where lent memory is of the right size.
+    fn sweep(self, party: u8, n: u16, cells: &[u64], tags: &mut [u8]) -> Answered
+        requires { ⌜ serves (self .core .pages) (length (now cells)) (length (now tags)) ≡ true ⌝ }
+        ensures { λ r. ⌜ left r (now (cells .entry)) (now (tags .exit)) ≡ ruled self (Sweep party n) (now (cells .entry)) (now (tags .entry)) ⌝ }
+    {
+        let core = self.core;
+        let running = core.running();
+        let code = manager_code(party, first(11, !running, 0));
+        if code != 0 {
+            return self.refused(code);
+        }
+        let done = core.sweep(n, cells, tags);
+        let after = done.core;
+        self.with_core(after).granted(done.left as u64, false)
+    }
+
+    // 0A, where lent memory is of the right size.
+    fn zero(self, party: u8, frame: Frame, cells: &mut [u64], tags: &mut [u8]) -> Answered
+        requires { ⌜ serves (self .core .pages) (length (now cells)) (length (now tags)) ≡ true ⌝ }
+        ensures { λ r. ⌜ left r (now (cells .exit)) (now (tags .exit)) ≡ ruled self (Zero party frame) (now (cells .entry)) (now (tags .entry)) ⌝ }
+    {
+        let core = self.core;
+        let pages = core.pages;
+        let code = manager_code(party, pages.dirty_code(frame));
+        if code != 0 {
+            return self.refused(code);
+        }
+        let done = pages.zero(frame, cells, tags);
+        let after = done.pages;
+        self.with_pages(after).granted(0, false)
     }
 
     // One call by refusals 2 and 4 to 19: what is left of `call` once the state is known to be well formed.
