@@ -5,3 +5,5 @@ pub mod Reasons
 pub mod Effects
 pub mod Step
 pub mod Command
+pub mod Edges
+pub mod Session
