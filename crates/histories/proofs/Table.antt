@@ -3,7 +3,7 @@ use Prim.Native.Nat.{ℕ, zero, suc, _+_, _-_, _*_, _%_, _<_, _≤_}
 use native.Mathlib.Omega.{arith}
 use mathlib.Core.Bool.{Bool, true, false, not, _&&_, true≢false, false≢true}
 use mathlib.Core.List.{List, [], _∷_, _++_}
-use mathlib.Core.Logic.{_⊎_, inl, inr}
+use mathlib.Core.Logic.{_⊎_, inl, inr, ⊎-elim}
 use mathlib.Core.Path.{_≡_, refl, sym, ap, subst, _∙_}
 use borrow.Author.Tests.{eqb-true, eqb-false, ltb-true, lt-ltb, ltb-false, le-ltb, leb-true, leb-false}
 use lib.Dec.{eqb, ltb, leb}
@@ -14,15 +14,20 @@ use Rattle.pages.specs.Range.{inside}
 use Rattle.reservations.specs.declared.Reservation.{Reservation}
 use Rattle.reservations.specs.declared.ReservationState.{ReservationState}
 use Rattle.reservations.specs.declared.ReservationState.the-variants.{Open, Taken, Revoking}
+use Rattle.reservations.specs.declared.Core.{Core}
 use Rattle.reservations.specs.declared.Table.{Table}
+use Rattle.reservations.specs.Find.{rowOf, revokingOf, missing}
+use Rattle.pages.specs.Capability.{baseOf}
 use Rattle.reservations.specs.Rows.{isOpen, isRevoking, blank, live, rangeOf}
 use Rattle.reservations.specs.Tiling.{tableSound}
 use Rattle.reservations.specs.Operations.{alike, joined, lowerPart, upperPart, takenRow, givenRow}
-use Rattle.reservations.specs.Revocation.{revokingRow}
+use Rattle.reservations.specs.Revocation.{revokingRow, collectedRow, running, revoked, dying}
 use Rattle.reservations.proofs.Cells.{inside-bounds, inside-made}
 use Rattle.reservations.proofs.Sound.{sound}
 use Rattle.reservations.proofs.Tiled.{tiled-next, tiled-fits}
 use Rattle.reservations.proofs.After.{Replaced}
+use Rattle.reservations.proofs.Kept.{cut-one, cut-two}
+use Rattle.reservations.proofs.Dying.{dyings, none, firstOf, revoking-row, revoking-none, dyings-append, dyings-not}
 use Rattle.histories.specs.Inv.{rowAt}
 
 -- A lent range has a lent reservation around it; a cell of an Open one was in an Open one.
@@ -42,6 +47,10 @@ pub record Opened (t : Table) (v : ℕ) : Type 0 where
 pub record Carried (t u : Table) : Type 0 where
   pub kept : (j : ℕ) → j < length (live t) → isOpen (rowAt t j .state) ≡ false → Around u (rowAt t j)
   pub came : (j v : ℕ) → j < length (live u) → isOpen (rowAt u j .state) ≡ true → inside (rangeOf (rowAt u j)) v ≡ true → Opened t v
+
+pub record CarriedBut (P : Reservation → Type 0) (Q : ℕ → Type 0) (t u : Table) : Type 0 where
+  pub kept : (j : ℕ) → j < length (live t) → isOpen (rowAt t j .state) ≡ false → P (rowAt t j) → Around u (rowAt t j)
+  pub came : (j v : ℕ) → j < length (live u) → isOpen (rowAt u j .state) ≡ true → inside (rangeOf (rowAt u j)) v ≡ true → Opened t v ⊎ Q v
 
 -- k rows from the i-th on, replaced by new ones.
 module _ (l new : List Reservation) (i k : ℕ) (h : i + k ≤ length l) where
@@ -113,18 +122,20 @@ module _ (t u : Table) (new : List Reservation) (i k : ℕ) (h : i + k ≤ lengt
   opened j n v e b o c =
       record { row = j; used = b; isopen = sym (ap (λ r. isOpen (r .state)) e) ∙ o; hit = sym (ap (λ r. inside (rangeOf r) v) e) ∙ c }
 
-  pub carried : ((j : ℕ) → j < k → isOpen (getD l (i + j) blank .state) ≡ false → Fits new (getD l (i + j) blank))
-      → ((j v : ℕ) → j < length new → isOpen (getD new j blank .state) ≡ true → inside (rangeOf (getD new j blank)) v ≡ true → Was l i k v)
-      → Carried t u
-  carried fits was = record { kept = λ j b o. keep j b o (ltb j i) refl (ltb j (i + k)) refl; came = λ j v b o c. back j v b o c (ltb j i) refl (ltb j (i + length new)) refl }
+  -- Save where P fails of a lent row, or Q holds of an Open row's cell.
+  pub carried-but : (P : Reservation → Type 0) (Q : ℕ → Type 0)
+      → ((j : ℕ) → j < k → isOpen (getD l (i + j) blank .state) ≡ false → P (getD l (i + j) blank) → Fits new (getD l (i + j) blank))
+      → ((j v : ℕ) → j < length new → isOpen (getD new j blank .state) ≡ true → inside (rangeOf (getD new j blank)) v ≡ true → Was l i k v ⊎ Q v)
+      → CarriedBut P Q t u
+  carried-but P Q fits was = record { kept = λ j b o x. keep j b o x (ltb j i) refl (ltb j (i + k)) refl; came = λ j v b o c. back j v b o c (ltb j i) refl (ltb j (i + length new)) refl }
     where
-      keep : (j : ℕ) → j < length l → isOpen (rowAt t j .state) ≡ false → (x : Bool) → ltb j i ≡ x → (y : Bool) → ltb j (i + k) ≡ y → Around u (rowAt t j)
-      keep j b o true e y f = let q : j < i = ltb-true j i e in around j j (low-row j q) (omega (arith, long)) o
-      keep j b o false e true f =
+      keep : (j : ℕ) → j < length l → isOpen (rowAt t j .state) ≡ false → P (rowAt t j) → (x : Bool) → ltb j i ≡ x → (y : Bool) → ltb j (i + k) ≡ y → Around u (rowAt t j)
+      keep j b o z true e y f = let q : j < i = ltb-true j i e in around j j (low-row j q) (omega (arith, long)) o
+      keep j b o z false e true f =
           let p : i ≤ j = ltb-false j i e in
           let q : j < i + k = ltb-true j (i + k) f in
           let n : i + (j - i) ≡ j = omega arith in
-          let g : Fits new (rowAt t j) = subst (λ m. Fits new (getD l m blank)) n (fits (j - i) (omega arith) (ap (λ m. isOpen (getD l m blank .state)) n ∙ o)) in
+          let g : Fits new (rowAt t j) = subst (λ m. Fits new (getD l m blank)) n (fits (j - i) (omega arith) (ap (λ m. isOpen (getD l m blank .state)) n ∙ o) (subst (λ m. P (getD l m blank)) (sym n) z)) in
           let row = mid-row (g .row) (g .used) in
           record {
             row = i + g .row;
@@ -133,25 +144,31 @@ module _ (t u : Table) (new : List Reservation) (i k : ℕ) (h : i + k ≤ lengt
             from = omega (arith, ap (λ r. r .base) row, g .from);
             upto = omega (arith, ap (λ r. r .base) row, ap (λ r. r .length) row, g .upto);
           }
-      keep j b o false e false f =
+      keep j b o z false e false f =
           let p : i + k ≤ j = ltb-false j (i + k) f in
           let n : i + k + (j - (i + k)) ≡ j = omega arith in
           around j (i + (length new + (j - (i + k)))) (high-row (j - (i + k)) ∙ ap (λ m. getD l m blank) n) (omega (arith, long)) o
 
-      back : (j v : ℕ) → j < length (live u) → isOpen (rowAt u j .state) ≡ true → inside (rangeOf (rowAt u j)) v ≡ true → (x : Bool) → ltb j i ≡ x → (y : Bool) → ltb j (i + length new) ≡ y → Opened t v
-      back j v b o c true e y f = let q : j < i = ltb-true j i e in opened j j v (low-row j q) (omega arith) o c
+      back : (j v : ℕ) → j < length (live u) → isOpen (rowAt u j .state) ≡ true → inside (rangeOf (rowAt u j)) v ≡ true → (x : Bool) → ltb j i ≡ x → (y : Bool) → ltb j (i + length new) ≡ y → Opened t v ⊎ Q v
+      back j v b o c true e y f = let q : j < i = ltb-true j i e in inl (opened j j v (low-row j q) (omega arith) o c)
       back j v b o c false e true f =
           let p : i ≤ j = ltb-false j i e in
           let q : j < i + length new = ltb-true j (i + length new) f in
           let n : i + (j - i) ≡ j = omega arith in
           let row : rowAt u j ≡ getD new (j - i) blank = ap (λ m. rowAt u m) (sym n) ∙ mid-row (j - i) (omega arith) in
-          let g = was (j - i) v (omega arith) (sym (ap (λ r. isOpen (r .state)) row) ∙ o) (sym (ap (λ r. inside (rangeOf r) v) row) ∙ c) in
-          record { row = i + g .row; used = omega (arith, g .used); isopen = g .isopen; hit = g .hit }
+          ⊎-elim (λ g. inl (record { row = i + g .row; used = omega (arith, g .used); isopen = g .isopen; hit = g .hit })) inr (was (j - i) v (omega arith) (sym (ap (λ r. isOpen (r .state)) row) ∙ o) (sym (ap (λ r. inside (rangeOf r) v) row) ∙ c))
       back j v b o c false e false f =
           let p : i + length new ≤ j = ltb-false j (i + length new) f in
           let m : ℕ = j - (i + length new) in
           let n : i + (length new + m) ≡ j = omega arith in
-          opened (i + k + m) j v (ap (λ x. rowAt u x) (sym n) ∙ high-row m) (omega (arith, long)) o c
+          inl (opened (i + k + m) j v (ap (λ x. rowAt u x) (sym n) ∙ high-row m) (omega (arith, long)) o c)
+
+  pub carried : ((j : ℕ) → j < k → isOpen (getD l (i + j) blank .state) ≡ false → Fits new (getD l (i + j) blank))
+      → ((j v : ℕ) → j < length new → isOpen (getD new j blank .state) ≡ true → inside (rangeOf (getD new j blank)) v ≡ true → Was l i k v)
+      → Carried t u
+  carried fits was =
+      let but = carried-but (λ r. ℕ) (λ v. ⊥) (λ j b o z. fits j b o) (λ j v b o c. inl (was j v b o c)) in
+      record { kept = λ j b o. but .kept j b o 0; came = λ j v b o c. ⊎-elim (λ x. x) (λ z. absurd z) (but .came j v b o c) }
 
 -- A named Open row.
 only : (l : List Reservation) (i j : ℕ) → j < 1 → isOpen (getD l i blank .state) ≡ true → isOpen (getD l (i + j) blank .state) ≡ false → ⊥
@@ -269,3 +286,56 @@ module _ (t u : Table) (party base i : ℕ) where
                 hit = inside-made (rangeOf two) v (omega (arith, seam, ltb-false v (one .base + one .length) x)) (omega (arith, d .1, whole, seam));
               }
       back (suc j) v b e c = absurd (omega arith)
+
+-- What dies is said by the Revoking reservations alone.
+abbrev diesBy : List Reservation → ℕ → Bool
+diesBy d cell = not (none d) && inside (rangeOf (firstOf d)) (baseOf cell)
+
+dies-by : (c : Core) (cell : ℕ) → dying c cell ≡ diesBy (dyings (live (c .table))) cell
+unfolding dying running revoked
+dies-by c cell =
+    ap (λ b. not b && inside (rangeOf (rowOf (c .table) (revokingOf (c .table)))) (baseOf cell)) (revoking-none (c .table))
+    ∙ ap (λ r. not (none (dyings (live (c .table)))) && inside (rangeOf r) (baseOf cell)) (revoking-row (c .table))
+
+pub dies-same : (c d : Core) → dyings (live (d .table)) ≡ dyings (live (c .table)) → (cell : ℕ) → dying d cell ≡ dying c cell
+dies-same c d e cell = dies-by d cell ∙ ap (λ x. diesBy x cell) e ∙ sym (dies-by c cell)
+
+-- Rows that are not Revoking, exchanged for others that are not.
+dyings-swap : (pre old new post : List Reservation) → dyings old ≡ [] → dyings new ≡ [] → dyings (pre ++ (new ++ post)) ≡ dyings (pre ++ (old ++ post))
+dyings-swap pre old new post a b = simp (dyings-append, a, b)
+
+pub dyings-one : (t u : Table) (i : ℕ) (new : List Reservation) → i < length (live t) → live u ≡ take i (live t) ++ (new ++ drop (i + 1) (live t)) → isRevoking (rowAt t i .state) ≡ false → dyings new ≡ [] → dyings (live u) ≡ dyings (live t)
+dyings-one t u i new h now a b =
+    ap dyings now ∙ dyings-swap (take i (live t)) (rowAt t i ∷ []) new (drop (i + 1) (live t)) (dyings-not (rowAt t i) [] a ∙ (unfold dyings in refl)) b
+    ∙ sym (ap dyings (cut-one (live t) i h))
+
+pub dyings-two : (t u : Table) (i : ℕ) (new : List Reservation) → i + 1 < length (live t) → live u ≡ take i (live t) ++ (new ++ drop (i + 2) (live t)) → isRevoking (rowAt t i .state) ≡ false → isRevoking (rowAt t (i + 1) .state) ≡ false → dyings new ≡ [] → dyings (live u) ≡ dyings (live t)
+dyings-two t u i new h now a c b =
+    ap dyings now
+    ∙ dyings-swap (take i (live t)) (rowAt t i ∷ rowAt t (i + 1) ∷ []) new (drop (i + 2) (live t)) (dyings-not (rowAt t i) (rowAt t (i + 1) ∷ []) a ∙ dyings-not (rowAt t (i + 1)) [] c ∙ (unfold dyings in refl)) b
+    ∙ sym (ap dyings (cut-two (live t) i h))
+
+pub open-no-dying : (r : Reservation) → isRevoking (r .state) ≡ false → dyings (r ∷ []) ≡ []
+open-no-dying r a = dyings-not r [] a ∙ (unfold dyings in refl)
+
+pub alike-still : (a b : ReservationState) → alike a b ≡ true → (isRevoking a ≡ false) × (isRevoking b ≡ false)
+alike-still Open Open e = (refl, refl)
+alike-still Open Taken e = (refl, refl)
+alike-still Open Revoking e = absurd (false≢true e)
+alike-still Taken Open e = (refl, refl)
+alike-still Taken Taken e = (refl, refl)
+alike-still Taken Revoking e = absurd (false≢true e)
+alike-still Revoking b e = absurd (false≢true e)
+
+-- A collect: what is lent stays lent where it holds a cell outside the revoked range; what is Open was Open or revoked.
+module _ (t u : Table) (i : ℕ) (h : i < length (live t)) (now : live u ≡ take i (live t) ++ collectedRow (rowAt t i) ∷ drop (i + 1) (live t)) where
+  pub collect-carried : (b : ℕ) → inside (rangeOf (rowAt t i)) b ≡ false → CarriedBut (λ r. inside (rangeOf r) b ≡ true) (λ v. inside (rangeOf (rowAt t i)) v ≡ true) t u
+  collect-carried b out = carried-but t u (collectedRow (rowAt t i) ∷ []) i 1 (omega arith) now (λ r. inside (rangeOf r) b ≡ true) (λ v. inside (rangeOf (rowAt t i)) v ≡ true) keep back
+    where
+      keep : (j : ℕ) → j < 1 → isOpen (getD (live t) (i + j) blank .state) ≡ false → inside (rangeOf (getD (live t) (i + j) blank)) b ≡ true → Fits (collectedRow (rowAt t i) ∷ []) (getD (live t) (i + j) blank)
+      keep j x o e = let n : i + j ≡ i = omega arith in absurd (false≢true (sym out ∙ sym (ap (λ m. inside (rangeOf (getD (live t) m blank)) b) n) ∙ e))
+
+      back : (j v : ℕ) → j < 1 → isOpen (getD (collectedRow (rowAt t i) ∷ []) j blank .state) ≡ true → inside (rangeOf (getD (collectedRow (rowAt t i) ∷ []) j blank)) v ≡ true
+          → Was (live t) i 1 v ⊎ (inside (rangeOf (rowAt t i)) v ≡ true)
+      back zero v x o e = inr e
+      back (suc j) v x o e = absurd (omega arith)
