@@ -4,3 +4,4 @@ pub mod Keep
 pub mod Granted
 pub mod Layer
 pub mod Calls
+pub mod Always
