@@ -5,3 +5,7 @@ pub mod Granted
 pub mod Layer
 pub mod Calls
 pub mod Always
+pub mod Crossing
+pub mod Confining
+pub mod Lending
+pub mod Survivors
