@@ -9,3 +9,4 @@ pub mod Crossing
 pub mod Confining
 pub mod Lending
 pub mod Survivors
+pub mod Forming
