@@ -10,3 +10,4 @@ pub mod Confining
 pub mod Lending
 pub mod Survivors
 pub mod Forming
+pub mod Between
