@@ -122,7 +122,7 @@ pub record Ending (m : Machine) (c : Call) (r : Reservation) : Type 0 where
   pub from : revoked (m .state .core) .base ≤ r .base
   pub upto : r .base + r .length ≤ revoked (m .state .core) .base + revoked (m .state .core) .length
 
-done-table : (m : Machine) (c : Call) → Went m c → next m c .state .core .table ≡ effectOn (m .state) c .core .table
+pub done-table : (m : Machine) (c : Call) → Went m c → next m c .state .core .table ≡ effectOn (m .state) c .core .table
 unfolding done
 done-table m c w = ap (λ n. n .state .core .table) (went-next m c w)
 
@@ -174,7 +174,7 @@ step-lent m c r a =
     (call-carried (m .state) (went-core m c w) c (w .clear)))
     (λ n. inl (subst (λ x. Around (x .state .core .table) r) (sym (n .0)) a)) (went-or-not m c)
 
-went-granted : (m : Machine) (c : Call) → Went m c → Granted m c
+pub went-granted : (m : Machine) (c : Call) → Went m c → Granted m c
 unfolding done
 went-granted m c w = ap (λ o. o .answer .code) (w .now)
 

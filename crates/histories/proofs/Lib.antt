@@ -11,3 +11,4 @@ pub mod Lending
 pub mod Survivors
 pub mod Forming
 pub mod Between
+pub mod Losing

@@ -99,13 +99,13 @@ module _ (t u : Table) (new : List Reservation) (i k : ℕ) (h : i + k ≤ lengt
   pub long : length (live u) ≡ i + (length new + (length l - (i + k)))
   long = ap length now ∙ size l new i k h
 
-  low-row : (j : ℕ) → j < i → rowAt u j ≡ rowAt t j
+  pub low-row : (j : ℕ) → j < i → rowAt u j ≡ rowAt t j
   low-row j b = ap (λ x. getD x j blank) now ∙ low l new i k h j b
 
   pub mid-row : (j : ℕ) → j < length new → rowAt u (i + j) ≡ getD new j blank
   mid-row j b = ap (λ x. getD x (i + j) blank) now ∙ mid l new i k h j b
 
-  high-row : (j : ℕ) → rowAt u (i + (length new + j)) ≡ rowAt t (i + k + j)
+  pub high-row : (j : ℕ) → rowAt u (i + (length new + j)) ≡ rowAt t (i + k + j)
   high-row j = ap (λ x. getD x (i + (length new + j)) blank) now ∙ high l new i k h j
 
   around : (j n : ℕ) → rowAt u n ≡ rowAt t j → n < length (live u) → isOpen (rowAt t j .state) ≡ false → Around u (rowAt t j)
