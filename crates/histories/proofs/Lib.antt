@@ -12,3 +12,5 @@ pub mod Survivors
 pub mod Forming
 pub mod Between
 pub mod Losing
+pub mod Frames
+pub mod Examples
