@@ -1,0 +1,16 @@
+pub mod View
+pub mod Table
+pub mod Keep
+pub mod Granted
+pub mod Layer
+pub mod Calls
+pub mod Always
+pub mod Crossing
+pub mod Confining
+pub mod Lending
+pub mod Survivors
+pub mod Forming
+pub mod Between
+pub mod Losing
+pub mod Frames
+pub mod Examples

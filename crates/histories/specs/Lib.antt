@@ -1,0 +1,10 @@
+-- Every order of calls: a history, what is live in it, what holds after it, and the theorems.
+pub mod Runs
+pub mod Live
+pub mod Inv
+pub mod Crossing
+pub mod Survivors
+pub mod Confining
+pub mod Lending
+pub mod Forming
+pub mod Losing
