@@ -1,1 +1,1 @@
--- The proofs.
+pub mod Examples
