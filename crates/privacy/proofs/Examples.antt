@@ -3,7 +3,7 @@ use Prim.Native.Nat.{ℕ, _*_}
 use mathlib.Core.Bool.{Bool, true}
 use mathlib.Core.List.{List, [], _∷_}
 use mathlib.Core.Path.{_≡_, refl, sym, _∙_}
-use lib.ListN.{replicate}
+use lib.ListN.{getD, replicate}
 use Rattle.calls.specs.Commands.{page, frame}
 use Rattle.calls.specs.declared.Call.{Call}
 use Rattle.calls.specs.declared.Call.the-variants.{Take, Split, Give, Revoke, Sweep, Collect, Map, Unmap, Zero, Load, Store, Narrow, Number}
@@ -26,7 +26,7 @@ use Rattle.machine.specs.Reasons.{reading, addressed, reasons}
 use Rattle.machine.specs.Effects.{effect}
 use Rattle.machine.specs.Step.{registersAfter, mailboxesAfter, cellsAfter, tagsAfter, wordAfter, done, ruled, judged, stepOf}
 use Rattle.privacy.specs.Lists.{granted, next, run}
-use Rattle.privacy.specs.Rule.{Time, takenRange, ending, until, timeAfter, into, aimed, struck, Left, remaining, left, indiscreet, discreet}
+use Rattle.privacy.specs.Rule.{Time, over, takenRange, ending, until, timeAfter, into, aimed, struck, Left, remaining, left, indiscreet, discreet}
 use Rattle.privacy.specs.Claim.{Within, afterTake, time}
 
 -- A call that is left, which is another's or reads nothing.
@@ -108,3 +108,33 @@ managed-left-two = refl
 pub managed-within : Within 2 2 (replicate 32 0) (replicate 32 0) managedBefore 0 0 2 managedOne managedTwo
 unfolding stepOf judged ruled done wellFormed coreSound pagesSound tableSound revocationSound mailboxesSound each mapEach mappings pageSound frameSound allFreed freedIn tiles allBlank revokings sized live running revoked dying revokingOf rowOf seek findOf nextOf withRow first takeReasons openReasons takeOf splitReasonsAt splitReasons splitAt splitOf giveReasons giveOf revokeReasonsAt revokeReasons revokeAt revokeOf collectReasons collected collectOf notMappedIn anyMapped freedEntry freedOf releasedEntry releasedOf passed sweptTag sweptTags spread splice registersAfter mailboxesAfter cellsAfter tagsAfter wordAfter reasons effect addressed lookupOf registerOf mailboxOf wordAt mapReasons mapOf mapped unmapReasons soiled unmapped unmapOf dirtyReasons cleared pageAt frameAt withPage withFrame freshCore freshTable freshOf fresh startOf run next inside takenRange ending until timeAfter into aimed struck remaining left indiscreet discreet
 managed-within = record { began = refl; cellsLent = refl; tagsLent = refl; took = refl; same = managed-left-one ∙ sym managed-left-two; discreet₁ = refl; discreet₂ = refl }
+
+-- The first two calls of each list are granted and leave different numbers in the house's range.
+pub retaken-kept-one : getD (run (afterTake 2 1 (replicate 16 0) (replicate 16 0) retakenBefore 3 0 0) (Number 3 1 42 ∷ Store 3 0 5 1 ∷ []) .cells) 5 0 ≡ 42
+unfolding stepOf judged ruled done wellFormed coreSound pagesSound tableSound revocationSound mailboxesSound each mapEach mappings pageSound frameSound allFreed freedIn tiles allBlank revokings sized live running revoked dying revokingOf rowOf seek findOf nextOf withRow first takeReasons openReasons takeOf splitReasonsAt splitReasons splitAt splitOf giveReasons giveOf revokeReasonsAt revokeReasons revokeAt revokeOf collectReasons collected collectOf notMappedIn anyMapped freedEntry freedOf releasedEntry releasedOf passed sweptTag sweptTags spread splice registersAfter mailboxesAfter cellsAfter tagsAfter wordAfter reasons effect addressed lookupOf registerOf mailboxOf wordAt mapReasons mapOf mapped unmapReasons soiled unmapped unmapOf dirtyReasons cleared pageAt frameAt withPage withFrame freshCore freshTable freshOf fresh startOf run next inside takenRange ending until timeAfter into aimed struck remaining left indiscreet discreet
+retaken-kept-one = refl
+
+pub retaken-kept-two : getD (run (afterTake 2 1 (replicate 16 0) (replicate 16 0) retakenBefore 3 0 0) (Number 3 1 7 ∷ Store 3 0 5 1 ∷ []) .cells) 5 0 ≡ 7
+unfolding stepOf judged ruled done wellFormed coreSound pagesSound tableSound revocationSound mailboxesSound each mapEach mappings pageSound frameSound allFreed freedIn tiles allBlank revokings sized live running revoked dying revokingOf rowOf seek findOf nextOf withRow first takeReasons openReasons takeOf splitReasonsAt splitReasons splitAt splitOf giveReasons giveOf revokeReasonsAt revokeReasons revokeAt revokeOf collectReasons collected collectOf notMappedIn anyMapped freedEntry freedOf releasedEntry releasedOf passed sweptTag sweptTags spread splice registersAfter mailboxesAfter cellsAfter tagsAfter wordAfter reasons effect addressed lookupOf registerOf mailboxOf wordAt mapReasons mapOf mapped unmapReasons soiled unmapped unmapOf dirtyReasons cleared pageAt frameAt withPage withFrame freshCore freshTable freshOf fresh startOf run next inside takenRange ending until timeAfter into aimed struck remaining left indiscreet discreet
+retaken-kept-two = refl
+
+pub shared-kept-one : getD (run (afterTake 1 1 (replicate 16 0) (replicate 16 0) sharedBefore 3 0 0) (Number 3 1 42 ∷ Store 3 0 7 1 ∷ []) .cells) 7 0 ≡ 42
+unfolding stepOf judged ruled done wellFormed coreSound pagesSound tableSound revocationSound mailboxesSound each mapEach mappings pageSound frameSound allFreed freedIn tiles allBlank revokings sized live running revoked dying revokingOf rowOf seek findOf nextOf withRow first takeReasons openReasons takeOf splitReasonsAt splitReasons splitAt splitOf giveReasons giveOf revokeReasonsAt revokeReasons revokeAt revokeOf collectReasons collected collectOf notMappedIn anyMapped freedEntry freedOf releasedEntry releasedOf passed sweptTag sweptTags spread splice registersAfter mailboxesAfter cellsAfter tagsAfter wordAfter reasons effect addressed lookupOf registerOf mailboxOf wordAt mapReasons mapOf mapped unmapReasons soiled unmapped unmapOf dirtyReasons cleared pageAt frameAt withPage withFrame freshCore freshTable freshOf fresh startOf run next inside takenRange ending until timeAfter into aimed struck remaining left indiscreet discreet
+shared-kept-one = refl
+
+pub shared-kept-two : getD (run (afterTake 1 1 (replicate 16 0) (replicate 16 0) sharedBefore 3 0 0) (Number 3 1 7 ∷ Store 3 0 7 1 ∷ []) .cells) 7 0 ≡ 7
+unfolding stepOf judged ruled done wellFormed coreSound pagesSound tableSound revocationSound mailboxesSound each mapEach mappings pageSound frameSound allFreed freedIn tiles allBlank revokings sized live running revoked dying revokingOf rowOf seek findOf nextOf withRow first takeReasons openReasons takeOf splitReasonsAt splitReasons splitAt splitOf giveReasons giveOf revokeReasonsAt revokeReasons revokeAt revokeOf collectReasons collected collectOf notMappedIn anyMapped freedEntry freedOf releasedEntry releasedOf passed sweptTag sweptTags spread splice registersAfter mailboxesAfter cellsAfter tagsAfter wordAfter reasons effect addressed lookupOf registerOf mailboxOf wordAt mapReasons mapOf mapped unmapReasons soiled unmapped unmapOf dirtyReasons cleared pageAt frameAt withPage withFrame freshCore freshTable freshOf fresh startOf run next inside takenRange ending until timeAfter into aimed struck remaining left indiscreet discreet
+shared-kept-two = refl
+
+pub managed-kept-one : getD (run (afterTake 2 2 (replicate 32 0) (replicate 32 0) managedBefore 0 0 2) (Number 0 1 42 ∷ Store 0 2 7 1 ∷ []) .cells) 7 0 ≡ 42
+unfolding stepOf judged ruled done wellFormed coreSound pagesSound tableSound revocationSound mailboxesSound each mapEach mappings pageSound frameSound allFreed freedIn tiles allBlank revokings sized live running revoked dying revokingOf rowOf seek findOf nextOf withRow first takeReasons openReasons takeOf splitReasonsAt splitReasons splitAt splitOf giveReasons giveOf revokeReasonsAt revokeReasons revokeAt revokeOf collectReasons collected collectOf notMappedIn anyMapped freedEntry freedOf releasedEntry releasedOf passed sweptTag sweptTags spread splice registersAfter mailboxesAfter cellsAfter tagsAfter wordAfter reasons effect addressed lookupOf registerOf mailboxOf wordAt mapReasons mapOf mapped unmapReasons soiled unmapped unmapOf dirtyReasons cleared pageAt frameAt withPage withFrame freshCore freshTable freshOf fresh startOf run next inside takenRange ending until timeAfter into aimed struck remaining left indiscreet discreet
+managed-kept-one = refl
+
+pub managed-kept-two : getD (run (afterTake 2 2 (replicate 32 0) (replicate 32 0) managedBefore 0 0 2) (Number 0 1 7 ∷ Store 0 2 7 1 ∷ []) .cells) 7 0 ≡ 7
+unfolding stepOf judged ruled done wellFormed coreSound pagesSound tableSound revocationSound mailboxesSound each mapEach mappings pageSound frameSound allFreed freedIn tiles allBlank revokings sized live running revoked dying revokingOf rowOf seek findOf nextOf withRow first takeReasons openReasons takeOf splitReasonsAt splitReasons splitAt splitOf giveReasons giveOf revokeReasonsAt revokeReasons revokeAt revokeOf collectReasons collected collectOf notMappedIn anyMapped freedEntry freedOf releasedEntry releasedOf passed sweptTag sweptTags spread splice registersAfter mailboxesAfter cellsAfter tagsAfter wordAfter reasons effect addressed lookupOf registerOf mailboxOf wordAt mapReasons mapOf mapped unmapReasons soiled unmapped unmapOf dirtyReasons cleared pageAt frameAt withPage withFrame freshCore freshTable freshOf fresh startOf run next inside takenRange ending until timeAfter into aimed struck remaining left indiscreet discreet
+managed-kept-two = refl
+
+-- In the first pair the ending collect came.
+pub retaken-over : timeAfter (time 2 1 (replicate 16 0) (replicate 16 0) retakenBefore 3 0 0) (afterTake 2 1 (replicate 16 0) (replicate 16 0) retakenBefore 3 0 0) retakenOne ≡ over
+unfolding stepOf judged ruled done wellFormed coreSound pagesSound tableSound revocationSound mailboxesSound each mapEach mappings pageSound frameSound allFreed freedIn tiles allBlank revokings sized live running revoked dying revokingOf rowOf seek findOf nextOf withRow first takeReasons openReasons takeOf splitReasonsAt splitReasons splitAt splitOf giveReasons giveOf revokeReasonsAt revokeReasons revokeAt revokeOf collectReasons collected collectOf notMappedIn anyMapped freedEntry freedOf releasedEntry releasedOf passed sweptTag sweptTags spread splice registersAfter mailboxesAfter cellsAfter tagsAfter wordAfter reasons effect addressed lookupOf registerOf mailboxOf wordAt mapReasons mapOf mapped unmapReasons soiled unmapped unmapOf dirtyReasons cleared pageAt frameAt withPage withFrame freshCore freshTable freshOf fresh startOf run next inside takenRange ending until timeAfter into aimed struck remaining left indiscreet discreet
+retaken-over = refl
