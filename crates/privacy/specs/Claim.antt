@@ -1,31 +1,29 @@
 -- Document 01, 'The privacy rule': "Demand 3 is a single claim about two whole lists of calls .. and not one for each call."
 -- The claim as a type; its proof is a value of that type. Assumes nothing.
-use Prim.Native.Nat.{ℕ, _*_}
+use Prim.Native.Nat.{ℕ}
 use mathlib.Core.Bool.{Bool, true}
 use mathlib.Core.List.{List, _∷_, _++_}
 use mathlib.Core.Path.{_≡_}
-use lib.ListN.{length}
 use Rattle.calls.specs.declared.Call.{Call}
 use Rattle.calls.specs.declared.Call.the-variants.{Take}
-use Rattle.machine.specs.Formed.{startOf}
-use Rattle.privacy.specs.Lists.{Held, held, granted, next, run}
-use Rattle.privacy.specs.Rule.{Time, lasting, takenRange, timeAfter, left, discreet, heard, Alike}
+use Rattle.histories.specs.Runs.{Machine, next, run, begun, Begins}
+use Rattle.privacy.specs.Rule.{granted, Time, lasting, takenRange, timeAfter, left, discreet, heard, Alike}
 
 -- "Both lists begin with the same granted start and equal lent memory of 16 × F cells and tags." From it on, `before` is the
 -- part of a list before the take. Nothing is struck there, and the take is "the same call in both lists", so `before` is the
 -- same in both.
 module _ (v f : ℕ) (cells tags : List ℕ) (before : List Call) (house base reg : ℕ) where
-  abbrev pub start : Held
-  start = held (startOf v f .state) cells tags
+  abbrev pub start : Machine
+  start = begun v f cells tags
 
   abbrev pub take : Call
   take = Take house base reg
 
   -- What the take gets, and what it leaves.
-  abbrev pub atTake : Held
+  abbrev pub atTake : Machine
   atTake = run start before
 
-  abbrev pub afterTake : Held
+  abbrev pub afterTake : Machine
   afterTake = next atTake take
 
   -- The house's time as it begins.
@@ -38,9 +36,7 @@ module _ (v f : ℕ) (cells tags : List ℕ) (before : List Call) (house base re
 
   -- What two lists of calls, of which the house's take is granted, have to meet.
   pub record Within (after₁ after₂ : List Call) : Type 0 where
-    pub began : startOf v f .code ≡ 0
-    pub cellsLent : length cells ≡ 16 * f
-    pub tagsLent : length tags ≡ 16 * f
+    pub begins : Begins v f cells tags
     pub took : granted atTake take ≡ true
     -- "What is left is the same calls with the same operands in the same order, and each of the house's among them reads equal registers."
     pub same : left house time afterTake after₁ ≡ left house time afterTake after₂

@@ -22,7 +22,7 @@ use Rattle.machine.specs.declared.Slot.{Slot}
 use Rattle.machine.specs.declared.State.{State}
 use Rattle.machine.specs.Words.{empty, named, registerOf, mailboxOf, wordAt, stored}
 use Rattle.machine.specs.Reasons.{Reads, reading, reads}
-use Rattle.privacy.specs.Lists.{Held, outcome, granted, next}
+use Rattle.histories.specs.Runs.{Machine, outcome, next}
 
 -- The party that makes a call.
 abbrev pub callerOf : Call → ℕ
@@ -42,6 +42,10 @@ callerOf (Narrow p s off len mask d) = p
 callerOf (Number p d value) = p
 callerOf (Grant p s to) = p
 callerOf (Receive p d) = p
+
+-- "Code 0 means granted".
+abbrev pub granted : Machine → Call → Bool
+granted m c = eqb (outcome m c .answer .code) 0
 
 -- The call is the house's.
 abbrev pub housed : ℕ → Call → Bool
@@ -79,17 +83,17 @@ isCollect (Grant p s to) = false
 isCollect (Receive p d) = false
 
 -- "It ends with the first granted collect after that take of a revocation whose range contains all of the house's range".
-unfoldable pub ending : Range → Held → Call → Bool
-ending r h c = (isCollect c && granted h c) && contains (revoked (h .state .core)) r
+unfoldable pub ending : Range → Machine → Call → Bool
+ending r m c = (isCollect c && granted m c) && contains (revoked (m .state .core)) r
 
-unfoldable pub until : Time → Held → Call → Time
-until (lasting r) h c = pick (ending r h c) over (lasting r)
-until over h c = over
+unfoldable pub until : Time → Machine → Call → Time
+until (lasting r) m c = pick (ending r m c) over (lasting r)
+until over m c = over
 
 -- ".. or with the list if none comes": the time after a list of calls.
-unfoldable pub timeAfter : Time → Held → List Call → Time
-timeAfter t h [] = t
-timeAfter t h (c ∷ l) = timeAfter (until t h c) (next h c) l
+unfoldable pub timeAfter : Time → Machine → List Call → Time
+timeAfter t m [] = t
+timeAfter t m (c ∷ l) = timeAfter (until t m c) (next m c) l
 
 -- "A capability is into the range if one of its cells, base to base + length − 1, lies there": neither is empty, and each
 -- begins before the other ends. (The law `into-cell` says it by a cell.)
@@ -128,9 +132,9 @@ private r s (Grant p x to) = false
 private r s (Receive p d) = false
 
 -- "Strike from each list the house's loads, narrows, numbers and aimed stores in its time."
-unfoldable pub struck : ℕ → Time → Held → Call → Bool
-struck house (lasting r) h c = housed house c && private r (h .state) c
-struck house over h c = false
+unfoldable pub struck : ℕ → Time → Machine → Call → Bool
+struck house (lasting r) m c = housed house c && private r (m .state) c
+struck house over m c = false
 
 -- A call that is left. "A call reads the registers that its operands name, save d and the reg of take": with it stand the
 -- registers that it reads if it is the house's, and none otherwise.
@@ -138,16 +142,16 @@ pub record Left : Type 0 where
   pub call : Call
   pub registers : Reads
 
-unfoldable pub remaining : ℕ → Held → Call → Left
-remaining house h c =
-    record { call = c; registers = pick (housed house c) (reads (h .state .registers) c) (reading empty empty) }
+unfoldable pub remaining : ℕ → Machine → Call → Left
+remaining house m c =
+    record { call = c; registers = pick (housed house c) (reads (m .state .registers) c) (reading empty empty) }
 
 -- "What is left", in order.
-unfoldable pub left : ℕ → Time → Held → List Call → List Left
-left house t h [] = []
-left house t h (c ∷ l) =
-    let rest = left house (until t h c) (next h c) l in
-    pick (struck house t h c) rest (remaining house h c ∷ rest)
+unfoldable pub left : ℕ → Time → Machine → List Call → List Left
+left house t m [] = []
+left house t m (c ∷ l) =
+    let rest = left house (until t m c) (next m c) l in
+    pick (struck house t m c) rest (remaining house m c ∷ rest)
 
 -- The call "grants a capability into the range or stores one to a cell outside". What the filter strips of its tag is none.
 abbrev pub betrays : Range → State → Call → Bool
@@ -171,15 +175,15 @@ betrays r s (Grant p x to) = capabilityInto r (registerOf (s .registers) p x)
 betrays r s (Receive p d) = false
 
 -- A granted one of the house's calls, in its time, that is left and betrays.
-unfoldable pub indiscreet : ℕ → Time → Held → Call → Bool
-indiscreet house (lasting r) h c =
-    (housed house c && granted h c) && (not (struck house (lasting r) h c) && betrays r (h .state) c)
-indiscreet house over h c = false
+unfoldable pub indiscreet : ℕ → Time → Machine → Call → Bool
+indiscreet house (lasting r) m c =
+    (housed house c && granted m c) && (not (struck house (lasting r) m c) && betrays r (m .state) c)
+indiscreet house over m c = false
 
 -- "In its time no granted one of these grants a capability into the range or stores one to a cell outside."
-unfoldable pub discreet : ℕ → Time → Held → List Call → Bool
-discreet house t h [] = true
-discreet house t h (c ∷ l) = not (indiscreet house t h c) && discreet house (until t h c) (next h c) l
+unfoldable pub discreet : ℕ → Time → Machine → List Call → Bool
+discreet house t m [] = true
+discreet house t m (c ∷ l) = not (indiscreet house t m c) && discreet house (until t m c) (next m c) l
 
 -- "Code, number and tag".
 pub record Told : Type 0 where
@@ -191,11 +195,11 @@ abbrev pub told : Answered → Told
 told a = record { code = a .code; number = a .number; tag = a .tag }
 
 -- "Every answer to the other parties, in order".
-unfoldable pub heard : ℕ → Held → List Call → List Told
-heard house h [] = []
-heard house h (c ∷ l) =
-    let rest = heard house (next h c) l in
-    pick (housed house c) rest (told (outcome h c .answer) ∷ rest)
+unfoldable pub heard : ℕ → Machine → List Call → List Told
+heard house m [] = []
+heard house m (c ∷ l) =
+    let rest = heard house (next m c) l in
+    pick (housed house c) rest (told (outcome m c .answer) ∷ rest)
 
 -- What is seen of a virtual cell: nothing where its page is not Mapped, or else its number and tag.
 pub data Sight : Type 0 where
@@ -206,8 +210,8 @@ abbrev pub sightAt : Place → List ℕ → List ℕ → Sight
 sightAt Nowhere cells tags = dark
 sightAt (At at) cells tags = shown (wordAt cells tags at)
 
-unfoldable pub sight : Held → ℕ → Sight
-sight h v = sightAt (lookupOf (h .state .core .pages) v) (h .cells) (h .tags)
+unfoldable pub sight : Machine → ℕ → Sight
+sight m v = sightAt (lookupOf (m .state .core .pages) v) (m .cells) (m .tags)
 
 -- The cells that are not compared: those in the range, while the time lasts.
 unfoldable pub hidden : Time → ℕ → Bool
@@ -216,7 +220,7 @@ hidden over v = false
 
 -- "Compared after both lists are: .. the registers and mailbox of each other party; which cells outside the range lie in
 -- Mapped pages, with number and tag; and, if the collect came, the same inside the range."
-pub record Alike (house : ℕ) (t : Time) (g h : Held) : Type 0 where
+pub record Alike (house : ℕ) (t : Time) (g h : Machine) : Type 0 where
   pub registers : (p r : ℕ) → (p ≡ house → ⊥) → registerOf (g .state .registers) p r ≡ registerOf (h .state .registers) p r
   pub mailboxes : (p : ℕ) → (p ≡ house → ⊥) → mailboxOf (g .state .mailboxes) p ≡ mailboxOf (h .state .mailboxes) p
   pub cells : (v : ℕ) → hidden t v ≡ false → sight g v ≡ sight h v

@@ -1,0 +1,1 @@
+// Specifications and proofs only: what holds after every history of calls.
