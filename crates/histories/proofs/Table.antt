@@ -1,0 +1,341 @@
+-- The reservations after a granted call: a lent range is never cut, and what is Open came from what was Open. Assumes nothing.
+use Prim.Native.Nat.{ℕ, zero, suc, _+_, _-_, _*_, _%_, _<_, _≤_}
+use native.Mathlib.Omega.{arith}
+use mathlib.Core.Bool.{Bool, true, false, not, _&&_, true≢false, false≢true}
+use mathlib.Core.List.{List, [], _∷_, _++_}
+use mathlib.Core.Logic.{_⊎_, inl, inr, ⊎-elim}
+use mathlib.Core.Path.{_≡_, refl, sym, ap, subst, _∙_}
+use borrow.Author.Tests.{eqb-true, eqb-false, ltb-true, lt-ltb, ltb-false, le-ltb, leb-true, leb-false}
+use lib.Dec.{eqb, ltb, leb}
+use lib.ListN.{length, getD, take, drop, length-append, length-drop, List·getD-append}
+use lib.Seq.{getD-take, getD-drop, getD-append-add, length-take-le}
+use Rattle.pages.specs.declared.Range.{Range}
+use Rattle.pages.specs.Range.{inside}
+use Rattle.reservations.specs.declared.Reservation.{Reservation}
+use Rattle.reservations.specs.declared.ReservationState.{ReservationState}
+use Rattle.reservations.specs.declared.ReservationState.the-variants.{Open, Taken, Revoking}
+use Rattle.reservations.specs.declared.Core.{Core}
+use Rattle.reservations.specs.declared.Table.{Table}
+use Rattle.reservations.specs.Find.{rowOf, revokingOf, missing}
+use Rattle.pages.specs.Capability.{baseOf}
+use Rattle.reservations.specs.Rows.{isOpen, isRevoking, blank, live, rangeOf}
+use Rattle.reservations.specs.Tiling.{tableSound}
+use Rattle.reservations.specs.Operations.{alike, joined, lowerPart, upperPart, takenRow, givenRow}
+use Rattle.reservations.specs.Revocation.{revokingRow, collectedRow, running, revoked, dying}
+use Rattle.reservations.proofs.Cells.{inside-bounds, inside-made}
+use Rattle.reservations.proofs.Sound.{sound}
+use Rattle.reservations.proofs.Tiled.{tiled-next, tiled-fits}
+use Rattle.reservations.proofs.After.{Replaced}
+use Rattle.reservations.proofs.Kept.{cut-one, cut-two}
+use Rattle.reservations.proofs.Dying.{dyings, none, firstOf, revoking-row, revoking-none, dyings-append, dyings-not}
+use Rattle.histories.specs.Inv.{rowAt}
+
+-- A lent range has a lent reservation around it; a cell of an Open one was in an Open one.
+pub record Around (u : Table) (r : Reservation) : Type 0 where
+  pub row : ℕ
+  pub used : row < length (live u)
+  pub lent : isOpen (rowAt u row .state) ≡ false
+  pub from : rowAt u row .base ≤ r .base
+  pub upto : r .base + r .length ≤ rowAt u row .base + rowAt u row .length
+
+pub record Opened (t : Table) (v : ℕ) : Type 0 where
+  pub row : ℕ
+  pub used : row < length (live t)
+  pub isopen : isOpen (rowAt t row .state) ≡ true
+  pub hit : inside (rangeOf (rowAt t row)) v ≡ true
+
+pub record Carried (t u : Table) : Type 0 where
+  pub kept : (j : ℕ) → j < length (live t) → isOpen (rowAt t j .state) ≡ false → Around u (rowAt t j)
+  pub came : (j v : ℕ) → j < length (live u) → isOpen (rowAt u j .state) ≡ true → inside (rangeOf (rowAt u j)) v ≡ true → Opened t v
+
+pub record CarriedBut (P : Reservation → Type 0) (Q : ℕ → Type 0) (t u : Table) : Type 0 where
+  pub kept : (j : ℕ) → j < length (live t) → isOpen (rowAt t j .state) ≡ false → P (rowAt t j) → Around u (rowAt t j)
+  pub came : (j v : ℕ) → j < length (live u) → isOpen (rowAt u j .state) ≡ true → inside (rangeOf (rowAt u j)) v ≡ true → Opened t v ⊎ Q v
+
+-- k rows from the i-th on, replaced by new ones.
+module _ (l new : List Reservation) (i k : ℕ) (h : i + k ≤ length l) where
+  abbrev result : List Reservation
+  result = take i l ++ (new ++ drop (i + k) l)
+
+  front : length (take i l) ≡ i
+  front = length-take-le i l (omega arith)
+
+  pub size : length result ≡ i + (length new + (length l - (i + k)))
+  size = simp (length-append, front, length-drop) refl
+
+  pub low : (j : ℕ) → j < i → getD result j blank ≡ getD l j blank
+  low j b = List·getD-append (take i l) (new ++ drop (i + k) l) blank j (rw front b) ∙ getD-take i l j blank b
+
+  past : (n : ℕ) → getD result (i + n) blank ≡ getD (new ++ drop (i + k) l) n blank
+  past n = ap (λ m. getD result (m + n) blank) (sym front) ∙ getD-append-add (take i l) (new ++ drop (i + k) l) n blank
+
+  pub mid : (j : ℕ) → j < length new → getD result (i + j) blank ≡ getD new j blank
+  mid j b = past j ∙ List·getD-append new (drop (i + k) l) blank j b
+
+  pub high : (j : ℕ) → getD result (i + (length new + j)) blank ≡ getD l (i + k + j) blank
+  high j = past (length new + j) ∙ getD-append-add new (drop (i + k) l) j blank ∙ getD-drop (i + k) l j blank
+
+-- One of the new rows stands around one of the replaced ones; a cell of a new Open one was in a replaced Open one.
+pub record Fits (new : List Reservation) (r : Reservation) : Type 0 where
+  pub row : ℕ
+  pub used : row < length new
+  pub lent : isOpen (getD new row blank .state) ≡ false
+  pub from : getD new row blank .base ≤ r .base
+  pub upto : r .base + r .length ≤ getD new row blank .base + getD new row blank .length
+
+pub record Was (l : List Reservation) (i k v : ℕ) : Type 0 where
+  pub row : ℕ
+  pub used : row < k
+  pub isopen : isOpen (getD l (i + row) blank .state) ≡ true
+  pub hit : inside (rangeOf (getD l (i + row) blank)) v ≡ true
+
+module _ (t u : Table) (new : List Reservation) (i k : ℕ) (h : i + k ≤ length (live t)) (now : live u ≡ take i (live t) ++ (new ++ drop (i + k) (live t))) where
+  abbrev l : List Reservation
+  l = live t
+
+  abbrev at-row : ℕ → Reservation
+  at-row j = getD (live u) j blank
+
+  long : length (live u) ≡ i + (length new + (length l - (i + k)))
+  long = ap length now ∙ size l new i k h
+
+  low-row : (j : ℕ) → j < i → rowAt u j ≡ rowAt t j
+  low-row j b = ap (λ x. getD x j blank) now ∙ low l new i k h j b
+
+  mid-row : (j : ℕ) → j < length new → rowAt u (i + j) ≡ getD new j blank
+  mid-row j b = ap (λ x. getD x (i + j) blank) now ∙ mid l new i k h j b
+
+  high-row : (j : ℕ) → rowAt u (i + (length new + j)) ≡ rowAt t (i + k + j)
+  high-row j = ap (λ x. getD x (i + (length new + j)) blank) now ∙ high l new i k h j
+
+  around : (j n : ℕ) → rowAt u n ≡ rowAt t j → n < length (live u) → isOpen (rowAt t j .state) ≡ false → Around u (rowAt t j)
+  around j n e b o =
+      record {
+        row = n;
+        used = b;
+        lent = ap (λ r. isOpen (r .state)) e ∙ o;
+        from = omega (arith, ap (λ r. r .base) e);
+        upto = omega (arith, ap (λ r. r .base) e, ap (λ r. r .length) e);
+      }
+
+  opened : (j n v : ℕ) → rowAt u n ≡ rowAt t j → j < length l → isOpen (rowAt u n .state) ≡ true → inside (rangeOf (rowAt u n)) v ≡ true → Opened t v
+  opened j n v e b o c =
+      record { row = j; used = b; isopen = sym (ap (λ r. isOpen (r .state)) e) ∙ o; hit = sym (ap (λ r. inside (rangeOf r) v) e) ∙ c }
+
+  -- Save where P fails of a lent row, or Q holds of an Open row's cell.
+  pub carried-but : (P : Reservation → Type 0) (Q : ℕ → Type 0)
+      → ((j : ℕ) → j < k → isOpen (getD l (i + j) blank .state) ≡ false → P (getD l (i + j) blank) → Fits new (getD l (i + j) blank))
+      → ((j v : ℕ) → j < length new → isOpen (getD new j blank .state) ≡ true → inside (rangeOf (getD new j blank)) v ≡ true → Was l i k v ⊎ Q v)
+      → CarriedBut P Q t u
+  carried-but P Q fits was = record { kept = λ j b o x. keep j b o x (ltb j i) refl (ltb j (i + k)) refl; came = λ j v b o c. back j v b o c (ltb j i) refl (ltb j (i + length new)) refl }
+    where
+      keep : (j : ℕ) → j < length l → isOpen (rowAt t j .state) ≡ false → P (rowAt t j) → (x : Bool) → ltb j i ≡ x → (y : Bool) → ltb j (i + k) ≡ y → Around u (rowAt t j)
+      keep j b o z true e y f = let q : j < i = ltb-true j i e in around j j (low-row j q) (omega (arith, long)) o
+      keep j b o z false e true f =
+          let p : i ≤ j = ltb-false j i e in
+          let q : j < i + k = ltb-true j (i + k) f in
+          let n : i + (j - i) ≡ j = omega arith in
+          let g : Fits new (rowAt t j) = subst (λ m. Fits new (getD l m blank)) n (fits (j - i) (omega arith) (ap (λ m. isOpen (getD l m blank .state)) n ∙ o) (subst (λ m. P (getD l m blank)) (sym n) z)) in
+          let row = mid-row (g .row) (g .used) in
+          record {
+            row = i + g .row;
+            used = omega (arith, long, g .used);
+            lent = ap (λ r. isOpen (r .state)) row ∙ g .lent;
+            from = omega (arith, ap (λ r. r .base) row, g .from);
+            upto = omega (arith, ap (λ r. r .base) row, ap (λ r. r .length) row, g .upto);
+          }
+      keep j b o z false e false f =
+          let p : i + k ≤ j = ltb-false j (i + k) f in
+          let n : i + k + (j - (i + k)) ≡ j = omega arith in
+          around j (i + (length new + (j - (i + k)))) (high-row (j - (i + k)) ∙ ap (λ m. getD l m blank) n) (omega (arith, long)) o
+
+      back : (j v : ℕ) → j < length (live u) → isOpen (rowAt u j .state) ≡ true → inside (rangeOf (rowAt u j)) v ≡ true → (x : Bool) → ltb j i ≡ x → (y : Bool) → ltb j (i + length new) ≡ y → Opened t v ⊎ Q v
+      back j v b o c true e y f = let q : j < i = ltb-true j i e in inl (opened j j v (low-row j q) (omega arith) o c)
+      back j v b o c false e true f =
+          let p : i ≤ j = ltb-false j i e in
+          let q : j < i + length new = ltb-true j (i + length new) f in
+          let n : i + (j - i) ≡ j = omega arith in
+          let row : rowAt u j ≡ getD new (j - i) blank = ap (λ m. rowAt u m) (sym n) ∙ mid-row (j - i) (omega arith) in
+          ⊎-elim (λ g. inl (record { row = i + g .row; used = omega (arith, g .used); isopen = g .isopen; hit = g .hit })) inr (was (j - i) v (omega arith) (sym (ap (λ r. isOpen (r .state)) row) ∙ o) (sym (ap (λ r. inside (rangeOf r) v) row) ∙ c))
+      back j v b o c false e false f =
+          let p : i + length new ≤ j = ltb-false j (i + length new) f in
+          let m : ℕ = j - (i + length new) in
+          let n : i + (length new + m) ≡ j = omega arith in
+          inl (opened (i + k + m) j v (ap (λ x. rowAt u x) (sym n) ∙ high-row m) (omega (arith, long)) o c)
+
+  pub carried : ((j : ℕ) → j < k → isOpen (getD l (i + j) blank .state) ≡ false → Fits new (getD l (i + j) blank))
+      → ((j v : ℕ) → j < length new → isOpen (getD new j blank .state) ≡ true → inside (rangeOf (getD new j blank)) v ≡ true → Was l i k v)
+      → Carried t u
+  carried fits was =
+      let but = carried-but (λ r. ℕ) (λ v. ⊥) (λ j b o z. fits j b o) (λ j v b o c. inl (was j v b o c)) in
+      record { kept = λ j b o. but .kept j b o 0; came = λ j v b o c. ⊎-elim (λ x. x) (λ z. absurd z) (but .came j v b o c) }
+
+-- A named Open row.
+only : (l : List Reservation) (i j : ℕ) → j < 1 → isOpen (getD l i blank .state) ≡ true → isOpen (getD l (i + j) blank .state) ≡ false → ⊥
+only l i j b o e = let n : i + j ≡ i = omega arith in true≢false (sym o ∙ sym (ap (λ m. isOpen (getD l m blank .state)) n) ∙ e)
+
+-- It was cell v's.
+was-it : (l : List Reservation) (i v : ℕ) → isOpen (getD l i blank .state) ≡ true → inside (rangeOf (getD l i blank)) v ≡ true → Was l i 1 v
+was-it l i v o e =
+    let n : i ≡ i + 0 = omega arith in
+    record { row = 0; used = omega arith; isopen = ap (λ m. isOpen (getD l m blank .state)) (sym n) ∙ o; hit = ap (λ m. inside (rangeOf (getD l m blank)) v) (sym n) ∙ e }
+
+-- A wider range holds what a narrower one holds.
+pub inside-wider : (a b : Range) (v : ℕ) → a .base ≤ b .base → b .base + b .length ≤ a .base + a .length → inside b v ≡ true → inside a v ≡ true
+inside-wider a b v p q e = let k = inside-bounds b v e in inside-made a v (omega (arith, k .0)) (omega (arith, k .1))
+
+module _ (t u : Table) (party base i : ℕ) where
+  abbrev l₀ : List Reservation
+  l₀ = live t
+
+  abbrev r₀ : Reservation
+  r₀ = getD (live t) i blank
+
+  pub take-carried : isOpen (r₀ .state) ≡ true → Replaced t u party base i 1 (takenRow r₀ ∷ []) → Carried t u
+  take-carried o k =
+      carried t u (takenRow r₀ ∷ []) i 1 (k .within) (k .now) (λ j b e. absurd (only l₀ i j b o e)) back
+    where
+      back : (j v : ℕ) → j < 1 → isOpen (getD (takenRow r₀ ∷ []) j blank .state) ≡ true → inside (rangeOf (getD (takenRow r₀ ∷ []) j blank)) v ≡ true → Was l₀ i 1 v
+      back zero v b e c = absurd (false≢true e)
+      back (suc j) v b e c = absurd (omega arith)
+
+  pub give-carried : (to : ℕ) → isOpen (r₀ .state) ≡ true → Replaced t u party base i 1 (givenRow r₀ to ∷ []) → Carried t u
+  give-carried to o k =
+      carried t u (givenRow r₀ to ∷ []) i 1 (k .within) (k .now) (λ j b e. absurd (only l₀ i j b o e)) back
+    where
+      back : (j v : ℕ) → j < 1 → isOpen (getD (givenRow r₀ to ∷ []) j blank .state) ≡ true → inside (rangeOf (getD (givenRow r₀ to ∷ []) j blank)) v ≡ true → Was l₀ i 1 v
+      back zero v b e c = was-it l₀ i v o c
+      back (suc j) v b e c = absurd (omega arith)
+
+  pub revoke-carried : Replaced t u party base i 1 (revokingRow r₀ ∷ []) → Carried t u
+  revoke-carried k = carried t u (revokingRow r₀ ∷ []) i 1 (k .within) (k .now) keep back
+    where
+      keep : (j : ℕ) → j < 1 → isOpen (getD l₀ (i + j) blank .state) ≡ false → Fits (revokingRow r₀ ∷ []) (getD l₀ (i + j) blank)
+      keep j b e =
+          let n : i ≡ i + j = omega arith in
+          subst (λ m. Fits (revokingRow r₀ ∷ []) (getD l₀ m blank)) n (record { row = 0; used = omega arith; lent = refl; from = omega arith; upto = omega arith })
+
+      back : (j v : ℕ) → j < 1 → isOpen (getD (revokingRow r₀ ∷ []) j blank .state) ≡ true → inside (rangeOf (getD (revokingRow r₀ ∷ []) j blank)) v ≡ true → Was l₀ i 1 v
+      back zero v b e c = absurd (false≢true e)
+      back (suc j) v b e c = absurd (omega arith)
+
+  pub split-carried : (len : ℕ) → r₀ .base + r₀ .length < 65536 → isOpen (r₀ .state) ≡ true → Replaced t u party base i 1 (lowerPart r₀ len ∷ upperPart r₀ len ∷ []) → len ≤ r₀ .length → Carried t u
+  split-carried len fits o k small =
+      carried t u (lowerPart r₀ len ∷ upperPart r₀ len ∷ []) i 1 (k .within) (k .now) (λ j b e. absurd (only l₀ i j b o e)) back
+    where
+      back : (j v : ℕ) → j < 2 → isOpen (getD (lowerPart r₀ len ∷ upperPart r₀ len ∷ []) j blank .state) ≡ true
+          → inside (rangeOf (getD (lowerPart r₀ len ∷ upperPart r₀ len ∷ []) j blank)) v ≡ true → Was l₀ i 1 v
+      back zero v b e c = was-it l₀ i v o (inside-wider (rangeOf r₀) (rangeOf (lowerPart r₀ len)) v (omega arith) (omega arith) c)
+      back (suc zero) v b e c =
+          let n : (r₀ .base + len) % 65536 ≡ r₀ .base + len = omega arith in
+          was-it l₀ i v o (inside-wider (rangeOf r₀) (rangeOf (upperPart r₀ len)) v (omega arith) (omega arith) c)
+      back (suc (suc j)) v b e c = absurd (omega arith)
+
+alike-lent : (a b : ReservationState) → alike a b ≡ true → (isOpen a ≡ isOpen b)
+alike-lent Open Open e = refl
+alike-lent Open Taken e = absurd (false≢true e)
+alike-lent Open Revoking e = absurd (false≢true e)
+alike-lent Taken Open e = absurd (false≢true e)
+alike-lent Taken Taken e = refl
+alike-lent Taken Revoking e = absurd (false≢true e)
+alike-lent Revoking b e = absurd (false≢true e)
+
+module _ (t u : Table) (party base i : ℕ) where
+  abbrev one : Reservation
+  one = getD (live t) i blank
+
+  abbrev two : Reservation
+  two = getD (live t) (i + 1) blank
+
+  pub merge-carried : two .base ≡ one .base + one .length → one .length + two .length < 65536 → alike (one .state) (two .state) ≡ true
+      → Replaced t u party base i 2 (joined one two ∷ []) → Carried t u
+  merge-carried seam fits same k = carried t u (joined one two ∷ []) i 2 (k .within) (k .now) keep back
+    where
+      whole : (one .length + two .length) % 65536 ≡ one .length + two .length
+      whole = omega arith
+
+      keep : (j : ℕ) → j < 2 → isOpen (getD (live t) (i + j) blank .state) ≡ false → Fits (joined one two ∷ []) (getD (live t) (i + j) blank)
+      keep zero b e =
+          let n : i ≡ i + 0 = omega arith in
+          subst (λ m. Fits (joined one two ∷ []) (getD (live t) m blank)) n
+          (record { row = 0; used = omega arith; lent = ap (λ m. isOpen (getD (live t) m blank .state)) n ∙ e; from = omega arith; upto = omega (arith, whole) })
+      keep (suc zero) b e = record { row = 0; used = omega arith; lent = alike-lent (one .state) (two .state) same ∙ e; from = omega (arith, seam); upto = omega (arith, whole, seam) }
+      keep (suc (suc j)) b e = absurd (omega arith)
+
+      back : (j v : ℕ) → j < 1 → isOpen (getD (joined one two ∷ []) j blank .state) ≡ true → inside (rangeOf (getD (joined one two ∷ []) j blank)) v ≡ true → Was (live t) i 2 v
+      back zero v b e c = go (ltb v (one .base + one .length)) refl
+        where
+          n : i ≡ i + 0
+          n = omega arith
+
+          go : (x : Bool) → ltb v (one .base + one .length) ≡ x → Was (live t) i 2 v
+          go true x =
+              let d = inside-bounds (rangeOf (joined one two)) v c in
+              record {
+                row = 0;
+                used = omega arith;
+                isopen = ap (λ m. isOpen (getD (live t) m blank .state)) (sym n) ∙ e;
+                hit = ap (λ m. inside (rangeOf (getD (live t) m blank)) v) (sym n) ∙ inside-made (rangeOf one) v (omega (arith, d .0)) (ltb-true v (one .base + one .length) x);
+              }
+          go false x =
+              let d = inside-bounds (rangeOf (joined one two)) v c in
+              record {
+                row = 1;
+                used = omega arith;
+                isopen = sym (alike-lent (one .state) (two .state) same) ∙ e;
+                hit = inside-made (rangeOf two) v (omega (arith, seam, ltb-false v (one .base + one .length) x)) (omega (arith, d .1, whole, seam));
+              }
+      back (suc j) v b e c = absurd (omega arith)
+
+-- What dies is said by the Revoking reservations alone.
+abbrev diesBy : List Reservation → ℕ → Bool
+diesBy d cell = not (none d) && inside (rangeOf (firstOf d)) (baseOf cell)
+
+dies-by : (c : Core) (cell : ℕ) → dying c cell ≡ diesBy (dyings (live (c .table))) cell
+unfolding dying running revoked
+dies-by c cell =
+    ap (λ b. not b && inside (rangeOf (rowOf (c .table) (revokingOf (c .table)))) (baseOf cell)) (revoking-none (c .table))
+    ∙ ap (λ r. not (none (dyings (live (c .table)))) && inside (rangeOf r) (baseOf cell)) (revoking-row (c .table))
+
+pub dies-same : (c d : Core) → dyings (live (d .table)) ≡ dyings (live (c .table)) → (cell : ℕ) → dying d cell ≡ dying c cell
+dies-same c d e cell = dies-by d cell ∙ ap (λ x. diesBy x cell) e ∙ sym (dies-by c cell)
+
+-- Rows that are not Revoking, exchanged for others that are not.
+dyings-swap : (pre old new post : List Reservation) → dyings old ≡ [] → dyings new ≡ [] → dyings (pre ++ (new ++ post)) ≡ dyings (pre ++ (old ++ post))
+dyings-swap pre old new post a b = simp (dyings-append, a, b)
+
+pub dyings-one : (t u : Table) (i : ℕ) (new : List Reservation) → i < length (live t) → live u ≡ take i (live t) ++ (new ++ drop (i + 1) (live t)) → isRevoking (rowAt t i .state) ≡ false → dyings new ≡ [] → dyings (live u) ≡ dyings (live t)
+dyings-one t u i new h now a b =
+    ap dyings now ∙ dyings-swap (take i (live t)) (rowAt t i ∷ []) new (drop (i + 1) (live t)) (dyings-not (rowAt t i) [] a ∙ (unfold dyings in refl)) b
+    ∙ sym (ap dyings (cut-one (live t) i h))
+
+pub dyings-two : (t u : Table) (i : ℕ) (new : List Reservation) → i + 1 < length (live t) → live u ≡ take i (live t) ++ (new ++ drop (i + 2) (live t)) → isRevoking (rowAt t i .state) ≡ false → isRevoking (rowAt t (i + 1) .state) ≡ false → dyings new ≡ [] → dyings (live u) ≡ dyings (live t)
+dyings-two t u i new h now a c b =
+    ap dyings now
+    ∙ dyings-swap (take i (live t)) (rowAt t i ∷ rowAt t (i + 1) ∷ []) new (drop (i + 2) (live t)) (dyings-not (rowAt t i) (rowAt t (i + 1) ∷ []) a ∙ dyings-not (rowAt t (i + 1)) [] c ∙ (unfold dyings in refl)) b
+    ∙ sym (ap dyings (cut-two (live t) i h))
+
+pub open-no-dying : (r : Reservation) → isRevoking (r .state) ≡ false → dyings (r ∷ []) ≡ []
+open-no-dying r a = dyings-not r [] a ∙ (unfold dyings in refl)
+
+pub alike-still : (a b : ReservationState) → alike a b ≡ true → (isRevoking a ≡ false) × (isRevoking b ≡ false)
+alike-still Open Open e = (refl, refl)
+alike-still Open Taken e = (refl, refl)
+alike-still Open Revoking e = absurd (false≢true e)
+alike-still Taken Open e = (refl, refl)
+alike-still Taken Taken e = (refl, refl)
+alike-still Taken Revoking e = absurd (false≢true e)
+alike-still Revoking b e = absurd (false≢true e)
+
+-- A collect: what is lent stays lent where it holds a cell outside the revoked range; what is Open was Open or revoked.
+module _ (t u : Table) (i : ℕ) (h : i < length (live t)) (now : live u ≡ take i (live t) ++ collectedRow (rowAt t i) ∷ drop (i + 1) (live t)) where
+  pub collect-carried : (b : ℕ) → inside (rangeOf (rowAt t i)) b ≡ false → CarriedBut (λ r. inside (rangeOf r) b ≡ true) (λ v. inside (rangeOf (rowAt t i)) v ≡ true) t u
+  collect-carried b out = carried-but t u (collectedRow (rowAt t i) ∷ []) i 1 (omega arith) now (λ r. inside (rangeOf r) b ≡ true) (λ v. inside (rangeOf (rowAt t i)) v ≡ true) keep back
+    where
+      keep : (j : ℕ) → j < 1 → isOpen (getD (live t) (i + j) blank .state) ≡ false → inside (rangeOf (getD (live t) (i + j) blank)) b ≡ true → Fits (collectedRow (rowAt t i) ∷ []) (getD (live t) (i + j) blank)
+      keep j x o e = let n : i + j ≡ i = omega arith in absurd (false≢true (sym out ∙ sym (ap (λ m. inside (rangeOf (getD (live t) m blank)) b) n) ∙ e))
+
+      back : (j v : ℕ) → j < 1 → isOpen (getD (collectedRow (rowAt t i) ∷ []) j blank .state) ≡ true → inside (rangeOf (getD (collectedRow (rowAt t i) ∷ []) j blank)) v ≡ true
+          → Was (live t) i 1 v ⊎ (inside (rangeOf (rowAt t i)) v ≡ true)
+      back zero v x o e = inr e
+      back (suc j) v x o e = absurd (omega arith)
