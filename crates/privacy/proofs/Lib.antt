@@ -1,3 +1,4 @@
 pub mod Examples
 pub mod Glue
 pub mod Fate
+pub mod Showing
