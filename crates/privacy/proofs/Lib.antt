@@ -3,3 +3,5 @@ pub mod Glue
 pub mod Fate
 pub mod Showing
 pub mod Words
+pub mod Relate
+pub mod House
