@@ -5,3 +5,5 @@ pub mod Showing
 pub mod Words
 pub mod Relate
 pub mod House
+pub mod Reached
+pub mod Sides
