@@ -96,13 +96,13 @@ module _ (t u : Table) (new : List Reservation) (i k : ℕ) (h : i + k ≤ lengt
   abbrev at-row : ℕ → Reservation
   at-row j = getD (live u) j blank
 
-  long : length (live u) ≡ i + (length new + (length l - (i + k)))
+  pub long : length (live u) ≡ i + (length new + (length l - (i + k)))
   long = ap length now ∙ size l new i k h
 
   low-row : (j : ℕ) → j < i → rowAt u j ≡ rowAt t j
   low-row j b = ap (λ x. getD x j blank) now ∙ low l new i k h j b
 
-  mid-row : (j : ℕ) → j < length new → rowAt u (i + j) ≡ getD new j blank
+  pub mid-row : (j : ℕ) → j < length new → rowAt u (i + j) ≡ getD new j blank
   mid-row j b = ap (λ x. getD x (i + j) blank) now ∙ mid l new i k h j b
 
   high-row : (j : ℕ) → rowAt u (i + (length new + j)) ≡ rowAt t (i + k + j)
@@ -329,13 +329,23 @@ alike-still Revoking b e = absurd (false≢true e)
 
 -- A collect: what is lent stays lent where it holds a cell outside the revoked range; what is Open was Open or revoked.
 module _ (t u : Table) (i : ℕ) (h : i < length (live t)) (now : live u ≡ take i (live t) ++ collectedRow (rowAt t i) ∷ drop (i + 1) (live t)) where
-  pub collect-carried : (b : ℕ) → inside (rangeOf (rowAt t i)) b ≡ false → CarriedBut (λ r. inside (rangeOf r) b ≡ true) (λ v. inside (rangeOf (rowAt t i)) v ≡ true) t u
-  collect-carried b out = carried-but t u (collectedRow (rowAt t i) ∷ []) i 1 (omega arith) now (λ r. inside (rangeOf r) b ≡ true) (λ v. inside (rangeOf (rowAt t i)) v ≡ true) keep back
+  back : (j v : ℕ) → j < 1 → isOpen (getD (collectedRow (rowAt t i) ∷ []) j blank .state) ≡ true → inside (rangeOf (getD (collectedRow (rowAt t i) ∷ []) j blank)) v ≡ true
+      → Was (live t) i 1 v ⊎ (inside (rangeOf (rowAt t i)) v ≡ true)
+  back zero v x o e = inr e
+  back (suc j) v x o e = absurd (omega arith)
+
+  pub collect-kept : (b j : ℕ) → inside (rangeOf (rowAt t i)) b ≡ false → j < length (live t) → isOpen (rowAt t j .state) ≡ false → inside (rangeOf (rowAt t j)) b ≡ true → Around u (rowAt t j)
+  collect-kept b j out = carried-but t u (collectedRow (rowAt t i) ∷ []) i 1 (omega arith) now (λ r. inside (rangeOf r) b ≡ true) (λ v. inside (rangeOf (rowAt t i)) v ≡ true) keep back .kept j
     where
       keep : (j : ℕ) → j < 1 → isOpen (getD (live t) (i + j) blank .state) ≡ false → inside (rangeOf (getD (live t) (i + j) blank)) b ≡ true → Fits (collectedRow (rowAt t i) ∷ []) (getD (live t) (i + j) blank)
       keep j x o e = let n : i + j ≡ i = omega arith in absurd (false≢true (sym out ∙ sym (ap (λ m. inside (rangeOf (getD (live t) m blank)) b) n) ∙ e))
 
-      back : (j v : ℕ) → j < 1 → isOpen (getD (collectedRow (rowAt t i) ∷ []) j blank .state) ≡ true → inside (rangeOf (getD (collectedRow (rowAt t i) ∷ []) j blank)) v ≡ true
-          → Was (live t) i 1 v ⊎ (inside (rangeOf (rowAt t i)) v ≡ true)
-      back zero v x o e = inr e
-      back (suc j) v x o e = absurd (omega arith)
+  pub collect-came : (j v : ℕ) → j < length (live u) → isOpen (rowAt u j .state) ≡ true → inside (rangeOf (rowAt u j)) v ≡ true → Opened t v ⊎ (inside (rangeOf (rowAt t i)) v ≡ true)
+  collect-came = carried-but t u (collectedRow (rowAt t i) ∷ []) i 1 (omega arith) now (λ r. ⊥) (λ v. inside (rangeOf (rowAt t i)) v ≡ true) (λ j b o z. absurd z) back .came
+
+  -- The revoked row is Open.
+  pub collect-open : (i < length (live u)) × (isOpen (rowAt u i .state) ≡ true) × (rangeOf (rowAt u i) ≡ rangeOf (rowAt t i))
+  collect-open =
+      let n : i + 0 ≡ i = omega arith in
+      let e : rowAt u i ≡ collectedRow (rowAt t i) = ap (λ k. rowAt u k) (sym n) ∙ mid-row t u (collectedRow (rowAt t i) ∷ []) i 1 (omega arith) now 0 (omega arith) in
+      (omega (arith, long t u (collectedRow (rowAt t i) ∷ []) i 1 (omega arith) now), ap (λ r. isOpen (r .state)) e, ap (λ r. rangeOf r) e)

@@ -1,0 +1,62 @@
+-- A call is granted, and then done, or changes nothing. Assumes nothing.
+use Prim.Native.Nat.{ℕ, _*_}
+use native.Mathlib.Omega.{arith}
+use mathlib.Core.Bool.{Bool, true, false, _&&_}
+use mathlib.Core.List.{List}
+use mathlib.Core.Logic.{_⊎_, inl, inr, ⊎-elim}
+use mathlib.Core.Path.{_≡_, refl, sym, ap, _∙_}
+use borrow.Author.Tests.{eqb-true, eqb-false}
+use lib.Dec.{eqb}
+use lib.ListN.{length}
+use Rattle.calls.specs.declared.Call.{Call}
+use Rattle.pages.specs.Layer.{serves}
+use Rattle.pages.specs.Refusals.{first}
+use Rattle.pages.proofs.Choice.{and-left}
+use Rattle.pages.proofs.Formed.{Sound as Layered, sound as layered}
+use Rattle.pages.proofs.Memory.{served}
+use Rattle.reservations.specs.Revocation.{coreSound}
+use Rattle.reservations.proofs.CoreKept.{CoreFacts, core-facts}
+use Rattle.machine.specs.declared.State.{State}
+use Rattle.machine.specs.Formed.{wellFormed, mailboxesSound, sized}
+use Rattle.machine.specs.Step.{Outcome, done, reasonsOn, effectOn, ruled, judged, stepOf}
+use Rattle.histories.specs.Runs.{Machine, machine, outcome, next, Granted}
+
+-- What an outcome hands on.
+abbrev pub handed : Outcome → Machine
+handed o = machine (o .answer .state) (o .cells) (o .tags)
+
+pub record Went (m : Machine) (c : Call) : Type 0 where
+  pub formed : wellFormed (m .state) ≡ true
+  pub serve : serves (m .state .core .pages) (length (m .cells)) (length (m .tags)) ≡ true
+  pub clear : first (reasonsOn (m .state) c) ≡ 0
+  pub now : outcome m c ≡ done (m .state) (effectOn (m .state) c) (m .cells) (m .tags)
+
+pub went-or-not : (m : Machine) (c : Call) → Went m c ⊎ ((next m c ≡ m) × (Granted m c → ⊥))
+unfolding next outcome stepOf judged ruled
+went-or-not m c =
+    go (wellFormed (m .state)) refl (serves (m .state .core .pages) (length (m .cells)) (length (m .tags))) refl (eqb (first (reasonsOn (m .state) c)) 0) refl
+  where
+    go : (x : Bool) → wellFormed (m .state) ≡ x → (y : Bool) → serves (m .state .core .pages) (length (m .cells)) (length (m .tags)) ≡ y → (z : Bool) → eqb (first (reasonsOn (m .state) c)) 0 ≡ z
+        → Went m c ⊎ ((next m c ≡ m) × (Granted m c → ⊥))
+    go true p true q true r = inl (record { formed = p; serve = q; clear = eqb-true (first (reasonsOn (m .state) c)) 0 r; now = rw (p, q, r) refl })
+    go true p true q false r = inr (rw (p, q, r) refl, λ g. eqb-false (first (reasonsOn (m .state) c)) 0 r (rw (p, q, r) at g))
+    go true p false q z r = inr (rw (p, q) refl, λ g. let n : _≡_ {A = ℕ} 2 0 = rw (p, q) at g in omega arith)
+    go false p y q z r = inr (rw p refl, λ g. let n : _≡_ {A = ℕ} 1 0 = rw p at g in omega arith)
+
+pub went : (m : Machine) (c : Call) → Granted m c → Went m c
+went m c g = ⊎-elim (λ w. w) (λ n. absurd (n .1 g)) (went-or-not m c)
+
+module _ (m : Machine) (c : Call) (w : Went m c) where
+  pub went-next : next m c ≡ handed (done (m .state) (effectOn (m .state) c) (m .cells) (m .tags))
+  unfolding next
+  went-next = ap (λ o. handed o) (w .now)
+
+  pub went-core : coreSound (m .state .core) ≡ true
+  unfolding wellFormed
+  went-core = and-left (coreSound (m .state .core)) (mailboxesSound (m .state)) (and-left (coreSound (m .state .core) && mailboxesSound (m .state)) (sized (m .state)) (w .formed))
+
+  pub went-cells : length (m .cells) ≡ 16 * m .state .core .pages .f
+  went-cells = served (m .state .core .pages) (length (m .cells)) (length (m .tags)) (w .serve) .0
+
+  pub went-tags : length (m .tags) ≡ 16 * m .state .core .pages .f
+  went-tags = served (m .state .core .pages) (length (m .cells)) (length (m .tags)) (w .serve) .1
