@@ -218,8 +218,8 @@ ends c ok z = go (revokingOf (c .table)) refl
           used = here .0;
           range = revoked-row c ∙ ap (λ r. rangeOf r) row;
           now =
-            ap (λ x. live (x .table)) (p ∙ collected-at c (Row i) e) ∙ ap (λ r. live (withRow t (Row i) (collectedRow r))) (row-live t i (here .0))
-            ∙ with-live (16 * c .pages .v) t (sound (16 * c .pages .v) t (facts .rows)) i (here .0) (collectedRow (rowAt t i));
+              ap (λ x. live (x .table)) (p ∙ collected-at c (Row i) e) ∙ ap (λ r. live (withRow t (Row i) (collectedRow r))) (row-live t i (here .0))
+              ∙ with-live (16 * c .pages .v) t (sound (16 * c .pages .v) t (facts .rows)) i (here .0) (collectedRow (rowAt t i));
           parts = p ∙ collected-parts c ∙ ap (λ x. core (releasedOf (c .pages) (revoked c)) (x .table) 0) (sym p);
           over = clear .1;
           whole-base = eqb-true (rowAt t i .base % 16) 0 (and-left (eqb (rowAt t i .base % 16) 0) (eqb (rowAt t i .length % 16) 0) whole);
@@ -415,10 +415,10 @@ module _ (s : State) (cells tags : List ℕ) (inv : Inv (machine s cells tags)) 
           registers = inv .registers;
           mailboxes = inv .mailboxes;
           memory =
-            keep-write c cells tags (inv .memory) layer of-cells of-tags (baseOf (w .cell) + off) (placeNumber (addressed c w off)) (stored c x) (found c w off five)
-            (kept-sound t x (not (dying c (x .cell))) (register-sound t (s .registers) p r (inv .registers)))
-            (λ e. not-true (dying c (x .cell)) (and-right (x .tag) (not (dying c (x .cell))) e))
-            (λ i b o h. lent-not-open k off (leb-false (lengthOf (w .cell)) off (four .0)) i b o h);
+              keep-write c cells tags (inv .memory) layer of-cells of-tags (baseOf (w .cell) + off) (placeNumber (addressed c w off)) (stored c x) (found c w off five)
+              (kept-sound t x (not (dying c (x .cell))) (register-sound t (s .registers) p r (inv .registers)))
+              (λ e. not-true (dying c (x .cell)) (and-right (x .tag) (not (dying c (x .cell))) e))
+              (λ i b o h. lent-not-open k off (leb-false (lengthOf (w .cell)) off (four .0)) i b o h);
         }
 
     -- 06 sweep.
@@ -488,18 +488,18 @@ module _ (s : State) (cells tags : List ℕ) (inv : Inv (machine s cells tags)) 
     collect-change k =
         record {
           registers = λ j.
-          let w = getD (s .registers) j empty in
-          subst (Sound u) (sym (collected-registers c (s .registers) j))
-          (collect-sound t u (k .row) (k .used) (k .now) (collectedRegister c w) (kept-sound t w (not (dying c (w .cell))) (inv .registers j))
-          (λ e. out (w .cell) (not-true (dying c (w .cell)) (and-right (w .tag) (not (dying c (w .cell))) e))));
+              let w = getD (s .registers) j empty in
+              subst (Sound u) (sym (collected-registers c (s .registers) j))
+              (collect-sound t u (k .row) (k .used) (k .now) (collectedRegister c w) (kept-sound t w (not (dying c (w .cell))) (inv .registers j))
+              (λ e. out (w .cell) (not-true (dying c (w .cell)) (and-right (w .tag) (not (dying c (w .cell))) e))));
           mailboxes = λ j. subst (Sound u) (sym (collected-mailboxes c (s .mailboxes) j)) (mail (getD (s .mailboxes) j empty) (inv .mailboxes j));
           memory =
-            subst (λ x. Memory x cells tags) (sym (k .parts))
-            (keep-ended (core after-pages t (c .place)) cells tags u (k .row) (k .used) (k .now)
-            (keep-pages c cells tags (inv .memory) after-pages (λ v at e. inl (old v at e)) (released-free (c .pages) layer (revoked c)))
-            (λ v e. gone v e (lookupOf after-pages v) refl)
-            (λ v at e h.
-            out (wordAt cells tags at .cell) (inv .memory .behind v at (old v at e) (far (place-below c cells tags (inv .memory) layer of-cells of-tags v at (seen (c .pages) v at (old v at e)))) h)));
+              subst (λ x. Memory x cells tags) (sym (k .parts))
+              (keep-ended (core after-pages t (c .place)) cells tags u (k .row) (k .used) (k .now)
+              (keep-pages c cells tags (inv .memory) after-pages (λ v at e. inl (old v at e)) (released-free (c .pages) layer (revoked c)))
+              (λ v e. gone v e (lookupOf after-pages v) refl)
+              (λ v at e h.
+              out (wordAt cells tags at .cell) (inv .memory .behind v at (old v at e) (far (place-below c cells tags (inv .memory) layer of-cells of-tags v at (seen (c .pages) v at (old v at e)))) h)));
         }
       where
         u : Table

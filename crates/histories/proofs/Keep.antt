@@ -112,14 +112,14 @@ module _ (c : Core) (cells tags : List ℕ) (m : Memory c cells tags) where
   keep-pages p was free =
       record {
         confined = λ v.
-        shown-by (Sound (c .table)) p cells tags v (none-sound (c .table))
-        (λ at e. ⊎-elim (λ q. place-sound v at q) (λ z. subst (Sound (c .table)) (sym (word-none cells tags at (z .0) (z .1))) (none-sound (c .table))) (was v at e));
+            shown-by (Sound (c .table)) p cells tags v (none-sound (c .table))
+            (λ at e. ⊎-elim (λ q. place-sound v at q) (λ z. subst (Sound (c .table)) (sym (word-none cells tags at (z .0) (z .1))) (none-sound (c .table))) (was v at e));
         free = λ k i e b. m .free k i (free k e) b;
         behind = λ v at e h t.
-        ⊎-elim (λ q. m .behind v at q h t) (λ z. absurd (false≢true (sym (ap (λ w. w .tag) (word-none cells tags at (z .0) (z .1))) ∙ t))) (was v at e);
+            ⊎-elim (λ q. m .behind v at q h t) (λ z. absurd (false≢true (sym (ap (λ w. w .tag) (word-none cells tags at (z .0) (z .1))) ∙ t))) (was v at e);
         unlent = λ v i b o x.
-        shown-by (λ w. w ≡ empty) p cells tags v refl
-        (λ at e. ⊎-elim (λ q. sym (shown-at (c .pages) cells tags v at q) ∙ m .unlent v i b o x) (λ z. word-none cells tags at (z .0) (z .1)) (was v at e));
+            shown-by (λ w. w ≡ empty) p cells tags v refl
+            (λ at e. ⊎-elim (λ q. sym (shown-at (c .pages) cells tags v at q) ∙ m .unlent v i b o x) (λ z. word-none cells tags at (z .0) (z .1)) (was v at e));
         bytes = λ v at e. ⊎-elim (λ q. m .bytes v at q) (λ z. omega (arith, z .1)) (was v at e);
       }
 
@@ -135,13 +135,13 @@ module _ (c : Core) (cells tags : List ℕ) (m : Memory c cells tags) where
         record {
           confined = λ x. shown-by (Sound (c .table)) (c .pages) cells′ tags′ x (none-sound (c .table)) (λ a q. word (Sound (c .table)) a s (place-sound x a q));
           free = λ k i f b.
-          let n : 16 * k + i ≡ at → ⊥ = other k i f b in
-          (getD-set-other cells at (16 * k + i) (w .cell) 0 n ∙ m .free k i f b .0, getD-set-other tags at (16 * k + i) (byteOf (w .tag)) 0 n ∙ m .free k i f b .1);
+              let n : 16 * k + i ≡ at → ⊥ = other k i f b in
+              (getD-set-other cells at (16 * k + i) (w .cell) 0 n ∙ m .free k i f b .0, getD-set-other tags at (16 * k + i) (byteOf (w .tag)) 0 n ∙ m .free k i f b .1);
           behind = λ x a q h. word (λ y. y .tag ≡ true → dying c (y .cell) ≡ false) a d (m .behind x a q h);
           unlent = λ x i b o y.
-          shown-by (λ z. z ≡ empty) (c .pages) cells′ tags′ x refl
-          (λ a q. written-other cells tags at w a (λ r. lent i b o (subst (λ z. inside (rangeOf (rowAt (c .table) i)) z ≡ true) (same x a q r) y))
-          ∙ sym (shown-at (c .pages) cells tags x a q) ∙ m .unlent x i b o y);
+              shown-by (λ z. z ≡ empty) (c .pages) cells′ tags′ x refl
+              (λ a q. written-other cells tags at w a (λ r. lent i b o (subst (λ z. inside (rangeOf (rowAt (c .table) i)) z ≡ true) (same x a q r) y))
+              ∙ sym (shown-at (c .pages) cells tags x a q) ∙ m .unlent x i b o y);
           bytes = λ x a q. byte a (eqb a at) refl (m .bytes x a q);
         }
       where
@@ -284,11 +284,11 @@ pub keep-ended : (c : Core) (cells tags : List ℕ) (u : Table) (i : ℕ) (h : i
 keep-ended c cells tags u i h now m gone alive =
     record {
       confined = λ v.
-      shown-by (Sound u) (c .pages) cells tags v (none-sound u)
-      (λ at e. collect-sound (c .table) u i h now (wordAt cells tags at) (place-sound c cells tags m v at e) (alive v at e));
+          shown-by (Sound u) (c .pages) cells tags v (none-sound u)
+          (λ at e. collect-sound (c .table) u i h now (wordAt cells tags at) (place-sound c cells tags m v at e) (alive v at e));
       free = m .free;
       behind = λ v at e x t. absurd (omega arith);
       unlent = λ v j b o x.
-      ⊎-elim (λ q. m .unlent v (q .row) (q .used) (q .isopen) (q .hit)) (λ q. ap (wordOf cells tags) (gone v q)) (collect-came (c .table) u i h now j v b o x);
+          ⊎-elim (λ q. m .unlent v (q .row) (q .used) (q .isopen) (q .hit)) (λ q. ap (wordOf cells tags) (gone v q)) (collect-came (c .table) u i h now j v b o x);
       bytes = m .bytes;
     }

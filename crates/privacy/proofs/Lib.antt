@@ -7,3 +7,4 @@ pub mod Relate
 pub mod House
 pub mod Reached
 pub mod Sides
+pub mod Tables
