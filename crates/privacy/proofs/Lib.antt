@@ -8,3 +8,4 @@ pub mod House
 pub mod Reached
 pub mod Sides
 pub mod Tables
+pub mod Steps
