@@ -142,7 +142,7 @@ narrowed-confined t c off len mask k some ends starts =
     (subst (λ n. n + len ≤ rowAt t (k .row) .base + rowAt t (k .row) .length) (sym (mod-small (baseOf c + off) starts)) (shorter (baseOf c) off len (lengthOf c) (rowAt t (k .row) .base + rowAt t (k .row) .length) ends (k .within .upto)))
     some
 
-take-length : (t : Table) (p base : ℕ) → takeOf t p base .code ≡ 0 → takeOf t p base .length ≡ rowOf t (findOf t p base) .length
+pub take-length : (t : Table) (p base : ℕ) → takeOf t p base .code ≡ 0 → takeOf t p base .length ≡ rowOf t (findOf t p base) .length
 unfolding takeOf
 take-length t p base z = pick-yes (eqb (first (takeReasons t p base)) 0) (rowOf t (findOf t p base) .length) 0 (eq-eqb (first (takeReasons t p base)) 0 z)
 

@@ -4,3 +4,8 @@ pub mod Keep
 pub mod Granted
 pub mod Layer
 pub mod Calls
+pub mod Always
+pub mod Crossing
+pub mod Confining
+pub mod Lending
+pub mod Survivors

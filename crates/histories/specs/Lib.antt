@@ -1,4 +1,8 @@
--- Every order of calls: a history, what is live in it, and what holds after it.
+-- Every order of calls: a history, what is live in it, what holds after it, and the theorems.
 pub mod Runs
 pub mod Live
 pub mod Inv
+pub mod Crossing
+pub mod Survivors
+pub mod Confining
+pub mod Lending

@@ -47,3 +47,13 @@ pub record Begins (v f : ℕ) (cells tags : List ℕ) : Type 0 where
   pub granted : startOf v f .code ≡ 0
   pub of-cells : length cells ≡ 16 * f
   pub of-tags : length tags ≡ 16 * f
+
+-- A state and memory that some history leaves: some V, F and lent memory, and some list of calls from the granted start on.
+pub record Reached (m : Machine) : Type 0 where
+  pub v : ℕ
+  pub f : ℕ
+  pub cells : List ℕ
+  pub tags : List ℕ
+  pub begins : Begins v f cells tags
+  pub calls : List Call
+  pub is : m ≡ run (begun v f cells tags) calls

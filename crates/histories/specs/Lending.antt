@@ -1,0 +1,37 @@
+-- Lent once. After every history, when a take is granted no live capability has a cell in the range that it lends; and between two
+-- granted takes whose ranges share a cell there is a granted collect of a revocation that covers all of the earlier range. Assumes
+-- nothing.
+use Prim.Native.Nat.{ℕ, _+_, _≤_}
+use mathlib.Core.Bool.{true}
+use mathlib.Core.List.{List, _∷_, _++_}
+use mathlib.Core.Path.{_≡_}
+use Rattle.calls.specs.declared.Call.{Call}
+use Rattle.calls.specs.declared.Call.the-variants.{Take, Collect}
+use Rattle.pages.specs.declared.Range.{Range}
+use Rattle.pages.specs.Range.{inside}
+use Rattle.reservations.specs.Revocation.{revoked}
+use Rattle.histories.specs.Runs.{Machine, Granted, outcome, next, run, Reached}
+use Rattle.histories.specs.Live.{NoneInto}
+
+-- The range that a granted take lends: from base on, as many cells as it answers.
+abbrev pub lentRange : Machine → ℕ → ℕ → ℕ → Range
+lentRange m p base reg = record { base = base; length = outcome m (Take p base reg) .answer .number }
+
+abbrev pub LentOnce : Type 0
+LentOnce = (m : Machine) → Reached m → (p base reg : ℕ) → Granted m (Take p base reg) → NoneInto m (lentRange m p base reg)
+
+-- Among the calls from a state on there is a granted collect, and the range that it ends covers another.
+pub record Ended (m : Machine) (calls : List Call) (r : Range) : Type 0 where
+  pub before : List Call
+  pub party : ℕ
+  pub after : List Call
+  pub are : calls ≡ before ++ Collect party ∷ after
+  pub granted : Granted (run m before) (Collect party)
+  pub from : revoked (run m before .state .core) .base ≤ r .base
+  pub upto : r .base + r .length ≤ revoked (run m before .state .core) .base + revoked (run m before .state .core) .length
+
+abbrev pub EndedBetween : Type 0
+EndedBetween =
+    (m : Machine) → Reached m → (p base reg : ℕ) → Granted m (Take p base reg) → (calls : List Call) → (q base′ reg′ : ℕ)
+    → Granted (run (next m (Take p base reg)) calls) (Take q base′ reg′) → (v : ℕ) → inside (lentRange m p base reg) v ≡ true
+    → inside (lentRange (run (next m (Take p base reg)) calls) q base′ reg′) v ≡ true → Ended (next m (Take p base reg)) calls (lentRange m p base reg)
