@@ -9,3 +9,5 @@ pub mod Crossing
 pub mod Confining
 pub mod Lending
 pub mod Survivors
+pub mod Forming
+pub mod Between

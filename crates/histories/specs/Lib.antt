@@ -6,3 +6,4 @@ pub mod Crossing
 pub mod Survivors
 pub mod Confining
 pub mod Lending
+pub mod Forming

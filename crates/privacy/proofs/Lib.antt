@@ -9,3 +9,4 @@ pub mod Reached
 pub mod Sides
 pub mod Tables
 pub mod Steps
+pub mod Twice

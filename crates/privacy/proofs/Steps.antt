@@ -35,7 +35,7 @@ use Rattle.machine.specs.Effects.{Effect, effect, placeNumber}
 use Rattle.machine.specs.Step.{reasonsOn, effectOn, registersAfter, mailboxesAfter, cellsAfter, tagsAfter, wordAfter, fetched, done}
 use Rattle.histories.specs.Inv.{Inv}
 use Rattle.histories.specs.Runs.{Machine, machine, outcome, next}
-use Rattle.histories.proofs.Calls.{keep-call}
+use Rattle.histories.proofs.Always.{inv-step}
 use Rattle.histories.proofs.View.{written-other}
 use Rattle.privacy.specs.Rule.{callerOf, housed, granted, isCollect, contains, Time, lasting, over, ending, until, aimed, private, struck, remaining, indiscreet, hidden, told}
 use Rattle.privacy.proofs.Fate.{codeOf, Granted, Fate, down, up, fate, after, next-done, next-down, told-done, told-down, code-is}
@@ -66,23 +66,11 @@ module _ (m : Machine) (c : Call) (k : Granted m c) where
   pub granted-next : next m c ≡ after m (effectOn (m .state) c)
   granted-next = next-done m c (effectOn (m .state) c) (k .comes)
 
-  pub granted-inv : Inv m → Inv (after m (effectOn (m .state) c))
-  unfolding after done
-  granted-inv i = keep-call (m .state) (m .cells) (m .tags) i granted-core granted-cells granted-tags c (k .clear)
-
 pub granted-test : (m : Machine) (c : Call) → codeOf m c ≡ 0 → granted m c ≡ true
 granted-test m c z = eq-eqb (outcome m c .answer .code) 0 (code-is m c ∙ z)
 
 pub refused-test : (m : Machine) (c : Call) (k : ℕ) → (k ≡ 0 → ⊥) → codeOf m c ≡ k → granted m c ≡ false
 refused-test m c k n e = ne-eqb (outcome m c .answer .code) 0 (λ z. n (sym e ∙ sym (code-is m c) ∙ z))
-
--- The invariant of every history.
-pub inv-next : (m : Machine) (c : Call) → Inv m → Inv (next m c)
-inv-next m c i = go (fate m c)
-  where
-    go : Fate m c → Inv (next m c)
-    go (down k n e q) = subst (λ x. Inv x) (sym (next-down m c k q)) i
-    go (up e k) = subst (λ x. Inv x) (sym (granted-next m c k)) (granted-inv m c k i)
 
 -- One history in the house's time.
 pub record Ok (house : ℕ) (t : Time) (m : Machine) : Type 0 where
@@ -125,14 +113,14 @@ module _ (house : ℕ) (r : Range) (m : Machine) (i : Inv m) (h : Housed house r
 -- Every call keeps it.
 pub keeps : (house : ℕ) (t : Time) (m : Machine) (c : Call) → Ok house t m → indiscreet house t m c ≡ false → Ok house (until t m c) (next m c)
 unfolding until
-keeps house (lasting q) m c ok d = record { inv = inv-next m c (ok .inv); own = λ r e. go r (ending q m c) refl e }
+keeps house (lasting q) m c ok d = record { inv = inv-step m c (ok .inv); own = λ r e. go r (ending q m c) refl e }
   where
     go : (r : Range) (b : Bool) → ending q m c ≡ b → pick b over (lasting q) ≡ lasting r → Housed house r (next m c)
     go r true x e = absurd (let z : _≡_ {A = ℕ} 0 1 = cc in omega arith)
     go r false x e =
         let s : q ≡ r = cc in
         subst (λ y. Housed house y (next m c)) s (housed-next house q m (ok .inv) (ok .own q refl) c d x)
-keeps house over m c ok d = record { inv = inv-next m c (ok .inv); own = λ r e. absurd (let z : _≡_ {A = ℕ} 0 1 = cc in omega arith) }
+keeps house over m c ok d = record { inv = inv-step m c (ok .inv); own = λ r e. absurd (let z : _≡_ {A = ℕ} 0 1 = cc in omega arith) }
 
 -- A change of the house's own register, and one of a hidden cell, in one history alone.
 own-register : (house : ℕ) (t : Time) (g h : Machine) (p d : ℕ) (w : Slot) → Rel house t g h → p ≡ house → d < 8

@@ -1,0 +1,228 @@
+-- Lent once, second half: a lent range stays within one lent reservation until a collect that covers it. Assumes nothing.
+use Prim.Native.Nat.{ℕ, suc, _+_, _*_, _<_, _≤_}
+use native.Mathlib.Omega.{arith}
+use mathlib.Core.Bool.{Bool, true, false, _&&_, _||_, true≢false}
+use mathlib.Core.List.{List, [], _∷_, _++_}
+use mathlib.Core.Logic.{_⊎_, inl, inr, ⊎-elim}
+use mathlib.Core.Path.{_≡_, refl, sym, ap, subst, _∙_}
+use lib.ListN.{length, getD}
+use Rattle.calls.specs.declared.Call.{Call}
+use Rattle.calls.specs.declared.Call.the-variants.{Take, Split, Merge, Give, Revoke, Sweep, Collect, Map, Unmap, Zero, Load, Store, Narrow, Number, Grant, Receive}
+use Rattle.pages.specs.declared.Range.{Range}
+use Rattle.pages.specs.Range.{inside}
+use Rattle.pages.specs.Refusals.{first}
+use Rattle.pages.proofs.Refusals.{first-clear}
+use Rattle.reservations.specs.declared.Reservation.{Reservation}
+use Rattle.reservations.specs.declared.ReservationState.the-variants.{Taken}
+use Rattle.reservations.specs.declared.Table.{Table}
+use Rattle.reservations.specs.Find.{rowOf, findOf}
+use Rattle.reservations.specs.Operations.{takeReasons, takeOf, takenRow, splitReasons, splitOf, mergeReasons, mergeOf, giveReasons, giveOf}
+use Rattle.reservations.specs.Revocation.{revoked, revokeReasons, revokeOf, collectOf, coreSound}
+use Rattle.reservations.specs.Rows.{isOpen, live, rangeOf, reservation}
+use Rattle.reservations.proofs.After.{take-after, split-after, merge-after, give-after}
+use Rattle.reservations.proofs.Answers.{split-clear, split-fits}
+use Rattle.reservations.proofs.Cells.{inside-made, no-shared-cell}
+use Rattle.reservations.proofs.CoreAfter.{revoke-after}
+use Rattle.reservations.proofs.CoreKept.{CoreFacts, core-facts}
+use Rattle.reservations.proofs.Kept.{row-live}
+use Rattle.reservations.proofs.Sound.{sound}
+use Rattle.reservations.proofs.Tiled.{tiled-row, tiled-next, tiled-fits, row-some}
+use Rattle.machine.specs.declared.State.{State}
+use Rattle.machine.specs.Effects.{effect}
+use Rattle.machine.specs.Reasons.{reasons, unnamed, notManager}
+use Rattle.machine.specs.Step.{done, reasonsOn, effectOn}
+use Rattle.histories.specs.Runs.{Machine, Granted, next, run, Reached}
+use Rattle.histories.specs.Inv.{rowAt}
+use Rattle.histories.specs.Lending.{lentRange, Ended, EndedBetween}
+use Rattle.histories.proofs.Table.{Around, Opened, Carried, inside-wider, take-carried, give-carried, split-carried, merge-carried, revoke-carried, collect-kept}
+use Rattle.histories.proofs.Granted.{handed, Went, went, went-or-not, went-next, went-core}
+use Rattle.histories.proofs.Calls.{Ends, row-first}
+use Rattle.histories.proofs.Lending.{Lends, lends}
+use Rattle.histories.proofs.Survivors.{collect-core, collect-ends}
+
+abbrev pub IsCollect : Call → Type 0
+IsCollect call = (p : ℕ) × (call ≡ Collect p)
+
+pub carried-self : (t : Table) → Carried t t
+carried-self t =
+    record {
+      kept = λ j h o. record { row = j; used = h; lent = o; from = omega arith; upto = omega arith };
+      came = λ j v h o e. record { row = j; used = h; isopen = o; hit = e };
+    }
+
+-- Every call but collect carries the lent reservations along.
+module _ (s : State) (ok : coreSound (s .core) ≡ true) where
+  abbrev t : Table
+  t = s .core .table
+
+  abbrev size : ℕ
+  size = 16 * s .core .pages .v
+
+  facts : CoreFacts (s .core)
+  facts = core-facts (s .core) ok
+
+  row-fits : (i : ℕ) → i < length (live t) → rowAt t i .base + rowAt t i .length < 65536
+  row-fits i h = omega (arith, facts .fits, tiled-fits size (live t) 0 i (sound size t (facts .rows) .tiled) h)
+
+  pub call-carried : (call : Call) → first (reasonsOn s call) ≡ 0 → Carried t (effectOn s call .core .table) ⊎ IsCollect call
+  unfolding reasons effect
+  call-carried (Take p base reg) z =
+      let clear = first-clear 4 (unnamed p || unnamed reg) (takeReasons t p base) (λ x. omega arith) z .1 in
+      let code : takeOf t p base .code ≡ 0 = unfold takeOf in clear in
+      let (i, o, r) = take-after size t (facts .rows) p base code in
+      inl (take-carried t (takeOf t p base .table) p base i o r)
+  call-carried (Split p base len) z =
+      let clear = first-clear 4 (unnamed p) (splitReasons t p base len) (λ x. omega arith) z .1 in
+      let code : splitOf t p base len .code ≡ 0 = unfold splitOf in clear in
+      let (i, o, r) = split-after size t (facts .rows) p base len code in
+      let h : i < length (live t) = omega (arith, r .within) in
+      let fits = split-fits (rowOf t (findOf t p base)) len (split-clear t (findOf t p base) len (unfold splitReasons in clear) .fits) in
+      let row : rowOf t (findOf t p base) ≡ rowAt t i = ap (rowOf t) (r .found) ∙ row-live t i h in
+      inl (split-carried t (splitOf t p base len .table) p base i len (row-fits i h) o r (subst (λ x. len ≤ x .length) row fits))
+  call-carried (Merge p base) z =
+      let clear = first-clear 4 (unnamed p) (mergeReasons t p base) (λ x. omega arith) z .1 in
+      let code : mergeOf t p base .code ≡ 0 = unfold mergeOf in clear in
+      let (i, same, r) = merge-after size t (facts .rows) p base code in
+      let h : i + 1 < length (live t) = omega (arith, r .within) in
+      let n : i + 1 ≡ suc i = omega arith in
+      let seam : rowAt t (i + 1) .base ≡ rowAt t i .base + rowAt t i .length = ap (λ k. rowAt t k .base) n ∙ tiled-next size (live t) 0 i (sound size t (facts .rows) .tiled) (omega arith) in
+      inl (merge-carried t (mergeOf t p base .table) p base i seam (omega (arith, row-fits (i + 1) h)) same r)
+  call-carried (Give p base to) z =
+      let clear = first-clear 4 (unnamed p || unnamed to) (giveReasons t p base) (λ x. omega arith) z .1 in
+      let code : giveOf t p base to .code ≡ 0 = unfold giveOf in clear in
+      let (i, o, r) = give-after size t (facts .rows) p base to code in
+      inl (give-carried t (giveOf t p base to .table) p base i to o r)
+  call-carried (Revoke p base) z =
+      let one = first-clear 4 (unnamed p) _ (λ x. omega arith) z in
+      let clear = first-clear 5 (notManager p) (revokeReasons (s .core) p base) (λ x. omega arith) (one .1) .1 in
+      let code : revokeOf (s .core) p base .code ≡ 0 = unfold revokeOf in clear in
+      let (i, r) = revoke-after (s .core) ok p base code in
+      inl (revoke-carried t (revokeOf (s .core) p base .core .table) p base i r)
+  call-carried (Sweep p n) z = inl (carried-self t)
+  call-carried (Collect p) z = inr (p, refl)
+  call-carried (Map p page frame) z = inl (carried-self t)
+  call-carried (Unmap p page) z = inl (carried-self t)
+  call-carried (Zero p frame) z = inl (carried-self t)
+  call-carried (Load p a off d) z = inl (carried-self t)
+  call-carried (Store p a off r) z = inl (carried-self t)
+  call-carried (Narrow p r off len mask d) z = inl (carried-self t)
+  call-carried (Number p d value) z = inl (carried-self t)
+  call-carried (Grant p r to) z = inl (carried-self t)
+  call-carried (Receive p d) z = inl (carried-self t)
+
+-- A range within a reservation that is within another.
+pub around-further : (t u : Table) (r : Reservation) (a : Around t r) → Around u (rowAt t (a .row)) → Around u r
+around-further t u r a b = record { row = b .row; used = b .used; lent = b .lent; from = omega (arith, a .from, b .from); upto = omega (arith, a .upto, b .upto) }
+
+-- A call is a granted collect of a revocation that covers a range.
+pub record Ending (m : Machine) (c : Call) (r : Reservation) : Type 0 where
+  pub party : ℕ
+  pub is : c ≡ Collect party
+  pub granted : Went m (Collect party)
+  pub from : revoked (m .state .core) .base ≤ r .base
+  pub upto : r .base + r .length ≤ revoked (m .state .core) .base + revoked (m .state .core) .length
+
+done-table : (m : Machine) (c : Call) → Went m c → next m c .state .core .table ≡ effectOn (m .state) c .core .table
+unfolding done
+done-table m c w = ap (λ n. n .state .core .table) (went-next m c w)
+
+collect-lent : (m : Machine) (p : ℕ) (r : Reservation) → Went m (Collect p) → Around (m .state .core .table) r → Around (next m (Collect p) .state .core .table) r ⊎ Ending m (Collect p) r
+collect-lent m p r w a = go (inside (rangeOf (rowAt t₁ (k .row))) b) refl
+  where
+    t₁ : Table
+    t₁ = m .state .core .table
+
+    k : Ends (m .state .core)
+    k = collect-ends m p w
+
+    sure : CoreFacts (m .state .core)
+    sure = core-facts (m .state .core) (went-core m (Collect p) w)
+
+    b : ℕ
+    b = rowAt t₁ (a .row) .base
+
+    mine : inside (rangeOf (rowAt t₁ (a .row))) b ≡ true
+    mine =
+        let some = row-some (rowAt t₁ (a .row)) (tiled-row (16 * m .state .core .pages .v) (live t₁) 0 (a .row) (sound (16 * m .state .core .pages .v) t₁ (sure .rows) .tiled) (a .used)) in
+        inside-made (rangeOf (rowAt t₁ (a .row))) b (omega arith) (omega arith)
+
+    go : (x : Bool) → inside (rangeOf (rowAt t₁ (k .row))) b ≡ x → Around (next m (Collect p) .state .core .table) r ⊎ Ending m (Collect p) r
+    go true e =
+        let n = no-shared-cell (16 * m .state .core .pages .v) t₁ (a .row) (k .row) b (sure .rows) (a .used) (k .used) mine e in
+        let range : rangeOf (rowAt t₁ (a .row)) ≡ revoked (m .state .core) = ap (λ j. rangeOf (rowAt t₁ j)) n ∙ sym (k .range) in
+        inr
+        (record {
+          party = p;
+          is = refl;
+          granted = w;
+          from = subst (λ x. x .base ≤ r .base) range (a .from);
+          upto = subst (λ x. r .base + r .length ≤ x .base + x .length) range (a .upto);
+        })
+    go false e =
+        inl
+        (around-further t₁ (next m (Collect p) .state .core .table) r a
+        (collect-kept t₁ (next m (Collect p) .state .core .table) (k .row) (k .used) (ap (λ x. live (x .table)) (collect-core m p w) ∙ k .now) b (a .row) e (a .used) (a .lent) mine))
+
+-- A step keeps a lent range within a lent reservation, or ends it.
+pub step-lent : (m : Machine) (c : Call) (r : Reservation) → Around (m .state .core .table) r → Around (next m c .state .core .table) r ⊎ Ending m c r
+step-lent m c r a =
+    ⊎-elim
+    (λ w.
+    ⊎-elim
+    (λ k. inl (subst (λ u. Around u r) (sym (done-table m c w)) (around-further (m .state .core .table) (effectOn (m .state) c .core .table) r a (k .kept (a .row) (a .used) (a .lent)))))
+    (λ k. subst (λ d. Around (next m d .state .core .table) r ⊎ Ending m d r) (sym (k .1)) (collect-lent m (k .0) r (subst (Went m) (k .1) w) a))
+    (call-carried (m .state) (went-core m c w) c (w .clear)))
+    (λ n. inl (subst (λ x. Around (x .state .core .table) r) (sym (n .0)) a)) (went-or-not m c)
+
+went-granted : (m : Machine) (c : Call) → Went m c → Granted m c
+unfolding done
+went-granted m c w = ap (λ o. o .answer .code) (w .now)
+
+pub run-lent : (calls : List Call) (m : Machine) (r : Reservation) → Around (m .state .core .table) r → Around (run m calls .state .core .table) r ⊎ Ended m calls (rangeOf r)
+unfolding run
+run-lent [] m r a = inl a
+run-lent (c ∷ calls) m r a =
+    ⊎-elim
+    (λ b.
+    ⊎-elim inl
+    (λ e. inr (record { before = c ∷ e .before; party = e .party; after = e .after; are = ap (λ l. c ∷ l) (e .are); granted = e .granted; from = e .from; upto = e .upto }))
+    (run-lent calls (next m c) r b))
+    (λ e. inr (record { before = []; party = e .party; after = calls; are = ap (λ x. x ∷ calls) (e .is); granted = went-granted m (Collect (e .party)) (e .granted); from = e .from; upto = e .upto }))
+    (step-lent m c r a)
+
+abbrev lentAs : Range → Reservation
+lentAs r = reservation (r .base) (r .length) Taken 0
+
+lent-around : (m : Machine) (p base reg : ℕ) → Lends m p base reg → Around (next m (Take p base reg) .state .core .table) (lentAs (lentRange m p base reg))
+lent-around m p base reg k =
+    let t = m .state .core .table in
+    let u = next m (Take p base reg) .state .core .table in
+    let (used, row) = row-first t u p base (k .row) 1 (takenRow (rowAt t (k .row))) [] (k .now) in
+    subst (λ r. Around u (lentAs r)) (sym (k .range))
+    (record {
+      row = k .row;
+      used = used;
+      lent = ap (λ x. isOpen (x .state)) row;
+      from = omega (arith, ap (λ x. x .base) row);
+      upto = omega (arith, ap (λ x. x .base) row, ap (λ x. x .length) row);
+    })
+
+pub ended-between : EndedBetween
+ended-between m r p base reg g calls q base′ reg′ g′ v e e′ =
+    ⊎-elim
+    (λ a.
+    let t = n .state .core .table in
+    let same = no-shared-cell (16 * n .state .core .pages .v) t (a .row) (k .row) v (core-facts (n .state .core) (went-core n (Take q base′ reg′) w) .rows) (a .used) (k .used)
+    (inside-wider (rangeOf (rowAt t (a .row))) (lentRange m p base reg) v (a .from) (a .upto) e) (sym (ap (λ x. inside x v) (k .range)) ∙ e′) in
+    absurd (true≢false (sym (k .isopen) ∙ sym (ap (λ j. isOpen (rowAt t j .state)) same) ∙ a .lent)))
+    (λ x. x)
+    (run-lent calls (next m (Take p base reg)) (lentAs (lentRange m p base reg)) (lent-around m p base reg (lends m p base reg (went m (Take p base reg) g))))
+  where
+    n : Machine
+    n = run (next m (Take p base reg)) calls
+
+    w : Went n (Take q base′ reg′)
+    w = went n (Take q base′ reg′) g′
+
+    k : Lends n q base′ reg′
+    k = lends n q base′ reg′ w
