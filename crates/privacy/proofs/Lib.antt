@@ -10,3 +10,4 @@ pub mod Sides
 pub mod Tables
 pub mod Steps
 pub mod Twice
+pub mod Main
