@@ -1,0 +1,13 @@
+pub mod Examples
+pub mod Glue
+pub mod Fate
+pub mod Showing
+pub mod Words
+pub mod Relate
+pub mod House
+pub mod Reached
+pub mod Sides
+pub mod Tables
+pub mod Steps
+pub mod Twice
+pub mod Main

@@ -1,0 +1,172 @@
+-- Demand 3: the privacy rule. Assumes nothing.
+use Prim.Native.Nat.{ℕ, _+_, _*_, _<_, _≤_}
+use native.Mathlib.Omega.{arith}
+use mathlib.Core.Bool.{Bool, true, false, not, _&&_, _||_, true≢false, false≢true}
+use mathlib.Core.List.{List, [], _∷_, _++_}
+use mathlib.Core.Path.{_≡_, refl, sym, ap, subst, _∙_}
+use borrow.Author.Tests.{eq-eqb, eqb-true}
+use lib.Dec.{eqb}
+use lib.ListN.{length, getD, set}
+use Rattle.calls.specs.declared.Call.{Call}
+use Rattle.calls.specs.declared.Call.the-variants.{Take}
+use Rattle.pages.specs.declared.Place.the-variants.{At}
+use Rattle.pages.specs.declared.Range.{Range}
+use Rattle.pages.specs.Capability.{baseOf, lengthOf, capability}
+use Rattle.pages.specs.Lists.{pick}
+use Rattle.pages.specs.Mapping.{lookupOf}
+use Rattle.pages.specs.Range.{inside}
+use Rattle.pages.specs.Refusals.{Reason, first, reason}
+use Rattle.pages.proofs.Refusals.{first-clear}
+use Rattle.reservations.specs.declared.Core.{Core}
+use Rattle.reservations.specs.declared.Table.{Table}
+use Rattle.reservations.specs.Operations.{takeReasons, takeOf, takenRow}
+use Rattle.reservations.specs.Revocation.{coreSound}
+use Rattle.reservations.specs.Rows.{isOpen, live, rangeOf}
+use Rattle.reservations.proofs.Cells.{inside-bounds, inside-made}
+use Rattle.machine.specs.declared.Slot.{Slot}
+use Rattle.machine.specs.Words.{slot, empty, named, registerOf, mailboxOf, wordAt}
+use Rattle.machine.specs.Reasons.{reasons, unnamed}
+use Rattle.machine.specs.Effects.{effect}
+use Rattle.machine.specs.Step.{reasonsOn, effectOn, registersAfter, mailboxesAfter, cellsAfter, tagsAfter}
+use Rattle.histories.specs.Inv.{rowAt, Confined, Inv}
+use Rattle.histories.specs.Inv.{Sound as Bounded}
+use Rattle.histories.specs.Live.{Within}
+use Rattle.histories.specs.Runs.{Machine, outcome, next, run, begun}
+use Rattle.histories.proofs.Always.{inv-step, inv-run, inv-begun}
+use Rattle.histories.proofs.Calls.{row-first}
+use Rattle.histories.proofs.View.{shown-at}
+use Rattle.privacy.specs.Rule.{housed, granted, Time, lasting, takenRange, timeAfter, into, left, discreet, Told, told, heard}
+use Rattle.privacy.specs.Claim.{start, take, atTake, afterTake, time, whole, Within as Meeting, Unnoticed, Privacy}
+use Rattle.privacy.proofs.Fate.{Granted, Fate, down, up, fate, after}
+use Rattle.privacy.proofs.Glue.{Same, glue}
+use Rattle.privacy.proofs.House.{into-cell, Meets, meets, Apart, Tame, Good, apart-good, Housed}
+use Rattle.privacy.proofs.Reached.{low-two}
+use Rattle.privacy.proofs.Relate.{Rel, turned, itself, alike}
+use Rattle.privacy.proofs.Steps.{granted-core, granted-next, refused-test, Ok, keeps, alone}
+use Rattle.privacy.proofs.Tables.{Takes, takes, taken-base, taken-length, row-long, one-row}
+use Rattle.privacy.proofs.Twice.{both-left}
+use Rattle.privacy.proofs.Words.{put-register}
+
+-- Nothing live is into an Open range (F2).
+module _ (k : Core) (ok : coreSound k ≡ true) (j : ℕ) (used : j < length (live (k .table))) (free : isOpen (rowAt (k .table) j .state) ≡ true) where
+  open-apart : (w : Slot) → Bounded (k .table) w → Apart (rangeOf (rowAt (k .table) j)) w
+  open-apart w b t = go (into (rangeOf (rowAt (k .table) j)) (w .cell)) refl
+    where
+      go : (x : Bool) → into (rangeOf (rowAt (k .table) j)) (w .cell) ≡ x → into (rangeOf (rowAt (k .table) j)) (w .cell) ≡ false
+      go true e =
+          let c : Confined (k .table) (w .cell) = b t in
+          let (v, from, upto, hit) = into-cell (rangeOf (rowAt (k .table) j)) (w .cell) e in
+          let same = one-row k ok (c .row) j v (c .used) used (inside-made (rangeOf (rowAt (k .table) (c .row))) v (omega (arith, from, c .within .from)) (omega (arith, upto, c .within .upto))) hit in
+          absurd (true≢false (sym free ∙ ap (λ i. isOpen (rowAt (k .table) i .state)) (sym same) ∙ c .lent))
+      go false e = e
+
+-- The house's range after its granted take.
+module _ (m : Machine) (house base reg : ℕ) (inv : Inv m) (g : Granted m (Take house base reg)) where
+  ok : coreSound (m .state .core) ≡ true
+  ok = granted-core m (Take house base reg) g
+
+  clear : first (reason 4 (unnamed house || unnamed reg) ∷ takeReasons (m .state .core .table) house base) ≡ 0
+  clear = unfold reasons in (g .clear)
+
+  w : Takes (m .state .core) ok house base
+  w = takes (m .state .core) ok house base (first-clear 4 (unnamed house || unnamed reg) (takeReasons (m .state .core .table) house base) (λ x. omega arith) clear .1)
+
+  abbrev r : Range
+  r = rangeOf (rowAt (m .state .core .table) (w .row))
+
+  none-yet : (x : Slot) → Bounded (m .state .core .table) x → Apart r x
+  none-yet = open-apart (m .state .core) ok (w .row) (w .used) (w .isopen)
+
+  register-none-yet : (p d : ℕ) → Apart r (registerOf (m .state .registers) p d)
+  unfolding registerOf
+  register-none-yet p d = go (named p && named d)
+    where
+      go : (b : Bool) → Apart r (pick b (getD (m .state .registers) (8 * p + d) empty) empty)
+      go true = none-yet (getD (m .state .registers) (8 * p + d) empty) (inv .registers (8 * p + d))
+      go false = λ t. absurd (false≢true t)
+
+  new-tame : Tame r (slot (capability base (takeOf (m .state .core .table) house base .length) 15) true)
+  new-tame t e =
+      let b = taken-base (m .state .core) ok house base w in
+      let l = taken-length (m .state .core) ok house base w in
+      record { from = omega (arith, b, w .begins); upto = omega (arith, b, l, w .begins, w .long) }
+
+  taken-housed : Housed house r (after m (effectOn (m .state) (Take house base reg)))
+  unfolding after effect registersAfter mailboxesAfter cellsAfter tagsAfter mailboxOf
+  taken-housed =
+      let row = row-first (m .state .core .table) (takeOf (m .state .core .table) house base .table) house base (w .row) 1 (takenRow (rowAt (m .state .core .table) (w .row))) [] (w .replaced) in
+      record {
+        some = row-long (m .state .core) ok (w .row) (w .used);
+        around =
+            record {
+              row = w .row;
+              used = row .0;
+              lent = ap (λ x. isOpen (x .state)) (row .1);
+              from = omega (arith, ap (λ x. x .base) (row .1));
+              upto = omega (arith, ap (λ x. x .base) (row .1), ap (λ x. x .length) (row .1));
+            };
+        registers =
+            put-register (λ q x. Good r (eqb q house) x) (m .state .registers) house reg (slot (capability base (takeOf (m .state .core .table) house base .length) 15) true) (low-two house reg (takeReasons (m .state .core .table) house base) clear .1)
+            (subst (λ b. Good r b (slot (capability base (takeOf (m .state .core .table) house base .length) 15) true)) (sym (eq-eqb house house refl)) new-tame)
+            (λ q d. apart-good r (eqb q house) (registerOf (m .state .registers) q d) (register-none-yet q d));
+        mailboxes = λ p. none-yet (getD (m .state .mailboxes) p empty) (inv .mailboxes p);
+        words =
+            λ v at q. apart-good r (inside r v) (wordAt (m .cells) (m .tags) at)
+            (none-yet (wordAt (m .cells) (m .tags) at) (subst (Bounded (m .state .core .table)) (shown-at (m .state .core .pages) (m .cells) (m .tags) v at q) (inv .memory .confined v)));
+      }
+
+  range-is : takenRange (m .state .core .table) house base ≡ r
+  unfolding takenRange
+  range-is = ap (λ x. rangeOf x) (w .named)
+
+  pub take-housed : Housed house (takenRange (m .state .core .table) house base) (next m (Take house base reg))
+  take-housed = subst (λ x. Housed house x (next m (Take house base reg))) (sym range-is) (subst (λ x. Housed house r x) (sym (granted-next m (Take house base reg) g)) taken-housed)
+
+pub take-ok : (m : Machine) (house base reg : ℕ) → Inv m → granted m (Take house base reg) ≡ true → Ok house (lasting (takenRange (m .state .core .table) house base)) (next m (Take house base reg))
+take-ok m house base reg inv t = go (fate m (Take house base reg))
+  where
+    go : Fate m (Take house base reg) → Ok house (lasting (takenRange (m .state .core .table) house base)) (next m (Take house base reg))
+    go (down k n e q) = absurd (true≢false (sym t ∙ refused-test m (Take house base reg) k n e))
+    go (up e g) =
+        record {
+          inv = inv-step m (Take house base reg) inv;
+          own = λ r x. let s : takenRange (m .state .core .table) house base ≡ r = cc in subst (λ y. Housed house y (next m (Take house base reg))) s (take-housed m house base reg inv g);
+        }
+
+-- Two lists that begin alike.
+run-on : (m : Machine) (k l : List Call) → run m (k ++ l) ≡ run (run m k) l
+unfolding run
+run-on m [] l = refl
+run-on m (c ∷ k) l = run-on (next m c) k l
+
+heard-on : (house : ℕ) (m : Machine) (k l₁ l₂ : List Call) → heard house (run m k) l₁ ≡ heard house (run m k) l₂ → heard house m (k ++ l₁) ≡ heard house m (k ++ l₂)
+unfolding run heard
+heard-on house m [] l₁ l₂ e = e
+heard-on house m (c ∷ k) l₁ l₂ e = ap (λ x. pick (housed house c) x (told (outcome m c .answer) ∷ x)) (heard-on house (next m c) k l₁ l₂ e)
+
+heard-first : (house : ℕ) (m : Machine) (c : Call) (l₁ l₂ : List Call) → heard house (next m c) l₁ ≡ heard house (next m c) l₂ → heard house m (c ∷ l₁) ≡ heard house m (c ∷ l₂)
+unfolding heard
+heard-first house m c l₁ l₂ e = ap (λ x. pick (housed house c) x (told (outcome m c .answer) ∷ x)) e
+
+run-first : (m : Machine) (c : Call) (l : List Call) → run m (c ∷ l) ≡ run (next m c) l
+unfolding run
+run-first m c l = refl
+
+-- Whatever a house keeps in a range it took, no history lets others notice it.
+pub privacy : Privacy
+privacy v f cells tags before house base reg after₁ after₂ w =
+    let m : Machine = run (begun v f cells tags) before in
+    let c : Call = Take house base reg in
+    let t : Time = lasting (takenRange (m .state .core .table) house base) in
+    let inv : Inv m = inv-run before (begun v f cells tags) (inv-begun v f cells tags) in
+    let ok : Ok house t (next m c) = take-ok m house base reg inv (w .took) in
+    let s : Same house (Rel house) t (next m c) (next m c) after₁ after₂ =
+    glue house (Ok house) (Rel house) (keeps house) (turned house) (alone house) (both-left house) after₁ after₂ t (next m c) (next m c) ok ok (itself house t (next m c)) (w .same) (w .discreet₁) (w .discreet₂) in
+    let ran : (l : List Call) → run (next m c) l ≡ run (begun v f cells tags) (before ++ c ∷ l) = λ l. sym (run-on (begun v f cells tags) before (c ∷ l) ∙ run-first m c l) in
+    record {
+      answers = heard-on house (begun v f cells tags) before (c ∷ after₁) (c ∷ after₂) (heard-first house m c after₁ after₂ (s .answers));
+      ended = s .ended;
+      alike = alike house (timeAfter t (next m c) after₁) (run (begun v f cells tags) (before ++ c ∷ after₁)) (run (begun v f cells tags) (before ++ c ∷ after₂))
+          (subst (λ x. Rel house (timeAfter t (next m c) after₁) x (run (begun v f cells tags) (before ++ c ∷ after₂))) (ran after₁)
+          (subst (λ x. Rel house (timeAfter t (next m c) after₁) (run (next m c) after₁) x) (ran after₂) (s .related)));
+    }

@@ -1,0 +1,231 @@
+-- Both: a call that is left in two histories. Assumes nothing.
+use Prim.Native.Nat.{ℕ, _+_, _*_, _<_, _≤_}
+use native.Mathlib.Omega.{arith}
+use mathlib.Core.Bool.{Bool, true, false, not, _&&_, _||_, true≢false, false≢true}
+use mathlib.Core.List.{List, [], _∷_}
+use mathlib.Core.Path.{_≡_, refl, sym, ap, subst, _∙_}
+use borrow.Author.Tests.{eqb-true, eqb-false, eq-eqb, ne-eqb}
+use lib.Dec.{eqb}
+use lib.ListN.{length}
+use Rattle.calls.specs.declared.Call.{Call}
+use Rattle.calls.specs.declared.Call.the-variants.{Take, Split, Merge, Give, Revoke, Sweep, Collect, Map, Unmap, Zero, Load, Store, Narrow, Number, Grant, Receive}
+use Rattle.pages.specs.declared.Place.the-variants.{At}
+use Rattle.pages.specs.declared.Range.{Range}
+use Rattle.pages.specs.Capability.{baseOf, permits}
+use Rattle.pages.specs.Layer.{serves}
+use Rattle.pages.specs.Lists.{pick, each}
+use Rattle.pages.specs.Mapping.{lookupOf}
+use Rattle.pages.specs.Range.{inside}
+use Rattle.pages.specs.Refusals.{first}
+use Rattle.pages.proofs.Choice.{pick-yes, pick-no, and-left, and-right}
+use Rattle.reservations.specs.declared.Core.{Core}
+use Rattle.reservations.specs.Revocation.{revoked, coreSound}
+use Rattle.machine.specs.declared.Slot.{Slot}
+use Rattle.machine.specs.Words.{empty, registerOf, wordAt}
+use Rattle.machine.specs.Formed.{wellFormed, mailboxesSound, mailboxSound, sized}
+use Rattle.machine.specs.Reasons.{Reads, reading, reads, reasons, unnamed, mayNotLoad, addressed}
+use Rattle.machine.specs.Effects.{Effect, effect, placeNumber}
+use Rattle.machine.specs.Step.{reasonsOn, effectOn, wordAfter}
+use Rattle.histories.specs.Inv.{Inv}
+use Rattle.histories.specs.Runs.{Machine, outcome, next}
+use Rattle.privacy.specs.Rule.{callerOf, housed, granted, isCollect, contains, Time, lasting, over, ending, until, private, struck, Left, remaining, hidden, Told, told}
+use Rattle.privacy.proofs.Fate.{codeOf, Granted, Fate, down, up, fate, after, next-done, next-down, told-done, told-down, code-is}
+use Rattle.privacy.proofs.Glue.{Both}
+use Rattle.privacy.proofs.House.{Housed}
+use Rattle.privacy.proofs.Reached.{Reached, reached}
+use Rattle.privacy.proofs.Relate.{Rel, FetchSame, answer-same, effect-related}
+use Rattle.privacy.proofs.Showing.{came}
+use Rattle.privacy.proofs.Sides.{fits-call, outside}
+use Rattle.privacy.proofs.Steps.{granted-core, granted-layer, granted-cells, granted-tags, granted-next, granted-test, refused-test, Ok}
+use Rattle.privacy.proofs.Tables.{collect-hides}
+
+-- A call reads equal registers if those of its caller are equal.
+reads-same : (l m : List Slot) (c : Call) → ((d : ℕ) → registerOf l (callerOf c) d ≡ registerOf m (callerOf c) d) → reads l c ≡ reads m c
+reads-same l m (Take p base reg) e = refl
+reads-same l m (Split p base len) e = refl
+reads-same l m (Merge p base) e = refl
+reads-same l m (Give p base to) e = refl
+reads-same l m (Revoke p base) e = refl
+reads-same l m (Sweep p n) e = refl
+reads-same l m (Collect p) e = refl
+reads-same l m (Map p page frame) e = refl
+reads-same l m (Unmap p page) e = refl
+reads-same l m (Zero p frame) e = refl
+reads-same l m (Load p a off d) e = ap (λ w. reading w empty) (e a)
+reads-same l m (Store p a off s) e = ap (λ w. reading w (registerOf l p s)) (e a) ∙ ap (λ w. reading (registerOf m p a) w) (e s)
+reads-same l m (Narrow p s off len mask d) e = ap (λ w. reading w empty) (e s)
+reads-same l m (Number p d value) e = refl
+reads-same l m (Grant p s to) e = ap (λ w. reading w empty) (e s)
+reads-same l m (Receive p d) e = refl
+
+-- The code, by what it depends on.
+unfoldable codeBy : Core → List Slot → ℕ → ℕ → ℕ → Reads → Call → ℕ
+codeBy k mail registers cells tags r c =
+    pick ((coreSound k && each mailboxSound 0 mail) && (eqb registers 64 && eqb (length mail) 8)) (pick (serves (k .pages) cells tags) (first (reasons k mail r c)) 2) 1
+
+code-by : (m : Machine) (c : Call) → codeOf m c ≡ codeBy (m .state .core) (m .state .mailboxes) (length (m .state .registers)) (length (m .cells)) (length (m .tags)) (reads (m .state .registers) c) c
+unfolding codeOf codeBy wellFormed mailboxesSound
+code-by m c = refl
+
+-- Whether the time ends depends on the code and the core.
+ending-by : (r : Range) (g h : Machine) (c : Call) → codeOf g c ≡ codeOf h c → g .state .core ≡ h .state .core → ending r g c ≡ ending r h c
+unfolding ending
+ending-by r g h c e k =
+    ap (λ n. (isCollect c && eqb n 0) && contains (revoked (g .state .core)) r) (code-is g c ∙ e ∙ sym (code-is h c))
+    ∙ ap (λ x. (isCollect c && granted h c) && contains (revoked x) r) k
+
+until-by : (t : Time) (g h : Machine) (c : Call) → codeOf g c ≡ codeOf h c → g .state .core ≡ h .state .core → until t g c ≡ until t h c
+unfolding until
+until-by (lasting r) g h c e k = ap (λ b. pick b over (lasting r)) (ending-by r g h c e k)
+until-by over g h c e k = refl
+
+-- A refused call ends nothing.
+until-refused : (t : Time) (m : Machine) (c : Call) → granted m c ≡ false → until t m c ≡ t
+unfolding until ending
+until-refused (lasting r) m c e = rw e (go (isCollect c))
+  where
+    go : (b : Bool) → pick ((b && false) && contains (revoked (m .state .core)) r) over (lasting r) ≡ lasting r
+    go true = refl
+    go false = refl
+until-refused over m c e = refl
+
+-- A collect that ends the time.
+hides-by : (r : Range) (m : Machine) (c : Call) (v at : ℕ) → coreSound (m .state .core) ≡ true → first (reasonsOn (m .state) c) ≡ 0 → ending r m c ≡ true
+    → lookupOf (effectOn (m .state) c .core .pages) v ≡ At at → inside r v ≡ false
+unfolding ending
+hides-by r m c v at ok z e q =
+    let a = and-left (isCollect c && granted m c) (contains (revoked (m .state .core)) r) e in
+    go c (and-left (isCollect c) (granted m c) a) z q (and-right (isCollect c && granted m c) (contains (revoked (m .state .core)) r) e)
+  where
+    go : (c : Call) → isCollect c ≡ true → first (reasonsOn (m .state) c) ≡ 0 → lookupOf (effectOn (m .state) c .core .pages) v ≡ At at → contains (revoked (m .state .core)) r ≡ true → inside r v ≡ false
+    go (Take p base reg) f z q n = absurd (false≢true f)
+    go (Split p base len) f z q n = absurd (false≢true f)
+    go (Merge p base) f z q n = absurd (false≢true f)
+    go (Give p base to) f z q n = absurd (false≢true f)
+    go (Revoke p base) f z q n = absurd (false≢true f)
+    go (Sweep p x) f z q n = absurd (false≢true f)
+    go (Collect p) f z q n = collect-hides (m .state .core) ok p (m .state .mailboxes) (reading empty empty) r v at z n q
+    go (Map p page frame) f z q n = absurd (false≢true f)
+    go (Unmap p page) f z q n = absurd (false≢true f)
+    go (Zero p frame) f z q n = absurd (false≢true f)
+    go (Load p a off d) f z q n = absurd (false≢true f)
+    go (Store p a off s) f z q n = absurd (false≢true f)
+    go (Narrow p s off len mask d) f z q n = absurd (false≢true f)
+    go (Number p d value) f z q n = absurd (false≢true f)
+    go (Grant p s to) f z q n = absurd (false≢true f)
+    go (Receive p d) f z q n = absurd (false≢true f)
+
+hides : (t : Time) (m : Machine) (c : Call) (v at : ℕ) → coreSound (m .state .core) ≡ true → first (reasonsOn (m .state) c) ≡ 0
+    → lookupOf (effectOn (m .state) c .core .pages) v ≡ At at → hidden (until t m c) v ≡ false → hidden t v ≡ false
+unfolding until hidden
+hides (lasting r) m c v at ok z q e = go (ending r m c) refl e
+  where
+    go : (b : Bool) → ending r m c ≡ b → hidden (pick b over (lasting r)) v ≡ false → inside r v ≡ false
+    go true x y = hides-by r m c v at ok z x q
+    go false x y = y
+hides over m c v at ok z q e = e
+
+module _ (house : ℕ) (t : Time) (g h : Machine) (own : (r : Range) → t ≡ lasting r → Housed house r g) (rel : Rel house t g h) where
+  -- A load that is left fetches a word that is not hidden.
+  load-seen : (u : Time) → t ≡ u → (p a off d : ℕ) → struck house u g (Load p a off d) ≡ false → Reached (g .state .core) (registerOf (g .state .registers) p a) off → hidden u (baseOf (registerOf (g .state .registers) p a .cell) + off) ≡ false
+  unfolding struck hidden
+  load-seen (lasting r) e p a off d s k = outside house r g (own r e) p a off (λ n. true≢false (sym (eq-eqb p house n) ∙ no-and (eqb p house) s)) k
+    where
+      no-and : (b : Bool) → b && true ≡ false → b ≡ false
+      no-and true x = x
+      no-and false x = refl
+  load-seen over e p a off d s k = refl
+
+  fetch-same : (c : Call) → struck house t g c ≡ false → first (reasonsOn (g .state) c) ≡ 0 → FetchSame (effectOn (g .state) c .registers) g h
+  unfolding reasons effect
+  fetch-same (Take p base reg) s z = tt
+  fetch-same (Split p base len) s z = tt
+  fetch-same (Merge p base) s z = tt
+  fetch-same (Give p base to) s z = tt
+  fetch-same (Revoke p base) s z = tt
+  fetch-same (Sweep p n) s z = tt
+  fetch-same (Collect p) s z = tt
+  fetch-same (Map p page frame) s z = tt
+  fetch-same (Unmap p page) s z = tt
+  fetch-same (Zero p frame) s z = tt
+  fetch-same (Load p a off d) s z =
+      let k : Reached (g .state .core) (registerOf (g .state .registers) p a) off = reached (g .state .core) (registerOf (g .state .registers) p a) off ((unnamed p || unnamed a) || unnamed d) (mayNotLoad (registerOf (g .state .registers) p a)) z in
+      rel .words (baseOf (registerOf (g .state .registers) p a .cell) + off) (placeNumber (addressed (g .state .core) (registerOf (g .state .registers) p a) off)) (k .place) (load-seen t refl p a off d s k)
+  fetch-same (Store p a off x) s z = tt
+  fetch-same (Narrow p x off len mask d) s z = tt
+  fetch-same (Number p d value) s z = tt
+  fetch-same (Grant p x to) s z = tt
+  fetch-same (Receive p d) s z = tt
+
+  -- What the call reads is equal.
+  reads-left : (c : Call) → remaining house g c ≡ remaining house h c → reads (g .state .registers) c ≡ reads (h .state .registers) c
+  unfolding remaining
+  reads-left c e = go (housed house c) refl
+    where
+      go : (b : Bool) → housed house c ≡ b → reads (g .state .registers) c ≡ reads (h .state .registers) c
+      go true x =
+          sym (pick-yes (housed house c) (reads (g .state .registers) c) (reading empty empty) x) ∙ ap (λ y. y .registers) e
+          ∙ pick-yes (housed house c) (reads (h .state .registers) c) (reading empty empty) x
+      go false x = reads-same (g .state .registers) (h .state .registers) c (λ d. rel .others (callerOf c) d (eqb-false (callerOf c) house x))
+
+  module _ (c : Call) (e : remaining house g c ≡ remaining house h c) where
+    code-same : codeOf g c ≡ codeOf h c
+    code-same =
+        let a = rel .core in
+        let b = rel .mail in
+        let d = rel .long in
+        let x = rel .of-cells in
+        let y = rel .of-tags in
+        let z = reads-left c e in
+        code-by g c
+        ∙ (let w : codeBy (g .state .core) (g .state .mailboxes) (length (g .state .registers)) (length (g .cells)) (length (g .tags)) (reads (g .state .registers) c) c
+        ≡ codeBy (h .state .core) (h .state .mailboxes) (length (h .state .registers)) (length (h .cells)) (length (h .tags)) (reads (h .state .registers) c) c = cc in w)
+        ∙ sym (code-by h c)
+
+    effect-same : effectOn (g .state) c ≡ effectOn (h .state) c
+    effect-same =
+        let a = rel .core in
+        let b = rel .mail in
+        let z = reads-left c e in
+        cc
+
+-- Both: a left call with equal reads keeps the relation, and is answered alike.
+pub both-left : (house : ℕ) (t : Time) (g h : Machine) (c : Call) → Ok house t g → Ok house t h → Rel house t g h → struck house t g c ≡ false → remaining house g c ≡ remaining house h c → Both house (Rel house) t g h c
+both-left house t g h c ok₁ ok₂ rel s e = go (fate g c) (fate h c)
+  where
+    same : codeOf g c ≡ codeOf h c
+    same = code-same house t g h (ok₁ .own) rel c e
+
+    times : until t g c ≡ until t h c
+    times = until-by t g h c same (rel .core)
+
+    go : Fate g c → Fate h c → Both house (Rel house) t g h c
+    go (down k n x q) (down l o y w) =
+        let j : k ≡ l = sym x ∙ same ∙ y in
+        record {
+          times = times;
+          related = subst (λ u. Rel house u (next g c) (next h c)) (sym (until-refused t g c (refused-test g c k n x))) (subst (λ m. Rel house t m (next h c)) (sym (next-down g c k q)) (subst (λ m. Rel house t g m) (sym (next-down h c l w)) rel));
+          answer = λ z. told-down g c k q ∙ ap (λ i. record { code = i; number = 0; tag = false }) j ∙ sym (told-down h c l w);
+        }
+    go (down k n x q) (up y w) = absurd (n (sym x ∙ same ∙ y))
+    go (up x q) (down l o y w) = absurd (o (sym y ∙ sym same ∙ x))
+    go (up x q) (up y w) =
+        let f = effectOn (g .state) c in
+        let z = effect-same house t g h (ok₁ .own) rel c e in
+        let seen = fetch-same house t g h (ok₁ .own) rel c s (q .clear) in
+        let right : next h c ≡ after h (effectOn (g .state) c) = granted-next h c w ∙ ap (after h) (sym z) in
+        record {
+          times = times;
+          related =
+              subst (λ m. Rel house (until t g c) m (next h c)) (sym (granted-next g c q))
+              (subst (λ m. Rel house (until t g c) (after g (effectOn (g .state) c)) m) (sym right)
+              (effect-related house t (until t g c) g h (effectOn (g .state) c) rel (granted-layer g c q) (granted-cells g c q) (granted-tags g c q)
+              (fits-call (g .state .core) (g .state .mailboxes) (reads (g .state .registers) c) c (q .clear)) seen (ok₁ .inv .memory .free) (ok₂ .inv .memory .free)
+              (came (g .state .core) (g .state .mailboxes) (reads (g .state .registers) c) c (granted-core g c q) (q .clear))
+              (λ v at. hides t g c v at (granted-core g c q) (q .clear))));
+          answer =
+              λ n. told-done g c (effectOn (g .state) c) (q .comes)
+              ∙ ap (λ i. record { code = 0; number = i .cell; tag = i .tag }) (answer-same (effectOn (g .state) c .registers) (effectOn (g .state) c .answer) g h seen)
+              ∙ ap (λ i. record { code = 0; number = wordAfter (i .registers) (i .answer) (h .cells) (h .tags) .cell; tag = wordAfter (i .registers) (i .answer) (h .cells) (h .tags) .tag }) z
+              ∙ sym (told-done h c (effectOn (h .state) c) (w .comes));
+        }

@@ -1,0 +1,1 @@
+// Specifications and proofs only: document 01, "The privacy rule", of the machine.
