@@ -1,0 +1,3 @@
+-- Laws of the session's bytes, for its functions' proofs.
+mod Decimal
+mod Texts
