@@ -1,1 +1,10 @@
 pub mod Ruled
+pub mod Judging
+pub mod Lowest
+pub mod Written
+pub mod Dependence
+pub mod Lists
+pub mod PagesKept
+pub mod Lengths
+pub mod Keeps
+pub mod Commands

@@ -1,0 +1,122 @@
+-- A step keeps the numbers of registers and mailboxes, of lent cells and of lent tags. By what an effect changes, not by
+-- call. Assumes nothing.
+use Prim.Native.Nat.{ℕ, _+_, _*_}
+use native.Mathlib.Omega.{arith}
+use mathlib.Core.Bool.{Bool, true}
+use mathlib.Core.List.{List}
+use mathlib.Core.Path.{_≡_, refl}
+use lib.ListN.{length, length-set, length-map}
+use lib.Dec.{ltb}
+use borrow.Author.Tests.{ltb-true, lt-ltb}
+use Rattle.calls.specs.declared.Call.{Call}
+use Rattle.calls.specs.declared.Call.the-variants.{Take, Split, Merge, Give, Revoke, Sweep, Collect, Map, Unmap, Zero, Load, Store, Narrow, Number, Grant, Receive}
+use Rattle.pages.specs.Layer.{serves}
+use Rattle.pages.specs.Refusals.{first}
+use Rattle.pages.specs.Sweep.{sweptTag, sweptTags}
+use Rattle.pages.proofs.Lists.{length-mapEach}
+use Rattle.pages.proofs.Memory.{served}
+use Rattle.pages.proofs.Refusals.{first-clear}
+use Rattle.pages.proofs.Shows.{length-cleared}
+use Rattle.reservations.specs.declared.Core.{Core}
+use Rattle.machine.specs.declared.Slot.{Slot}
+use Rattle.machine.specs.declared.State.{State}
+use Rattle.machine.specs.Words.{byteOf, collectedRegister, collectedMailbox}
+use Rattle.machine.specs.Reasons.{Reads, reads, reasons, unnamed, notManager}
+use Rattle.machine.specs.Effects.{RegisterChange, keepRegisters, putRegister, fetchInto, collectRegisters, MailboxChange, keepMailboxes, putMailbox, collectMailboxes, MemoryChange, keepMemory, writeWord, clearFrame, sweepCells, effect}
+use Rattle.machine.specs.Step.{Outcome, refused, fetched, registersAfter, mailboxesAfter, cellsAfter, tagsAfter, done, reasonsOn, effectOn, judged, stepOf}
+use Rattle.machine.proofs.Judging.{judged-by, step-by}
+use Rattle.machine.proofs.PagesKept.{zero-clear}
+
+pub length-registers : (ch : RegisterChange) (s : State) (cells tags : List ℕ) → length (registersAfter ch s cells tags) ≡ length (s .registers)
+unfolding registersAfter
+length-registers keepRegisters s cells tags = refl
+length-registers (putRegister p r w) s cells tags = length-set (s .registers) (8 * p + r) w
+length-registers (fetchInto p r at keep) s cells tags = length-set (s .registers) (8 * p + r) (fetched cells tags at keep)
+length-registers collectRegisters s cells tags = length-map (s .registers) (collectedRegister (s .core))
+
+pub length-mailboxes : (ch : MailboxChange) (s : State) → length (mailboxesAfter ch s) ≡ length (s .mailboxes)
+unfolding mailboxesAfter
+length-mailboxes keepMailboxes s = refl
+length-mailboxes (putMailbox p w) s = length-set (s .mailboxes) p w
+length-mailboxes collectMailboxes s = length-map (s .mailboxes) (collectedMailbox (s .core))
+
+-- A frame that is cleared is one of f.
+unfoldable pub clearsBelow : ℕ → MemoryChange → Bool
+clearsBelow f keepMemory = true
+clearsBelow f (writeWord at w) = true
+clearsBelow f (clearFrame frame) = ltb (frame .0) f
+clearsBelow f (sweepCells r from upto) = true
+
+module _ (f : ℕ) where
+  pub length-cells : (ch : MemoryChange) (cells : List ℕ) → length cells ≡ 16 * f → clearsBelow f ch ≡ true → length (cellsAfter ch cells) ≡ length cells
+  unfolding cellsAfter clearsBelow
+  length-cells keepMemory cells n h = refl
+  length-cells (writeWord at w) cells n h = length-set cells at (w .cell)
+  length-cells (clearFrame frame) cells n h = length-cleared frame cells (omega (arith, ltb-true (frame .0) f h))
+  length-cells (sweepCells r from upto) cells n h = refl
+
+  pub length-tags : (ch : MemoryChange) (c : Core) (cells tags : List ℕ) → length tags ≡ 16 * f → clearsBelow f ch ≡ true
+      → length (tagsAfter ch c cells tags) ≡ length tags
+  unfolding tagsAfter clearsBelow sweptTags
+  length-tags keepMemory c cells tags n h = refl
+  length-tags (writeWord at w) c cells tags n h = length-set tags at (byteOf (w .tag))
+  length-tags (clearFrame frame) c cells tags n h = length-cleared frame tags (omega (arith, ltb-true (frame .0) f h))
+  length-tags (sweepCells r from upto) c cells tags n h = length-mapEach (sweptTag (c .pages .frames) r from upto cells) 0 tags
+
+-- Of the sixteen kinds zero alone clears a frame; refusal 12 keeps it below F.
+clears-below : (c : Core) (mail : List Slot) (r : Reads) (call : Call) → first (reasons c mail r call) ≡ 0
+    → clearsBelow (c .pages .f) (effect c mail r call .memory) ≡ true
+unfolding clearsBelow reasons effect
+clears-below c mail r (Take p base reg) e = refl
+clears-below c mail r (Split p base len) e = refl
+clears-below c mail r (Merge p base) e = refl
+clears-below c mail r (Give p base to) e = refl
+clears-below c mail r (Revoke p base) e = refl
+clears-below c mail r (Sweep p n) e = refl
+clears-below c mail r (Collect p) e = refl
+clears-below c mail r (Map p page frame) e = refl
+clears-below c mail r (Unmap p page) e = refl
+clears-below c mail r (Zero p frame) e =
+    let after4 = first-clear 4 (unnamed p) _ (λ z. omega arith) e in
+    let after5 = first-clear 5 (notManager p) _ (λ z. omega arith) (after4 .1) in
+    lt-ltb (frame .0) (c .pages .f) (zero-clear (c .pages) frame (after5 .1) .0)
+clears-below c mail r (Load p a off d) e = refl
+clears-below c mail r (Store p a off s) e = refl
+clears-below c mail r (Narrow p s off len mask d) e = refl
+clears-below c mail r (Number p d value) e = refl
+clears-below c mail r (Grant p s to) e = refl
+clears-below c mail r (Receive p d) e = refl
+
+-- An outcome with as many registers, mailboxes, cells and tags as were given.
+pub record Sized (s : State) (cells tags : List ℕ) (o : Outcome) : Type 0 where
+  pub of-registers : length (o .answer .state .registers) ≡ length (s .registers)
+  pub of-mailboxes : length (o .answer .state .mailboxes) ≡ length (s .mailboxes)
+  pub of-cells : length (o .cells) ≡ length cells
+  pub of-tags : length (o .tags) ≡ length tags
+
+pub refused-sized : (s : State) (cells tags : List ℕ) (k : ℕ) → Sized s cells tags (refused k s cells tags)
+refused-sized s cells tags k = record { of-registers = refl; of-mailboxes = refl; of-cells = refl; of-tags = refl }
+
+done-sized : (s : State) (c : Call) (cells tags : List ℕ) → serves (s .core .pages) (length cells) (length tags) ≡ true
+    → first (reasonsOn s c) ≡ 0 → Sized s cells tags (done s (effectOn s c) cells tags)
+unfolding done
+done-sized s c cells tags m e =
+    let (n, o) = served (s .core .pages) (length cells) (length tags) m in
+    let f = s .core .pages .f in
+    let x = effectOn s c in
+    let low = clears-below (s .core) (s .mailboxes) (reads (s .registers) c) c e in
+    record {
+      of-registers = length-registers (x .registers) s cells tags;
+      of-mailboxes = length-mailboxes (x .mailboxes) s;
+      of-cells = length-cells f (x .memory) cells n low;
+      of-tags = length-tags f (x .memory) (s .core) cells tags o low;
+    }
+
+-- Every call, granted or refused, keeps the numbers of registers, mailboxes, lent cells and lent tags.
+module _ (s : State) (c : Call) (cells tags : List ℕ) where
+  pub judged-sized : Sized s cells tags (judged s c cells tags)
+  judged-sized = judged-by s c cells tags (Sized s cells tags) (done-sized s c cells tags) (λ k n. refused-sized s cells tags k)
+
+  pub step-sized : Sized s cells tags (stepOf s c cells tags)
+  step-sized =
+      step-by s c cells tags (Sized s cells tags) (λ g. done-sized s c cells tags (g .served) (g .clear)) (λ k n. refused-sized s cells tags k)
