@@ -67,3 +67,11 @@ pub tag-short : (tag : Bool) → length (decimal (byteOf tag)) ≤ 1
 unfolding tens
 tag-short true = decimal-short 0 1 (omega arith)
 tag-short false = decimal-short 0 0 (omega arith)
+
+pub line-short : (code number : ℕ) (tag : Bool) → number < 18446744073709551616 → code < 100 → length (lineOf code number tag) ≤ 26
+unfolding lineOf tens
+line-short code number tag n h =
+    let c : length (decimal code) ≤ 2 = decimal-short 1 code (omega arith) in
+    let w : length (decimal number) ≤ 20 = word-short number n in
+    let t : length (decimal (byteOf tag)) ≤ 1 = tag-short tag in
+    simp length-append (omega arith)

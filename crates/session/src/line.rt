@@ -53,7 +53,7 @@ fn number_of(tag: bool) -> u64
 // A line of three numbers.
 pub(crate) fn line_of(code: u8, number: u64, tag: bool) -> Text
     ensures { λ r. ⌜ body r ≡ lineOf code number tag ⌝ }
-    ensures { λ r. ⌜ 5 ≤ r .from ⌝ }
+    ensures { λ r. ⌜ (code < 100 → length (lineOf code number tag) ≤ 26) ⌝ }
     ensures { λ r. ⌜ r .from ≤ 32 ⌝ }
 {
     let none = Text {

@@ -3,7 +3,7 @@ use native.Mathlib.Omega.{arith}
 use mathlib.Core.Path.{refl}
 use lib.ListN.{length}
 use Rattle.session.specs.Lines.{decimal}
-use Rattle.session.proofs.Decimal.{byte-short, word-short, tag-short}
+use Rattle.session.proofs.Decimal.{byte-short, word-short, tag-short, line-short}
 use Rattle.session.proofs.Texts.{line-made}
 use borrow.Author.Needs.{needs}
 use Rattle.session.proofs.line.line_of.Statement.{statement}
@@ -44,7 +44,7 @@ lead-decimal-requires-3 c κs = let z : length (decimal (c .before .before .befo
 
 -- src/line.rt:54:1
 returns : tie.Need-returns
-returns c = let z : length (decimal (c .before .before .before .before .before .number-of .result)) ≤ 1 = rw (c .before .before .before .before .before .number-of .ensures) (tag-short (c .before .before .before .before .before .before .before .args .tag)) in let w : length (decimal (c .before .before .before .before .before .before .before .args .number)) ≤ 20 = word-short (c .before .before .before .before .before .before .before .args .number) (omega arith) in let b : length (decimal (c .before .before .before .before .before .before .before .args .code)) ≤ 3 = byte-short (c .before .before .before .before .before .before .before .args .code) (omega arith) in let p0 = c .before .before .before .before .before .before .lead .ensures .place in let p1 = c .before .before .before .before .lead-decimal .ensures .place in let p2 = c .before .before .before .lead2 .ensures .place in let p3 = c .before .before .lead-decimal2 .ensures .place in let p4 = c .before .lead3 .ensures .place in let p5 = c .lead-decimal3 .ensures .place in (line-made _ _ _ _ _ _ _ _ _ _ _ refl (c .before .before .before .before .before .before .lead .ensures) (c .before .before .before .before .lead-decimal .ensures) (c .before .before .before .lead2 .ensures) (c .before .before .lead-decimal2 .ensures) (c .before .lead3 .ensures) (c .lead-decimal3 .ensures) (c .before .before .before .before .before .number-of .ensures), (omega (arith, p0, p1, p2, p3, p4, p5), omega (arith, p0, p1, p2, p3, p4, p5)))
+returns c = let z : length (decimal (c .before .before .before .before .before .number-of .result)) ≤ 1 = rw (c .before .before .before .before .before .number-of .ensures) (tag-short (c .before .before .before .before .before .before .before .args .tag)) in let w : length (decimal (c .before .before .before .before .before .before .before .args .number)) ≤ 20 = word-short (c .before .before .before .before .before .before .before .args .number) (omega arith) in let b : length (decimal (c .before .before .before .before .before .before .before .args .code)) ≤ 3 = byte-short (c .before .before .before .before .before .before .before .args .code) (omega arith) in let p0 = c .before .before .before .before .before .before .lead .ensures .place in let p1 = c .before .before .before .before .lead-decimal .ensures .place in let p2 = c .before .before .before .lead2 .ensures .place in let p3 = c .before .before .lead-decimal2 .ensures .place in let p4 = c .before .lead3 .ensures .place in let p5 = c .lead-decimal3 .ensures .place in (line-made _ _ _ _ _ _ _ _ _ _ _ refl (c .before .before .before .before .before .before .lead .ensures) (c .before .before .before .before .lead-decimal .ensures) (c .before .before .before .lead2 .ensures) (c .before .before .lead-decimal2 .ensures) (c .before .lead3 .ensures) (c .lead-decimal3 .ensures) (c .before .before .before .before .before .number-of .ensures), (line-short (c .before .before .before .before .before .before .before .args .code) (c .before .before .before .before .before .before .before .args .number) (c .before .before .before .before .before .before .before .args .tag) (omega arith), omega (arith, p0, p1, p2, p3, p4, p5)))
 
 pub line-of-spec : {M : Type 1} → statement M
 line-of-spec =
