@@ -1,4 +1,4 @@
 -- Laws of the session's bytes, for its functions' proofs.
 mod Decimal
 mod Texts
-mod Sessions
+pub mod Sessions

@@ -24,7 +24,7 @@ use Rattle.machine.proofs.Keeps.{start-formed}
 use Rattle.machine.proofs.Commands.{command-keeps, command-at-most, command-sized}
 use Rattle.session.specs.Laid.{Laid}
 use Rattle.session.specs.Lines.{lineOf, decimal, digits}
-use Rattle.session.specs.Session.{ending, lineThen, linesFrom, zeroed, linesStarted, linesRead, printed, printOf, Spared}
+use Rattle.session.specs.Session.{ending, lineThen, linesFrom, zeroed, linesStarted, linesRead, Printed, printed, printOf, Spared}
 use Rattle.session.proofs.Texts.{laid-none, laid-both}
 
 -- Every command's length is two at least, by the table.
@@ -329,3 +329,12 @@ pub print-not : (lines out : List ℕ) (end : ℕ) → end ≡ 0 + length lines 
 unfolding printOf
 print-not lines out end e h =
     sym (ap (λ (b : Bool). pick b (printed (length lines) (lines ++ drop (length lines) out)) (printed 0 out)) (lt-leb (length lines) (length out) (omega arith)))
+
+-- What is printed lies within the buffer.
+pub printed-within : (lines out : List ℕ) (n : ℕ) (after : List ℕ) → printed n after ≡ printOf lines out → n ≤ length after
+unfolding printOf
+printed-within lines out n after e =
+    subst (λ (p : Printed). p .count ≤ length (p .buffer)) (sym e)
+    (pick-by (λ (p : Printed). p .count ≤ length (p .buffer)) (leb (length lines) (length out))
+    (printed (length lines) (lines ++ drop (length lines) out)) (printed 0 out)
+    (λ h. simp length-append (omega arith)) (λ h. omega arith))
