@@ -1,0 +1,4 @@
+-- Laws of the session's bytes, for its functions' proofs.
+mod Decimal
+mod Texts
+pub mod Sessions
