@@ -1,11 +1,10 @@
 -- One history of fourteen calls, by computing: each is granted, so no theorem here holds for want of a case. Assumes nothing.
-use Prim.Native.Nat.{ℕ, _*_}
-use mathlib.Core.Bool.{true, false}
+use Prim.Native.Nat.{ℕ}
 use mathlib.Core.List.{List, [], _∷_, map}
 use mathlib.Core.Path.{_≡_, refl}
 use lib.ListN.{getD, replicate}
 use Rattle.calls.specs.declared.Call.{Call}
-use Rattle.calls.specs.declared.Call.the-variants.{Take, Split, Merge, Revoke, Sweep, Collect, Map, Unmap, Zero, Store, Grant, Receive}
+use Rattle.calls.specs.declared.Call.the-variants.{Take, Split, Revoke, Sweep, Collect, Map, Unmap, Zero, Store, Grant, Receive}
 use Rattle.calls.specs.Commands.{page, frame}
 use Rattle.machine.specs.declared.Answered.{Answered}
 use Rattle.histories.specs.Runs.{outcome, next, run, answers, begun}

@@ -1,21 +1,20 @@
 -- Live by frames: each place of a Mapped frame is the place of a virtual cell whose page is Mapped, and of one alone. Assumes nothing.
-use Prim.Native.Nat.{ℕ, zero, suc, _+_, _*_, _/_, _%_, _<_, _≤_}
+use Prim.Native.Nat.{ℕ, suc, _+_, _*_, _/_, _%_, _<_, _≤_}
 use native.Mathlib.Omega.{arith}
-use mathlib.Core.Bool.{Bool, true, false, true≢false, false≢true}
+use mathlib.Core.Bool.{Bool, true, false, false≢true}
 use mathlib.Core.List.{List, [], _∷_}
-use mathlib.Core.Path.{_≡_, refl, sym, ap, subst, _∙_}
-use borrow.Author.Tests.{eqb-true, ltb-true, ltb-false, le-ltb}
-use lib.Dec.{eqb, ltb}
+use mathlib.Core.Path.{_≡_, refl, sym, ap, _∙_}
+use borrow.Author.Tests.{eqb-true, ltb-true, ltb-false}
+use lib.Dec.{ltb}
 use lib.ListN.{length, getD, List·getD-eq-default}
 use Rattle.pages.specs.declared.Frame.{Frame}
-use Rattle.pages.specs.declared.FrameState.{FrameState}
-use Rattle.pages.specs.declared.FrameState.the-variants.{Dirty, Free, Mapped as Shown}
+use Rattle.pages.specs.declared.FrameState.the-variants.{Dirty, Mapped as Shown}
 use Rattle.pages.specs.declared.PageEntry.{PageEntry}
 use Rattle.pages.specs.declared.PageState.{PageState}
 use Rattle.pages.specs.declared.PageState.the-variants.{Unmapped, Freed, Mapped}
 use Rattle.pages.specs.declared.Pages.{Pages}
 use Rattle.pages.specs.declared.Place.the-variants.{At}
-use Rattle.pages.specs.Entries.{isShown, isDirty, isUnmapped, maps, mapsBelow, pageEntry, frameEntry}
+use Rattle.pages.specs.Entries.{isShown, isDirty, isUnmapped, maps, pageEntry, frameEntry}
 use Rattle.pages.specs.Layer.{pageAt, frameAt, mappings, pageSound, frameSound}
 use Rattle.pages.specs.Lists.{pick}
 use Rattle.pages.specs.Mapping.{lookupOf}
@@ -23,9 +22,8 @@ use Rattle.pages.proofs.Choice.{pick-no}
 use Rattle.pages.proofs.Formed.{Sound as Layered, sound as layered, mapped-once}
 use Rattle.reservations.proofs.CoreKept.{core-facts}
 use Rattle.machine.proofs.Keeps.{facts}
-use Rattle.histories.specs.Runs.{Machine, Reached}
 use Rattle.histories.specs.Confining.{FrameTagsAreBits}
-use Rattle.histories.proofs.View.{Seen, looked}
+use Rattle.histories.proofs.View.{looked}
 use Rattle.histories.proofs.Always.{inv-reached}
 use Rattle.histories.proofs.Forming.{always-formed}
 

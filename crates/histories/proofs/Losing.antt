@@ -3,18 +3,16 @@ use Prim.Native.Nat.{ℕ, zero, suc, _+_, _-_, _*_, _<_, _≤_}
 use native.Mathlib.Nat.{zero-add}
 use native.Mathlib.Omega.{arith}
 use mathlib.Core.Bool.{Bool, true, false, not, _&&_, false≢true}
-use mathlib.Core.List.{List, [], _∷_, _++_}
+use mathlib.Core.List.{List, [], _∷_}
 use mathlib.Core.Path.{_≡_, refl, sym, ap, subst, _∙_}
 use borrow.Author.Tests.{eq-eqb, eqb-true, eqb-false, ltb-true, ltb-false, lt-ltb, leb-true}
-use lib.Dec.{eqb, ltb, leb}
-use lib.ListN.{length, getD, replicate, take, drop}
-use Rattle.calls.specs.declared.Call.{Call}
+use lib.Dec.{eqb, ltb}
+use lib.ListN.{length, getD}
 use Rattle.calls.specs.declared.Call.the-variants.{Merge}
-use Rattle.pages.specs.Lists.{pick}
 use Rattle.pages.specs.Refusals.{first}
-use Rattle.pages.proofs.Choice.{pick-yes, and-left, and-right}
+use Rattle.pages.proofs.Choice.{pick-yes}
 use Rattle.pages.proofs.Refusals.{first-clear}
-use Rattle.reservations.specs.declared.Found.the-variants.{At, Nowhere}
+use Rattle.reservations.specs.declared.Found.the-variants.{At}
 use Rattle.reservations.specs.declared.Reservation.{Reservation}
 use Rattle.reservations.specs.declared.ReservationState.{ReservationState}
 use Rattle.reservations.specs.declared.ReservationState.the-variants.{Open, Taken, Revoking}
@@ -34,10 +32,10 @@ use Rattle.machine.specs.Effects.{effect}
 use Rattle.machine.specs.Reasons.{reasons, unnamed}
 use Rattle.machine.specs.Step.{reasonsOn}
 use Rattle.machine.proofs.Keeps.{facts}
-use Rattle.histories.specs.Runs.{Machine, Granted, next, run, Reached}
+use Rattle.histories.specs.Runs.{Machine, Granted, next, run}
 use Rattle.histories.specs.Inv.{rowAt}
 use Rattle.histories.specs.Forming.{Standing}
-use Rattle.histories.specs.Losing.{AlwaysTiled, Alone, AllGranted, nothing, more, Back, MergesLeadBack}
+use Rattle.histories.specs.Losing.{AlwaysTiled, Alone, nothing, more, Back, MergesLeadBack}
 use Rattle.histories.proofs.Table.{long, low-row, mid-row, high-row}
 use Rattle.histories.proofs.Granted.{Went, went, went-core}
 use Rattle.histories.proofs.Between.{done-table}
