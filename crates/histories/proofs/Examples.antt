@@ -2,9 +2,9 @@
 use Prim.Native.Nat.{ℕ}
 use mathlib.Core.List.{List, [], _∷_, map}
 use mathlib.Core.Path.{_≡_, refl}
-use lib.ListN.{getD, replicate}
+use lib.ListN.{length, getD, replicate}
 use Rattle.calls.specs.declared.Call.{Call}
-use Rattle.calls.specs.declared.Call.the-variants.{Take, Split, Revoke, Sweep, Collect, Map, Unmap, Zero, Store, Grant, Receive}
+use Rattle.calls.specs.declared.Call.the-variants.{Take, Split, Merge, Revoke, Sweep, Collect, Map, Unmap, Zero, Store, Grant, Receive}
 use Rattle.calls.specs.Commands.{page, frame}
 use Rattle.machine.specs.declared.Answered.{Answered}
 use Rattle.histories.specs.Runs.{outcome, next, run, answers, begun}
@@ -67,6 +67,11 @@ pub all-granted :
     ∷ []
 unfolding start calls told outcome next run answers begun effect mailboxesSound wellFormed fresh startOf addressed reasons registersAfter mailboxesAfter cellsAfter tagsAfter wordAfter done ruled judged stepOf registerOf mailboxOf wordAt seek findOf nextOf revokingOf rowOf withRow openReasons takeReasons takeOf splitReasonsAt splitReasons splitAt splitOf mergeable mergeReasonsAt mergeReasons mergeAt mergeOf giveReasons giveOf freshCore running revoked dying revokeReasonsAt revokeReasons revokeAt revokeOf collectReasons collected collectOf revocationSound coreSound live splice spread gather tiles allBlank revokings sized tableSound freshTable freedIn allFreed pageAt frameAt withPage withFrame freshOf mappings pageSound frameSound pages-wellFormed each mapEach mapReasons mapped mapOf unmapReasons soiled unmapped unmapOf dirtyReasons cleared lookupOf notMappedIn anyMapped freedEntry freedOf releasedEntry releasedOf inside first passed sweptTag sweptTags
 all-granted = refl
+
+-- All reservations are Open and party 0's after the split, two of them; a merge leads back to one.
+pub merged : map (λ a. a .code ∷ length (live (a .state .core .table)) ∷ []) (answers start (Split 0 0 16 ∷ Merge 0 0 ∷ [])) ≡ (0 ∷ 2 ∷ []) ∷ (0 ∷ 1 ∷ []) ∷ []
+unfolding start outcome next run answers begun effect mailboxesSound wellFormed fresh startOf addressed reasons registersAfter mailboxesAfter cellsAfter tagsAfter wordAfter done ruled judged stepOf registerOf mailboxOf wordAt seek findOf nextOf revokingOf rowOf withRow openReasons takeReasons takeOf splitReasonsAt splitReasons splitAt splitOf mergeable mergeReasonsAt mergeReasons mergeAt mergeOf giveReasons giveOf freshCore running revoked dying revokeReasonsAt revokeReasons revokeAt revokeOf collectReasons collected collectOf revocationSound coreSound live splice spread gather tiles allBlank revokings sized tableSound freshTable freedIn allFreed pageAt frameAt withPage withFrame freshOf mappings pageSound frameSound pages-wellFormed each mapEach mapReasons mapped mapOf unmapReasons soiled unmapped unmapOf dirtyReasons cleared lookupOf notMappedIn anyMapped freedEntry freedOf releasedEntry releasedOf inside first passed sweptTag sweptTags
+merged = refl
 
 -- The start is granted, over memory of the right size.
 pub begins : Begins 2 1 (replicate 16 7) (replicate 16 1)
