@@ -53,26 +53,34 @@ fn say(text: &[u8]) {
     io::write_all(STDERR_FILENO, text);
 }
 
-// The lines of one input.
-fn show(input: &[u8]) {
+// The lines of one input; 0 where all were written, 2 where they do not fit, 3 where a write failed.
+fn show(input: &[u8]) -> u8
+    ensures { λ r. ⌜ r ≤ 3 ⌝ }
+{
     let mut out = output_buffer();
     let n = session::cetomuhi_session(input, &mut out);
     if n == 0 {
         say(b"desk: the lines do not fit\n");
-        return;
+        return 2;
     }
     if !io::write_all(STDOUT_FILENO, &out[..n]) {
         say(b"desk: standard output could not be written\n");
+        return 3;
     }
+    0
 }
 
-pub fn run() {
+// A session, and how it went: 0, or the number of what was said on standard error; 1 is a failed read. No contract can speak
+// of what is read and written, so this is all that is promised.
+pub fn run() -> u8
+    ensures { λ r. ⌜ r ≤ 3 ⌝ }
+{
     let mut input = input_buffer();
     let taken = take(STDIN_FILENO, &mut input);
     let len = taken.len;
     if taken.whole {
-        show(&input[..len]);
-    } else {
-        say(b"desk: standard input could not be read\n");
+        return show(&input[..len]);
     }
+    say(b"desk: standard input could not be read\n");
+    1
 }

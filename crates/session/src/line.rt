@@ -6,7 +6,7 @@ ghost use Prim.Native.Nat.{_≤_, _<_, _+_};
 ghost use lib.ListN.{length};
 ghost use Rattle.machine.specs.Words.{byteOf};
 ghost use Rattle.session.specs.Lines.{decimal, lineOf};
-ghost use Rattle.session.specs.Laid.{body, Led, Laid};
+ghost use Rattle.session.specs.Laid.{body, Led};
 
 // A text with one byte put before it.
 fn lead(text: Text, byte: u8) -> Text
@@ -66,28 +66,4 @@ pub(crate) fn line_of(code: u8, number: u64, tag: bool) -> Text
     let numbered = lead_decimal(spaced, number);
     let apart = lead(numbered, b' ');
     lead_decimal(apart, code as u64)
-}
-
-// Puts bytes at a place of a lent buffer, if they fit, and answers where they end.
-fn place(new: &[u8], at: usize, out: &mut [u8]) -> usize
-    requires { ⌜ at + length (now new) ≤ 1000000 ⌝ }
-    ensures { λ r. ⌜ Laid (now (new .entry)) at (now (out .entry)) r (now (out .exit)) ⌝ }
-{
-    let end = at + new.len();
-    if out.len() < end {
-        return end;
-    }
-    bytes::copy(new, &mut out[at..]);
-    end
-}
-
-// Puts a text there.
-pub(crate) fn put(text: Text, at: usize, out: &mut [u8]) -> usize
-    requires { ⌜ text .from ≤ 32 ⌝ }
-    requires { ⌜ at ≤ 900000 ⌝ }
-    ensures { λ r. ⌜ Laid (body text) at (now (out .entry)) r (now (out .exit)) ⌝ }
-{
-    let bytes = text.bytes;
-    let from = text.from;
-    place(&bytes[from..], at, out)
 }

@@ -1,6 +1,6 @@
 // A session over memory of its own.
 use crate::line::line_of;
-use crate::line::put;
+use crate::Text;
 use machine::Commanded;
 use machine::State;
 ghost use mathlib.Core.Path.{_≡_};
@@ -9,11 +9,35 @@ ghost use Prim.Native.Nat.{_≤_, _<_, _+_, _*_};
 ghost use lib.ListN.{length, getD};
 ghost use Rattle.machine.specs.Formed.{wellFormed};
 ghost use Rattle.machine.specs.Command.{ran, commandOf};
-ghost use Rattle.session.specs.Laid.{Laid};
+ghost use Rattle.session.specs.Laid.{body, Laid};
 ghost use Rattle.session.specs.Session.{ending, zeroed, linesFrom, linesRead, linesOf, printed, printOf, Spared};
 
 // The bytes of an input that are looked at.
 const LIMIT: usize = 32768;
+
+// Puts bytes at a place of a lent buffer, if they fit, and answers where they end.
+fn place(new: &[u8], at: usize, out: &mut [u8]) -> usize
+    requires { ⌜ at + length (now new) ≤ 1000000 ⌝ }
+    ensures { λ r. ⌜ Laid (now (new .entry)) at (now (out .entry)) r (now (out .exit)) ⌝ }
+{
+    let end = at + new.len();
+    if out.len() < end {
+        return end;
+    }
+    bytes::copy(new, &mut out[at..]);
+    end
+}
+
+// Puts a text there.
+fn put(text: Text, at: usize, out: &mut [u8]) -> usize
+    requires { ⌜ text .from ≤ 32 ⌝ }
+    requires { ⌜ at ≤ 900000 ⌝ }
+    ensures { λ r. ⌜ Laid (body text) at (now (out .entry)) r (now (out .exit)) ⌝ }
+{
+    let bytes = text.bytes;
+    let from = text.from;
+    place(&bytes[from..], at, out)
+}
 
 fn ends(code: u8) -> bool
     ensures { λ r. ⌜ r ≡ ending code ⌝ }

@@ -1,3 +1,4 @@
+-- `console::take` meets its contract. What was read so far is never more than the buffer.
 use borrow.Author.Needs.{needs}
 use Prim.Native.Nat.{ℕ, _≤_, _-_}
 use native.Mathlib.Omega.{arith}
@@ -8,10 +9,6 @@ use lib.Seq.{take-all}
 use borrow.Rule.Slice.PartMut.{putMid}
 use Rattle.console.proofs.take.Statement.{statement}
 use Rattle.console.proofs.take.Tie as tie
-use Rattle.console.proofs.take.Reads as reads
-use Rattle.console.proofs.take.Lts as lts
-use Rattle.io.proofs.count.Reads as count-reads
-use Rattle.libc.proofs.read.Reads as read-reads
 
 within : (l : List ℕ) (a n : ℕ) → n ≤ length (take (length l - a) (drop a l)) → n ≤ length l - a
 within l a n h =
@@ -25,75 +22,57 @@ Inv-loop fd buf₀ len₀ buf len = (len ≤ length buf) × (length buf ≡ leng
 abbrev μ-loop : tie.MeasureT-loop
 μ-loop fd buf₀ len₀ buf len = length buf - len
 
--- src/lib.rt:38:5
 loop-holds : tie.Need-loop-holds Inv-loop μ-loop
 loop-holds c = (omega arith, refl)
 
--- src/lib.rt:39:34
 sub-read : tie.Need-sub-read Inv-loop μ-loop
 sub-read c = search needs
 
--- src/lib.rt:39:34
 part-read-start : tie.Need-part-read-start Inv-loop μ-loop
 part-read-start c = search needs
 
--- src/lib.rt:39:34
 part-read-end : tie.Need-part-read-end Inv-loop μ-loop
 part-read-end c = search needs
 
--- src/lib.rt:39:13
 read-requires : tie.Need-read-requires Inv-loop μ-loop
 read-requires c κs = search needs
 
--- src/lib.rt:41:13
 same-length : tie.Need-same-length Inv-loop μ-loop
 same-length c = search needs ∙ c .before .before .before .before .before .before .loop .inv .1
 
--- src/lib.rt:41:13
 returns : tie.Need-returns Inv-loop μ-loop
 returns c = let k : length (putMid (c .before .before .before .before .before .before .loop .len) (length (c .before .before .before .before .before .before .loop .buf) - c .before .before .before .before .before .before .loop .len) (c .before .before .before .before .before .before .loop .buf) (c .before .before .before .read .last .1 .0)) ≡ length (c .before .before .before .before .before .before .loop .buf) = search needs in omega (arith, k)
 
--- src/lib.rt:43:35
 sub-count : tie.Need-sub-count Inv-loop μ-loop
 sub-count c = search needs
 
--- src/lib.rt:43:35
 part-count-start : tie.Need-part-count-start Inv-loop μ-loop
 part-count-start c = search needs
 
--- src/lib.rt:43:35
 part-count-end : tie.Need-part-count-end Inv-loop μ-loop
 part-count-end c = search needs
 
--- src/lib.rt:43:13
 count-requires : tie.Need-count-requires Inv-loop μ-loop
 count-requires c κs = search needs
 
--- src/lib.rt:45:13
 same-length-2 : tie.Need-same-length-2 Inv-loop μ-loop
 same-length-2 c = search needs ∙ c .before .before .before .before .before .before .before .before .before .before .loop .inv .1
 
--- src/lib.rt:45:13
 returns-2 : tie.Need-returns-2 Inv-loop μ-loop
 returns-2 c = let k : length (putMid (c .before .before .before .before .before .before .before .before .before .before .loop .len) (length (c .before .before .before .before .before .before .before .before .before .before .loop .buf) - c .before .before .before .before .before .before .before .before .before .before .loop .len) (c .before .before .before .before .before .before .before .before .before .before .loop .buf) (c .before .before .before .before .before .before .before .read .last .1 .0)) ≡ length (c .before .before .before .before .before .before .before .before .before .before .loop .buf) = search needs in omega (arith, k)
 
--- src/lib.rt:47:9
 add-len : tie.Need-add-len Inv-loop μ-loop
 add-len c = let k : length (putMid (c .before .before .before .before .before .before .before .before .before .before .loop .len) (length (c .before .before .before .before .before .before .before .before .before .before .loop .buf) - c .before .before .before .before .before .before .before .before .before .before .loop .len) (c .before .before .before .before .before .before .before .before .before .before .loop .buf) (c .before .before .before .before .before .before .before .read .last .1 .0)) ≡ length (c .before .before .before .before .before .before .before .before .before .before .loop .buf) = search needs in let m : c .before .count .result ≤ length (putMid (c .before .before .before .before .before .before .before .before .before .before .loop .len) (length (c .before .before .before .before .before .before .before .before .before .before .loop .buf) - c .before .before .before .before .before .before .before .before .before .before .loop .len) (c .before .before .before .before .before .before .before .before .before .before .loop .buf) (c .before .before .before .before .before .before .before .read .last .1 .0)) - c .before .before .before .before .before .before .before .before .before .before .loop .len = within (putMid (c .before .before .before .before .before .before .before .before .before .before .loop .len) (length (c .before .before .before .before .before .before .before .before .before .before .loop .buf) - c .before .before .before .before .before .before .before .before .before .before .loop .len) (c .before .before .before .before .before .before .before .before .before .before .loop .buf) (c .before .before .before .before .before .before .before .read .last .1 .0)) (c .before .before .before .before .before .before .before .before .before .before .loop .len) (c .before .count .result) (c .before .count .ensures .0 .0) in omega (arith, k, m)
 
--- src/lib.rt:38:5
 loop-less : tie.Need-loop-less Inv-loop μ-loop
 loop-less c = let k : length (putMid (c .before .before .before .before .before .before .before .before .before .before .loop .len) (length (c .before .before .before .before .before .before .before .before .before .before .loop .buf) - c .before .before .before .before .before .before .before .before .before .before .loop .len) (c .before .before .before .before .before .before .before .before .before .before .loop .buf) (c .before .before .before .before .before .before .before .read .last .1 .0)) ≡ length (c .before .before .before .before .before .before .before .before .before .before .loop .buf) = search needs in let m : c .before .count .result ≤ length (putMid (c .before .before .before .before .before .before .before .before .before .before .loop .len) (length (c .before .before .before .before .before .before .before .before .before .before .loop .buf) - c .before .before .before .before .before .before .before .before .before .before .loop .len) (c .before .before .before .before .before .before .before .before .before .before .loop .buf) (c .before .before .before .before .before .before .before .read .last .1 .0)) - c .before .before .before .before .before .before .before .before .before .before .loop .len = within (putMid (c .before .before .before .before .before .before .before .before .before .before .loop .len) (length (c .before .before .before .before .before .before .before .before .before .before .loop .buf) - c .before .before .before .before .before .before .before .before .before .before .loop .len) (c .before .before .before .before .before .before .before .before .before .before .loop .buf) (c .before .before .before .before .before .before .before .read .last .1 .0)) (c .before .before .before .before .before .before .before .before .before .before .loop .len) (c .before .count .result) (c .before .count .ensures .0 .0) in omega (arith, k, m)
 
--- src/lib.rt:38:5
 loop-again : tie.Need-loop-again Inv-loop μ-loop
 loop-again c = let k : length (putMid (c .before .before .before .before .before .before .before .before .before .before .loop .len) (length (c .before .before .before .before .before .before .before .before .before .before .loop .buf) - c .before .before .before .before .before .before .before .before .before .before .loop .len) (c .before .before .before .before .before .before .before .before .before .before .loop .buf) (c .before .before .before .before .before .before .before .read .last .1 .0)) ≡ length (c .before .before .before .before .before .before .before .before .before .before .loop .buf) = search needs in let m : c .before .count .result ≤ length (putMid (c .before .before .before .before .before .before .before .before .before .before .loop .len) (length (c .before .before .before .before .before .before .before .before .before .before .loop .buf) - c .before .before .before .before .before .before .before .before .before .before .loop .len) (c .before .before .before .before .before .before .before .before .before .before .loop .buf) (c .before .before .before .before .before .before .before .read .last .1 .0)) - c .before .before .before .before .before .before .before .before .before .before .loop .len = within (putMid (c .before .before .before .before .before .before .before .before .before .before .loop .len) (length (c .before .before .before .before .before .before .before .before .before .before .loop .buf) - c .before .before .before .before .before .before .before .before .before .before .loop .len) (c .before .before .before .before .before .before .before .before .before .before .loop .buf) (c .before .before .before .before .before .before .before .read .last .1 .0)) (c .before .before .before .before .before .before .before .before .before .before .loop .len) (c .before .count .result) (c .before .count .ensures .0 .0) in (omega (arith, k, m), k ∙ c .before .before .before .before .before .before .before .before .before .before .loop .inv .1)
 
--- src/lib.rt:34:1
 same-length-3 : tie.Need-same-length-3 Inv-loop μ-loop
 same-length-3 c = c .before .loop .inv .1
 
--- src/lib.rt:34:1
 returns-3 : tie.Need-returns-3 Inv-loop μ-loop
 returns-3 c = c .before .loop .inv .0
 

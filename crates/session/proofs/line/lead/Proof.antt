@@ -7,18 +7,13 @@ use native.Mathlib.Omega.{arith}
 use Rattle.session.proofs.Texts.{led-one}
 use Rattle.session.proofs.line.lead.Statement.{statement}
 use Rattle.session.proofs.line.lead.Tie as tie
-use Rattle.session.proofs.line.lead.Reads as reads
-use Rattle.session.proofs.line.lead.Lts as lts
 
--- src/line.rt:18:16
 sub-from : tie.Need-sub-from
 sub-from c = search needs
 
--- src/line.rt:19:5
 array-write-bytes : tie.Need-array-write-bytes
 array-write-bytes c = search needs
 
--- src/line.rt:12:1
 returns : tie.Need-returns
 returns c = let l : length (c .before .before .args .text .bytes) ≡ 32 = let g = c .before .before .good .0 in search (length-under, g) in led-one (c .before .before .args .text) (c .before .before .args .byte) (c .before .before .args .text .from - 1) (omega arith) (omega arith)
 

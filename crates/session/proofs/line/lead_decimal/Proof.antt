@@ -3,10 +3,6 @@ use native.Mathlib.Omega.{arith}
 use Rattle.session.proofs.Texts.{Spelt, spelt-none, spelt-more, spelt-all, spelt-room, spelt-within}
 use Rattle.session.proofs.line.lead_decimal.Statement.{statement}
 use Rattle.session.proofs.line.lead_decimal.Tie as tie
-use Rattle.session.proofs.line.lead_decimal.Reads as reads
-use Rattle.session.proofs.line.lead_decimal.Lts as lts
-use Rattle.session.proofs.line.digit.Reads as digit-reads
-use Rattle.session.proofs.line.lead.Reads as lead-reads
 
 abbrev Inv-loop : tie.InvT-loop
 Inv-loop n whole₀ rest₀ whole rest = (rest ≤ n) × Spelt n rest whole₀ whole
@@ -14,35 +10,27 @@ Inv-loop n whole₀ rest₀ whole rest = (rest ≤ n) × Spelt n rest whole₀ w
 abbrev μ-loop : tie.MeasureT-loop
 μ-loop n whole₀ rest₀ whole rest = rest
 
--- src/line.rt:38:5
 loop-holds : tie.Need-loop-holds Inv-loop μ-loop
 loop-holds c = (omega arith, spelt-none (c .args .n) (c .args .text))
 
--- src/line.rt:39:13
 digit-requires : tie.Need-digit-requires Inv-loop μ-loop
 digit-requires c κs = omega arith
 
--- src/line.rt:40:13
 lead-requires : tie.Need-lead-requires Inv-loop μ-loop
 lead-requires c κs = (spelt-room _ _ _ _ (c .before .before .before .pre .0) (c .before .before .loop .inv .1), let w = spelt-within _ _ _ _ (c .before .before .loop .inv .1) in omega (arith, w))
 
--- src/line.rt:38:5
 loop-less : tie.Need-loop-less Inv-loop μ-loop
 loop-less c = omega arith
 
--- src/line.rt:38:5
 loop-again : tie.Need-loop-again Inv-loop μ-loop
 loop-again c = (omega arith, spelt-more _ _ _ _ _ _ (c .before .before .loop-test .taken) (c .before .digit .ensures) (c .before .before .before .loop .inv .1) (c .lead .ensures))
 
--- src/line.rt:44:17
 digit-requires-2 : tie.Need-digit-requires-2 Inv-loop μ-loop
 digit-requires-2 c κs = omega arith
 
--- src/line.rt:44:5
 lead-requires-2 : tie.Need-lead-requires-2 Inv-loop μ-loop
 lead-requires-2 c κs = (spelt-room _ _ _ _ (c .before .before .before .pre .0) (c .before .before .loop .inv .1), let w = spelt-within _ _ _ _ (c .before .before .loop .inv .1) in omega (arith, w))
 
--- src/line.rt:31:1
 returns : tie.Need-returns Inv-loop μ-loop
 returns c = spelt-all _ _ _ _ _ _ (c .before .before .loop-test .left) (c .before .digit2 .ensures) (c .before .before .before .loop .inv .1) (c .lead2 .ensures)
 

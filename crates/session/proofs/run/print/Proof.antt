@@ -4,48 +4,34 @@ use Rattle.session.proofs.Sessions.{print-fits}
 use borrow.Author.Needs.{needs}
 use Rattle.session.proofs.run.print.Statement.{statement}
 use Rattle.session.proofs.run.print.Tie as tie
-use Rattle.session.proofs.run.print.Reads as reads
-use Rattle.session.proofs.run.print.Lts as lts
-use Rattle.session.proofs.run.lines.Reads as lines-reads
-use Rattle.session.proofs.run.print_counted.Reads as print-counted-reads
 
--- src/run.rt:157:9
 print-counted-requires : tie.Need-print-counted-requires
 print-counted-requires c κs = search needs
 
--- src/run.rt:157:9
 same-length : tie.Need-same-length
 same-length c = search needs
 
--- src/run.rt:157:9
 returns : tie.Need-returns
 returns c = search needs
 
--- src/run.rt:159:20
 mul-if2 : tie.Need-mul-if2
 mul-if2 c = search needs
 
--- src/run.rt:160:9
 print-counted-requires-2 : tie.Need-print-counted-requires-2
 print-counted-requires-2 c κs = search needs
 
--- src/run.rt:160:9
 same-length-2 : tie.Need-same-length-2
 same-length-2 c = search needs
 
--- src/run.rt:160:9
 returns-2 : tie.Need-returns-2
 returns-2 c = search needs
 
--- src/run.rt:162:5
 lines-requires : tie.Need-lines-requires
 lines-requires c κs = search needs
 
--- src/run.rt:152:1
 same-length-3 : tie.Need-same-length-3
 same-length-3 c = search needs
 
--- src/run.rt:152:1
 returns-3 : tie.Need-returns-3
 returns-3 c = print-fits (linesRead (c .before .before .before .before .before .before .before .before .args .input .now)) (c .before .before .before .before .before .before .before .before .args .out .now) (c .before .before .lines .result) _ (c .before .before .lines .ensures .0) (c .before .before .lines .ensures .1 (length (c .before .before .before .before .before .before .before .before .args .out .now)) (c .before .before .before .before .before .if1 .left) (c .before .before .before .before .if2 .left))
 

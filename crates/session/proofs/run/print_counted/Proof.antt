@@ -4,31 +4,22 @@ use Rattle.session.proofs.Sessions.{print-fits, print-not}
 use borrow.Author.Needs.{needs}
 use Rattle.session.proofs.run.print_counted.Statement.{statement}
 use Rattle.session.proofs.run.print_counted.Tie as tie
-use Rattle.session.proofs.run.print_counted.Reads as reads
-use Rattle.session.proofs.run.print_counted.Lts as lts
-use Rattle.session.proofs.run.lines.Reads as lines-reads
 
--- src/run.rt:143:37
 slice-aggregate-lines : tie.Need-slice-aggregate-lines
 slice-aggregate-lines c = search needs
 
--- src/run.rt:143:9
 lines-requires : tie.Need-lines-requires
 lines-requires c κs = search needs
 
--- src/run.rt:145:9
 returns : tie.Need-returns
 returns c = print-not (linesRead (c .before .before .before .before .before .before .args .input .now)) (c .before .before .before .before .before .before .args .out .now) (c .before .before .lines .result) (c .before .before .lines .ensures .0 .ends) (c .if1 .taken)
 
--- src/run.rt:147:5
 lines-requires-2 : tie.Need-lines-requires-2
 lines-requires-2 c κs = search needs
 
--- src/run.rt:138:1
 same-length : tie.Need-same-length
 same-length c = search needs
 
--- src/run.rt:138:1
 returns-2 : tie.Need-returns-2
 returns-2 c = print-fits (linesRead (c .before .before .before .before .before .before .before .before .before .before .args .input .now)) (c .before .before .before .before .before .before .before .before .before .before .args .out .now) (c .before .before .lines2 .result) _ (c .before .before .lines2 .ensures .0) (let e = c .before .before .lines2 .ensures .0 .ends in let e₂ = c .before .before .before .before .before .before .lines .ensures .0 .ends in omega (arith, e, e₂))
 

@@ -6,36 +6,26 @@ use Rattle.session.specs.Session.{linesOf}
 use borrow.Author.Needs.{needs}
 use Rattle.session.proofs.run.session.Statement.{statement}
 use Rattle.session.proofs.run.session.Tie as tie
-use Rattle.session.proofs.run.session.Reads as reads
-use Rattle.session.proofs.run.session.Lts as lts
-use Rattle.session.proofs.run.print.Reads as print-reads
 
--- src/run.rt:170:9
 print-requires : tie.Need-print-requires
 print-requires c κs = search needs
 
--- src/run.rt:170:9
 same-length : tie.Need-same-length
 same-length c = search needs
 
--- src/run.rt:170:9
 returns : tie.Need-returns
 unfolding linesOf
 returns c = rw (take-all 32768 (c .before .before .before .before .before .before .before .args .input .now) (c .before .before .before .before .if1 .taken)) (c .before .before .print .ensures)
 
--- src/run.rt:172:20
 slice-aggregate-print : tie.Need-slice-aggregate-print
 slice-aggregate-print c = sym (length-take-le 32768 (c .before .before .before .before .args .input .now) (omega arith))
 
--- src/run.rt:172:5
 print-requires-2 : tie.Need-print-requires-2
 print-requires-2 c κs = let l : length (take 32768 (c .before .before .before .before .before .args .input .now)) ≡ 32768 = length-take-le 32768 (c .before .before .before .before .before .args .input .now) (omega arith) in omega (arith, l)
 
--- src/run.rt:166:1
 same-length-2 : tie.Need-same-length-2
 same-length-2 c = search needs
 
--- src/run.rt:166:1
 returns-2 : tie.Need-returns-2
 unfolding linesOf
 returns-2 c = c .before .before .print2 .ensures

@@ -6,39 +6,28 @@ use Rattle.session.proofs.Sessions.{take-zeroed, laid-zeroed}
 use borrow.Author.Needs.{needs}
 use Rattle.session.proofs.run.started.Statement.{statement}
 use Rattle.session.proofs.run.started.Tie as tie
-use Rattle.session.proofs.run.started.Reads as reads
-use Rattle.session.proofs.run.started.Lts as lts
-use Rattle.session.proofs.run.commands.Reads as commands-reads
 
--- src/run.rt:94:13
 mul-n : tie.Need-mul-n
 mul-n c = search needs
 
--- src/run.rt:99:9
 array-borrow-prefix-cells : tie.Need-array-borrow-prefix-cells
 array-borrow-prefix-cells c = search needs
 
--- src/run.rt:99:9
 slice-aggregate-commands : tie.Need-slice-aggregate-commands
 slice-aggregate-commands c = sym (ap length (take-zeroed (16 * c .before .before .before .args .f) 2048 (omega arith)) ∙ length-replicate (16 * c .before .before .before .args .f) 0)
 
--- src/run.rt:100:9
 array-borrow-prefix-tags : tie.Need-array-borrow-prefix-tags
 array-borrow-prefix-tags c = search needs
 
--- src/run.rt:100:9
 slice-aggregate-commands-2 : tie.Need-slice-aggregate-commands-2
 slice-aggregate-commands-2 c = sym (ap length (take-zeroed (16 * c .before .before .before .before .args .f) 2048 (omega arith)) ∙ length-replicate (16 * c .before .before .before .before .args .f) 0)
 
--- src/run.rt:95:5
 commands-requires : tie.Need-commands-requires
 commands-requires c κs = search needs
 
--- src/run.rt:76:1
 same-length : tie.Need-same-length
 same-length c = search needs
 
--- src/run.rt:76:1
 returns : tie.Need-returns
 returns c = (laid-zeroed (c .before .before .before .before .before .before .before .before .before .before .args .f) (c .before .before .before .before .before .before .before .before .before .before .args .input .now) (c .before .before .before .before .before .before .before .before .before .before .args .start) (c .before .before .before .before .before .before .before .before .before .before .args .begin) (c .before .before .before .before .before .before .before .before .before .before .args .out .now) (c .before .before .before .before .commands .result) _ _ (take-zeroed (16 * c .before .before .before .before .before .before .before .before .before .before .args .f) 2048 (omega arith)) (c .before .before .before .before .commands .ensures .0), c .before .before .before .before .commands .ensures .1)
 

@@ -7,33 +7,24 @@ use lib.Seq.{take-all}
 use Rattle.pages.proofs.Arrays.{length-under}
 use Rattle.session.specs.Laid.{Laid}
 use borrow.Author.Needs.{needs}
-use Rattle.session.proofs.line.put.Statement.{statement}
-use Rattle.session.proofs.line.put.Tie as tie
-use Rattle.session.proofs.line.put.Reads as reads
-use Rattle.session.proofs.line.put.Lts as lts
-use Rattle.session.proofs.line.place.Reads as place-reads
+use Rattle.session.proofs.run.put.Statement.{statement}
+use Rattle.session.proofs.run.put.Tie as tie
 
--- src/line.rt:92:11
 sub-place : tie.Need-sub-place
 sub-place c = search needs
 
--- src/line.rt:92:11
 part-place-start : tie.Need-part-place-start
 part-place-start c = search needs
 
--- src/line.rt:92:11
 part-place-end : tie.Need-part-place-end
 part-place-end c = let l : length (c .before .before .before .args .text .bytes) ≡ 32 = let g = c .before .before .before .good .0 in search (length-under, g) in search (needs, l)
 
--- src/line.rt:92:5
 place-requires : tie.Need-place-requires
 place-requires c κs = search needs
 
--- src/line.rt:85:1
 same-length : tie.Need-same-length
 same-length c = search needs
 
--- src/line.rt:85:1
 returns : tie.Need-returns
 returns c = let l : length (c .before .before .before .before .before .before .before .before .args .text .bytes) ≡ 32 = let g = c .before .before .before .before .before .before .before .before .good .0 in search (length-under, g) in subst (λ (x : List ℕ). Laid x (c .before .before .before .before .before .before .before .before .args .at) (c .before .before .before .before .before .before .before .before .args .out .now) (c .before .before .place .result) (c .before .before .place .last .1 .1 .0)) (take-all (32 - c .before .before .before .before .before .before .before .before .args .text .from) (drop (c .before .before .before .before .before .before .before .before .args .text .from) (c .before .before .before .before .before .before .before .before .args .text .bytes)) (simp length-drop (omega arith))) (c .before .before .place .ensures)
 
