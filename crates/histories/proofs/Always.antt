@@ -1,28 +1,26 @@
 -- A start has the invariant, a step keeps it, so every history has it. Assumes nothing.
-use Prim.Native.Nat.{ℕ, _+_, _*_, _/_, _%_, _<_, _≤_}
+use Prim.Native.Nat.{ℕ, _/_}
 use native.Mathlib.Omega.{arith}
-use mathlib.Core.Bool.{Bool, true, false, false≢true}
+use mathlib.Core.Bool.{Bool, true, false}
 use mathlib.Core.List.{List, [], _∷_}
-use mathlib.Core.Logic.{_⊎_, inl, inr, ⊎-elim}
+use mathlib.Core.Logic.{⊎-elim}
 use mathlib.Core.Path.{_≡_, refl, sym, ap, subst, _∙_}
 use borrow.Author.Tests.{ltb-true, ltb-false}
 use lib.Dec.{ltb}
-use lib.ListN.{length, getD, replicate, getD-replicate, length-replicate, List·getD-eq-default}
+use lib.ListN.{getD, replicate, getD-replicate, length-replicate, List·getD-eq-default}
 use Rattle.calls.specs.declared.Call.{Call}
 use Rattle.pages.specs.declared.FrameState.the-variants.{Dirty, Free}
-use Rattle.pages.specs.declared.Frame.{Frame}
 use Rattle.pages.specs.declared.PageState.the-variants.{Unmapped, Mapped}
-use Rattle.pages.specs.declared.Place.the-variants.{At, Nowhere}
+use Rattle.pages.specs.declared.Place.the-variants.{At}
 use Rattle.pages.specs.Entries.{pageEntry, frameEntry}
 use Rattle.pages.specs.Layer.{pageAt, frameAt, freshOf, inRange, blank}
 use Rattle.pages.specs.Lists.{pick}
 use Rattle.pages.specs.Mapping.{lookupOf}
 use Rattle.reservations.specs.Revocation.{freshCore}
-use Rattle.machine.specs.declared.Slot.{Slot}
 use Rattle.machine.specs.Formed.{fresh, startOf}
 use Rattle.machine.specs.Words.{empty}
-use Rattle.histories.specs.Runs.{Machine, machine, next, run, begun, Begins, Reached}
-use Rattle.histories.specs.Inv.{Sound, Memory, Inv}
+use Rattle.histories.specs.Runs.{Machine, next, run, begun, Reached}
+use Rattle.histories.specs.Inv.{Sound, Inv}
 use Rattle.histories.proofs.View.{seen, shown-by}
 use Rattle.histories.proofs.Keep.{none-sound}
 use Rattle.histories.proofs.Granted.{went-or-not, went-next, went-core, went-cells, went-tags}

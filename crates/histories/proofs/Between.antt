@@ -1,11 +1,11 @@
 -- Lent once, second half: a lent range stays within one lent reservation until a collect that covers it. Assumes nothing.
 use Prim.Native.Nat.{ℕ, suc, _+_, _*_, _<_, _≤_}
 use native.Mathlib.Omega.{arith}
-use mathlib.Core.Bool.{Bool, true, false, _&&_, _||_, true≢false}
-use mathlib.Core.List.{List, [], _∷_, _++_}
+use mathlib.Core.Bool.{Bool, true, false, true≢false, _||_}
+use mathlib.Core.List.{List, [], _∷_}
 use mathlib.Core.Logic.{_⊎_, inl, inr, ⊎-elim}
 use mathlib.Core.Path.{_≡_, refl, sym, ap, subst, _∙_}
-use lib.ListN.{length, getD}
+use lib.ListN.{length}
 use Rattle.calls.specs.declared.Call.{Call}
 use Rattle.calls.specs.declared.Call.the-variants.{Take, Split, Merge, Give, Revoke, Sweep, Collect, Map, Unmap, Zero, Load, Store, Narrow, Number, Grant, Receive}
 use Rattle.pages.specs.declared.Range.{Range}
@@ -17,7 +17,7 @@ use Rattle.reservations.specs.declared.ReservationState.the-variants.{Taken}
 use Rattle.reservations.specs.declared.Table.{Table}
 use Rattle.reservations.specs.Find.{rowOf, findOf}
 use Rattle.reservations.specs.Operations.{takeReasons, takeOf, takenRow, splitReasons, splitOf, mergeReasons, mergeOf, giveReasons, giveOf}
-use Rattle.reservations.specs.Revocation.{revoked, revokeReasons, revokeOf, collectOf, coreSound}
+use Rattle.reservations.specs.Revocation.{revoked, revokeReasons, revokeOf, coreSound}
 use Rattle.reservations.specs.Rows.{isOpen, live, rangeOf, reservation}
 use Rattle.reservations.proofs.After.{take-after, split-after, merge-after, give-after}
 use Rattle.reservations.proofs.Answers.{split-clear, split-fits}
@@ -31,11 +31,11 @@ use Rattle.machine.specs.declared.State.{State}
 use Rattle.machine.specs.Effects.{effect}
 use Rattle.machine.specs.Reasons.{reasons, unnamed, notManager}
 use Rattle.machine.specs.Step.{done, reasonsOn, effectOn}
-use Rattle.histories.specs.Runs.{Machine, Granted, next, run, Reached}
+use Rattle.histories.specs.Runs.{Machine, Granted, next, run}
 use Rattle.histories.specs.Inv.{rowAt}
 use Rattle.histories.specs.Lending.{lentRange, Ended, EndedBetween}
-use Rattle.histories.proofs.Table.{Around, Opened, Carried, inside-wider, take-carried, give-carried, split-carried, merge-carried, revoke-carried, collect-kept}
-use Rattle.histories.proofs.Granted.{handed, Went, went, went-or-not, went-next, went-core}
+use Rattle.histories.proofs.Table.{Around, Carried, inside-wider, take-carried, give-carried, split-carried, merge-carried, revoke-carried, collect-kept}
+use Rattle.histories.proofs.Granted.{Went, went, went-or-not, went-next, went-core}
 use Rattle.histories.proofs.Calls.{Ends, row-first}
 use Rattle.histories.proofs.Lending.{Lends, lends}
 use Rattle.histories.proofs.Survivors.{collect-core, collect-ends}
@@ -122,7 +122,7 @@ pub record Ending (m : Machine) (c : Call) (r : Reservation) : Type 0 where
   pub from : revoked (m .state .core) .base ≤ r .base
   pub upto : r .base + r .length ≤ revoked (m .state .core) .base + revoked (m .state .core) .length
 
-done-table : (m : Machine) (c : Call) → Went m c → next m c .state .core .table ≡ effectOn (m .state) c .core .table
+pub done-table : (m : Machine) (c : Call) → Went m c → next m c .state .core .table ≡ effectOn (m .state) c .core .table
 unfolding done
 done-table m c w = ap (λ n. n .state .core .table) (went-next m c w)
 
@@ -174,7 +174,7 @@ step-lent m c r a =
     (call-carried (m .state) (went-core m c w) c (w .clear)))
     (λ n. inl (subst (λ x. Around (x .state .core .table) r) (sym (n .0)) a)) (went-or-not m c)
 
-went-granted : (m : Machine) (c : Call) → Went m c → Granted m c
+pub went-granted : (m : Machine) (c : Call) → Went m c → Granted m c
 unfolding done
 went-granted m c w = ap (λ o. o .answer .code) (w .now)
 

@@ -1,13 +1,13 @@
 -- Each call's effect keeps the invariant. Assumes nothing.
 use Prim.Native.Nat.{ℕ, suc, _+_, _*_, _/_, _%_, _<_, _≤_}
 use native.Mathlib.Omega.{arith}
-use mathlib.Core.Bool.{Bool, true, false, not, _&&_, _||_, true≢false, false≢true}
+use mathlib.Core.Bool.{Bool, true, false, not, _&&_, true≢false, false≢true, _||_}
 use mathlib.Core.List.{List, [], _∷_, _++_, map}
-use mathlib.Core.Logic.{_⊎_, inl, inr, ⊎-elim}
+use mathlib.Core.Logic.{inl, inr, ⊎-elim}
 use mathlib.Core.Path.{_≡_, refl, sym, ap, subst, _∙_}
-use borrow.Author.Tests.{eqb-true, eqb-false, eq-eqb, ltb-true, ltb-false, leb-true, leb-false, not-true, not-false}
+use borrow.Author.Tests.{eqb-true, eqb-false, eq-eqb, ltb-false, leb-false, not-true, not-false}
 use lib.Bits.{bitAnd, and-le-l}
-use lib.Dec.{eqb, ltb, leb}
+use lib.Dec.{eqb, ltb}
 use lib.ListN.{length, getD, set, take, drop}
 use Rattle.calls.specs.declared.Call.{Call}
 use Rattle.calls.specs.declared.Call.the-variants.{Take, Split, Merge, Give, Revoke, Sweep, Collect, Map, Unmap, Zero, Load, Store, Narrow, Number, Grant, Receive}
@@ -23,7 +23,7 @@ use Rattle.pages.specs.Entries.{isDirty}
 use Rattle.pages.specs.Layer.{frameAt}
 use Rattle.pages.specs.Freed.{allFreed}
 use Rattle.pages.specs.Range.{inside}
-use Rattle.pages.specs.Refusals.{Reason, reason, first}
+use Rattle.pages.specs.Refusals.{first}
 use Rattle.pages.proofs.AllFreed.{freed-none-mapped}
 use Rattle.pages.proofs.Capabilities.{made-base, made-length, made-permissions, made-small}
 use Rattle.pages.proofs.Choice.{pick-yes, and-left, and-right, or-false}
@@ -36,13 +36,13 @@ use Rattle.reservations.specs.declared.Found.{Found}
 use Rattle.reservations.specs.declared.Found.the-variants.{At as Row, Nowhere as NoRow}
 use Rattle.reservations.specs.declared.Reservation.{Reservation}
 use Rattle.reservations.specs.declared.Table.{Table}
-use Rattle.reservations.specs.Find.{findOf, rowOf, withRow, revokingOf, missing, begins}
-use Rattle.reservations.specs.Operations.{takeReasons, takeOf, takenRow, splitReasons, splitOf, lowerPart, upperPart, badSplit, mergeReasons, mergeOf, joined, giveReasons, giveOf, givenRow}
-use Rattle.reservations.specs.Revocation.{core, running, revoked, dying, wholePages, revokeReasons, revokeReasonsAt, revokeAt, revokeOf, collectReasons, collectedRow, collected, collectOf, coreSound, revocationSound}
+use Rattle.reservations.specs.Find.{findOf, rowOf, withRow, revokingOf, missing}
+use Rattle.reservations.specs.Operations.{takeReasons, takeOf, takenRow, splitReasons, splitOf, lowerPart, upperPart, mergeReasons, mergeOf, joined, giveReasons, giveOf, givenRow}
+use Rattle.reservations.specs.Revocation.{core, running, revoked, dying, wholePages, revokeReasons, revokeAt, revokeOf, collectReasons, collectedRow, collected, collectOf, coreSound, revocationSound}
 use Rattle.reservations.specs.Rows.{isOpen, isRevoking, held, blank, live, rangeOf}
 use Rattle.reservations.proofs.After.{Replaced, take-after, give-after, split-after, merge-after}
 use Rattle.reservations.proofs.Answers.{split-clear, split-fits}
-use Rattle.reservations.proofs.Cells.{inside-bounds, inside-made, no-shared-cell}
+use Rattle.reservations.proofs.Cells.{inside-made, no-shared-cell}
 use Rattle.reservations.proofs.CoreAfter.{revoke-after, dying-inside}
 use Rattle.reservations.proofs.CoreKept.{CoreFacts, core-facts, with-live}
 use Rattle.reservations.proofs.Dying.{dyings}
@@ -54,16 +54,15 @@ use Rattle.reservations.proofs.Tiled.{tiled-row, tiled-next, tiled-fits, row-so
 use Rattle.reservations.proofs.Truth.{and-yes}
 use Rattle.machine.specs.declared.Slot.{Slot}
 use Rattle.machine.specs.declared.State.{State}
-use Rattle.machine.specs.Words.{slot, empty, named, registerOf, mailboxOf, keepTag, wordAt, byteOf, stored, collectedRegister, collectedMailbox}
-use Rattle.machine.specs.Reasons.{reasons, reads, addressed, nowhere, unnamed, notManager, mayNotLoad, mayNotStore, pastEnd, badNarrow}
+use Rattle.machine.specs.Words.{slot, empty, named, registerOf, mailboxOf, keepTag, wordAt, stored, collectedRegister, collectedMailbox}
+use Rattle.machine.specs.Reasons.{reasons, addressed, nowhere, unnamed, notManager, mayNotLoad, mayNotStore, pastEnd, badNarrow}
 use Rattle.machine.specs.Effects.{effect, placeNumber, sweptTo}
-use Rattle.machine.specs.Step.{done, reasonsOn, effectOn, registersAfter, mailboxesAfter, cellsAfter, tagsAfter, wordAfter}
+use Rattle.machine.specs.Step.{done, reasonsOn, effectOn, registersAfter, mailboxesAfter, cellsAfter, tagsAfter}
 use Rattle.histories.specs.Runs.{Machine, machine}
-use Rattle.histories.specs.Live.{Within}
 use Rattle.histories.specs.Inv.{rowAt, Confined, Sound, Memory, Inv}
 use Rattle.histories.proofs.View.{put-each, collected-registers, collected-mailboxes, seen}
-use Rattle.histories.proofs.Table.{Carried, Opened, long, mid-row, take-carried, give-carried, split-carried, merge-carried, revoke-carried, dies-same, dyings-one, dyings-two, open-no-dying, alike-still}
-use Rattle.histories.proofs.Keep.{Blank, none-sound, carried-sound, base-in, place-sound, place-below, keep-table, keep-begun, keep-pages, keep-write, keep-clear, keep-sweep, collect-sound, keep-ended}
+use Rattle.histories.proofs.Table.{Carried, long, mid-row, take-carried, give-carried, split-carried, merge-carried, revoke-carried, dies-same, dyings-one, dyings-two, open-no-dying, alike-still}
+use Rattle.histories.proofs.Keep.{Blank, none-sound, carried-sound, place-sound, place-below, keep-table, keep-begun, keep-pages, keep-write, keep-clear, keep-sweep, collect-sound, keep-ended}
 use Rattle.histories.proofs.Granted.{handed}
 use Rattle.histories.proofs.Layer.{map-done, map-view, map-free, unmap-done, unmap-view, unmap-free, freed-shows, freed-free, released-shows, released-free, none-shown}
 

@@ -1,27 +1,22 @@
 -- Confined; and so nothing live has a cell in an Open range. Assumes nothing.
 use Prim.Native.Nat.{ℕ, _+_, _<_, _≤_}
 use native.Mathlib.Omega.{arith}
-use mathlib.Core.Bool.{Bool, true, false, true≢false, false≢true}
-use mathlib.Core.Path.{_≡_, refl, sym, ap, subst, _∙_}
+use mathlib.Core.Bool.{true, false, true≢false}
+use mathlib.Core.Path.{_≡_, sym, ap, _∙_}
 use borrow.Author.Tests.{eqb-true, not-false}
 use lib.Dec.{eqb}
 use lib.ListN.{length, getD}
-use Rattle.pages.specs.declared.Place.the-variants.{At}
-use Rattle.pages.specs.declared.Range.{Range}
 use Rattle.pages.specs.Capability.{baseOf, lengthOf}
-use Rattle.pages.specs.Mapping.{lookupOf}
 use Rattle.pages.specs.Range.{inside}
 use Rattle.reservations.specs.declared.Table.{Table}
 use Rattle.reservations.specs.Rows.{isOpen, live, rangeOf}
 use Rattle.reservations.specs.Revocation.{coreSound}
-use Rattle.reservations.specs.Tiling.{tableSound}
 use Rattle.reservations.proofs.Cells.{inside-made, no-shared-cell}
 use Rattle.reservations.proofs.CoreKept.{core-facts}
 use Rattle.machine.specs.Words.{empty, tagOf, wordAt}
-use Rattle.histories.specs.Runs.{Machine, Reached}
-use Rattle.histories.specs.Live.{Spot, register, mailbox, virtual, Live, wordIn, Into, NoneInto, Within}
+use Rattle.histories.specs.Runs.{Machine}
+use Rattle.histories.specs.Live.{Spot, register, mailbox, virtual, Live, wordIn, NoneInto}
 use Rattle.histories.specs.Inv.{rowAt, Confined, Inv}
-use Rattle.histories.specs.Crossing.{Zeros}
 use Rattle.histories.specs.Confining.{LiveIsConfined, OpenIsZero, TagsAreBits}
 use Rattle.histories.proofs.View.{shown-at, word-cell, word-tag}
 use Rattle.histories.proofs.Always.{inv-reached}

@@ -1,25 +1,22 @@
 -- Nothing crosses over. Assumes nothing.
 use Prim.Native.Nat.{ℕ, _+_, _*_, _<_}
 use native.Mathlib.Omega.{arith}
-use mathlib.Core.Path.{_≡_, refl, sym, ap, subst, _∙_}
-use lib.ListN.{getD}
+use mathlib.Core.Path.{_≡_, sym, ap, subst, _∙_}
 use Rattle.calls.specs.declared.Call.the-variants.{Map}
 use Rattle.pages.specs.declared.Frame.{Frame}
 use Rattle.pages.specs.declared.VirtualPage.{VirtualPage}
-use Rattle.pages.specs.declared.Place.the-variants.{At}
 use Rattle.pages.specs.Mapping.{lookupOf, mapReasons}
 use Rattle.pages.specs.Refusals.{first}
 use Rattle.pages.proofs.Formed.{sound as layered}
-use Rattle.pages.proofs.Kept.{Mappable, mappable}
+use Rattle.pages.proofs.Kept.{mappable}
 use Rattle.pages.proofs.Refusals.{first-clear}
 use Rattle.pages.proofs.Shows.{map-shows}
 use Rattle.reservations.proofs.CoreKept.{core-facts}
 use Rattle.machine.specs.Effects.{effect}
 use Rattle.machine.specs.Reasons.{reasons, unnamed, notManager}
 use Rattle.machine.specs.Step.{done, effectOn, registersAfter, mailboxesAfter, cellsAfter, tagsAfter}
-use Rattle.histories.specs.Runs.{Machine, Granted, next, Reached}
-use Rattle.histories.specs.Inv.{Inv}
-use Rattle.histories.specs.Crossing.{Zeros, ShowsZero, MappedIsZero, FreeIsZero}
+use Rattle.histories.specs.Runs.{Machine, Reached}
+use Rattle.histories.specs.Crossing.{ShowsZero, MappedIsZero, FreeIsZero}
 use Rattle.histories.proofs.Granted.{handed, Went, went, went-next, went-core}
 use Rattle.histories.proofs.Layer.{map-done}
 use Rattle.histories.proofs.Always.{inv-reached}

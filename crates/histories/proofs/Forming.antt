@@ -1,12 +1,12 @@
 -- Well-formedness at all times. Assumes nothing.
-use Prim.Native.Nat.{ℕ, _*_, _<_, _≤_}
+use Prim.Native.Nat.{ℕ, _*_, _<_}
 use native.Mathlib.Omega.{arith}
-use mathlib.Core.Bool.{Bool, true, false, _&&_}
+use mathlib.Core.Bool.{Bool, true, false}
 use mathlib.Core.List.{List, [], _∷_}
-use mathlib.Core.Logic.{_⊎_, inl, inr, ⊎-elim}
+use mathlib.Core.Logic.{inl, inr, ⊎-elim}
 use mathlib.Core.Path.{_≡_, refl, sym, ap, subst, _∙_}
 use borrow.Author.Tests.{eq-eqb}
-use lib.Dec.{eqb, ltb, leb}
+use lib.Dec.{eqb}
 use lib.ListN.{length}
 use Rattle.calls.specs.declared.Call.{Call}
 use Rattle.calls.specs.declared.Call.the-variants.{Take, Split, Merge, Give, Revoke, Sweep, Collect, Map, Unmap, Zero, Load, Store, Narrow, Number, Grant, Receive}
@@ -26,12 +26,12 @@ use Rattle.reservations.specs.Revocation.{revokeOf, revokeAt, revokeReasons, co
 use Rattle.reservations.proofs.Truth.{both}
 use Rattle.machine.specs.declared.State.{State}
 use Rattle.machine.specs.Effects.{effect}
-use Rattle.machine.specs.Formed.{wellFormed, startOf, fresh}
+use Rattle.machine.specs.Formed.{startOf, fresh}
 use Rattle.machine.specs.Step.{done, reasonsOn, effectOn, stepOf, judged, ruled}
 use Rattle.machine.proofs.Keeps.{step-keeps, start-formed}
 use Rattle.machine.proofs.Lengths.{step-sized}
 use Rattle.machine.proofs.Lowest.{first-within, reasons-rise, ruled-code}
-use Rattle.histories.specs.Runs.{Machine, machine, outcome, next, run, begun, Begins, Reached}
+use Rattle.histories.specs.Runs.{Machine, outcome, next, run, begun, Begins}
 use Rattle.histories.specs.Forming.{Standing, AlwaysFormed, NeverUnformed}
 use Rattle.histories.proofs.Granted.{handed, went-or-not, went-next}
 

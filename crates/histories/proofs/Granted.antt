@@ -2,9 +2,8 @@
 use Prim.Native.Nat.{ℕ, _*_}
 use native.Mathlib.Omega.{arith}
 use mathlib.Core.Bool.{Bool, true, false, _&&_}
-use mathlib.Core.List.{List}
 use mathlib.Core.Logic.{_⊎_, inl, inr, ⊎-elim}
-use mathlib.Core.Path.{_≡_, refl, sym, ap, _∙_}
+use mathlib.Core.Path.{_≡_, refl, ap}
 use borrow.Author.Tests.{eqb-true, eqb-false}
 use lib.Dec.{eqb}
 use lib.ListN.{length}
@@ -12,11 +11,8 @@ use Rattle.calls.specs.declared.Call.{Call}
 use Rattle.pages.specs.Layer.{serves}
 use Rattle.pages.specs.Refusals.{first}
 use Rattle.pages.proofs.Choice.{and-left}
-use Rattle.pages.proofs.Formed.{Sound as Layered, sound as layered}
 use Rattle.pages.proofs.Memory.{served}
 use Rattle.reservations.specs.Revocation.{coreSound}
-use Rattle.reservations.proofs.CoreKept.{CoreFacts, core-facts}
-use Rattle.machine.specs.declared.State.{State}
 use Rattle.machine.specs.Formed.{wellFormed, mailboxesSound, sized}
 use Rattle.machine.specs.Step.{Outcome, done, reasonsOn, effectOn, ruled, judged, stepOf}
 use Rattle.histories.specs.Runs.{Machine, machine, outcome, next, Granted}

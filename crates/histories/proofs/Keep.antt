@@ -2,9 +2,9 @@
 -- revocation begun or ended. Assumes nothing.
 use Prim.Native.Nat.{ℕ, _+_, _*_, _/_, _%_, _<_, _≤_}
 use native.Mathlib.Omega.{arith}
-use mathlib.Core.Bool.{Bool, true, false, not, _&&_, true≢false, false≢true, and-true}
-use mathlib.Core.List.{List, [], _∷_, _++_}
-use mathlib.Core.Logic.{_⊎_, inl, inr, ⊎-elim}
+use mathlib.Core.Bool.{Bool, true, false, false≢true, and-true}
+use mathlib.Core.List.{List, _∷_, _++_}
+use mathlib.Core.Logic.{_⊎_, ⊎-elim}
 use mathlib.Core.Path.{_≡_, refl, sym, ap, subst, _∙_}
 use borrow.Author.Tests.{eqb-true, eqb-false, ltb-true, ltb-false}
 use lib.Dec.{eqb, ltb}
@@ -15,31 +15,29 @@ use Rattle.pages.specs.declared.FrameState.{FrameState}
 use Rattle.pages.specs.declared.FrameState.the-variants.{Dirty, Free, Mapped as Shown}
 use Rattle.pages.specs.declared.Pages.{Pages}
 use Rattle.pages.specs.declared.Place.the-variants.{At, Nowhere}
-use Rattle.pages.specs.declared.Range.{Range}
-use Rattle.pages.specs.Capability.{baseOf, lengthOf}
-use Rattle.pages.specs.Entries.{isShown, frameEntry}
+use Rattle.pages.specs.Capability.{baseOf}
+use Rattle.pages.specs.Entries.{isShown}
 use Rattle.pages.specs.Layer.{frameAt, withFrame}
-use Rattle.pages.specs.Lists.{pick}
 use Rattle.pages.specs.Mapping.{cleared, lookupOf}
 use Rattle.pages.specs.Range.{inside}
 use Rattle.pages.specs.Sweep.{sweptTags, shownAt}
 use Rattle.pages.proofs.Choice.{at-most}
 use Rattle.pages.proofs.Formed.{Sound as Layered}
-use Rattle.pages.proofs.Sweeping.{doomed, length-swept}
+use Rattle.pages.proofs.Sweeping.{length-swept}
 use Rattle.pages.proofs.Sweeps.{swept-less, swept-clean}
-use Rattle.pages.proofs.View.{frame-put, frame-kept, page-of-frame}
+use Rattle.pages.proofs.View.{frame-kept, page-of-frame}
 use Rattle.reservations.specs.declared.Core.{Core}
 use Rattle.reservations.specs.declared.Table.{Table}
-use Rattle.reservations.specs.Rows.{isOpen, isRevoking, blank, live, rangeOf}
+use Rattle.reservations.specs.Rows.{isOpen, live, rangeOf}
 use Rattle.reservations.specs.Revocation.{core, running, revoked, dying, collectedRow}
-use Rattle.reservations.proofs.Cells.{inside-bounds, inside-made}
+use Rattle.reservations.proofs.Cells.{inside-made}
 use Rattle.reservations.proofs.CoreAfter.{dying-inside}
 use Rattle.machine.specs.declared.Slot.{Slot}
 use Rattle.machine.specs.Words.{slot, empty, byteOf, tagOf, wordAt}
-use Rattle.histories.specs.Live.{Within, wordOf, shown}
+use Rattle.histories.specs.Live.{wordOf, shown}
 use Rattle.histories.specs.Inv.{rowAt, Confined, Sound, Memory}
-use Rattle.histories.proofs.View.{Seen, seen, looked, lookup-same, shown-by, shown-at, seen-low, seen-shown, seen-once, written-here, written-other, cleared-other, cleared-same, word-same, word-none, word-cell, word-tag}
-use Rattle.histories.proofs.Table.{Around, Opened, Carried, collect-kept, collect-came}
+use Rattle.histories.proofs.View.{Seen, seen, lookup-same, shown-by, shown-at, seen-low, seen-shown, seen-once, written-here, written-other, cleared-other, cleared-same, word-same, word-none, word-cell, word-tag}
+use Rattle.histories.proofs.Table.{Around, Carried, collect-kept, collect-came}
 
 pub frame-lookup : (p : Pages) (k : ℕ) (x : FrameState) (v : ℕ) → lookupOf (withFrame p k x) v ≡ lookupOf p v
 unfolding withFrame

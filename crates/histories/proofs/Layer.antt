@@ -1,13 +1,12 @@
 -- What virtual cells show after map, unmap, revoke and collect, and which frames are Free. Assumes nothing.
-use Prim.Native.Nat.{ℕ, _+_, _*_, _/_, _%_, _<_, _≤_}
+use Prim.Native.Nat.{ℕ, _+_, _*_, _/_, _%_, _<_}
 use native.Mathlib.Omega.{arith}
-use mathlib.Core.Bool.{Bool, true, false, not, _&&_, true≢false, false≢true}
-use mathlib.Core.List.{List}
+use mathlib.Core.Bool.{Bool, true, false, _&&_, false≢true}
 use mathlib.Core.Logic.{_⊎_, inl, inr, ⊎-elim}
-use mathlib.Core.Path.{_≡_, refl, sym, ap, subst, _∙_}
+use mathlib.Core.Path.{_≡_, refl, sym, ap, _∙_}
 use borrow.Author.Tests.{eqb-true, eqb-false, eq-eqb, ltb-true}
-use lib.Dec.{eqb, ltb}
-use lib.ListN.{length, getD}
+use lib.Dec.{eqb}
+use lib.ListN.{length}
 use Rattle.pages.specs.declared.Frame.{Frame}
 use Rattle.pages.specs.declared.FrameState.{FrameState}
 use Rattle.pages.specs.declared.FrameState.the-variants.{Dirty, Free, Mapped as Shown}
@@ -19,21 +18,19 @@ use Rattle.pages.specs.declared.Place.the-variants.{At, Nowhere}
 use Rattle.pages.specs.declared.Range.{Range}
 use Rattle.pages.specs.declared.VirtualPage.{VirtualPage}
 use Rattle.pages.specs.Entries.{isUnmapped, isMapped, mapsBelow}
-use Rattle.pages.specs.Freed.{allFreed}
 use Rattle.pages.specs.Layer.{pageAt, frameAt, withPage, withFrame}
 use Rattle.pages.specs.Lists.{pick}
 use Rattle.pages.specs.Mapping.{lookupOf, placeIn, mapped, mapOf, mapReasons, unmapped, unmapOf, unmapReasons, soiled, freedOf, releasedOf, anyMapped}
 use Rattle.pages.specs.Range.{inside, pageInside}
 use Rattle.pages.specs.Refusals.{first}
-use Rattle.pages.proofs.AllFreed.{freed-none-mapped}
-use Rattle.pages.proofs.Choice.{pick-yes, pick-no}
+use Rattle.pages.proofs.Choice.{pick-yes}
 use Rattle.pages.proofs.Formed.{Sound as Layered, maps-low}
 use Rattle.pages.proofs.Freeing.{freed-at, released-at, none-mapped-at}
-use Rattle.pages.proofs.Kept.{Mappable, mappable, Unmappable, unmappable}
-use Rattle.pages.proofs.View.{page-put, page-kept, frame-put, frame-kept, page-of-frame, frame-of-page}
+use Rattle.pages.proofs.Kept.{Mappable, Unmappable}
+use Rattle.pages.proofs.View.{page-put, page-kept, frame-put, frame-kept, frame-of-page}
 use Rattle.reservations.proofs.Cells.{inside-bounds, inside-made}
 use Rattle.histories.proofs.View.{Seen, seen, looked, lookup-same}
-use Rattle.histories.proofs.Keep.{Blank, frame-lookup}
+use Rattle.histories.proofs.Keep.{frame-lookup}
 
 no-place : (at : ℕ) → Nowhere ≡ At at → ⊥
 no-place at e = let z : _≡_ {A = ℕ} 0 1 = cc in omega arith

@@ -1,20 +1,18 @@
 -- Lent once. Assumes nothing.
-use Prim.Native.Nat.{ℕ, _+_, _*_, _<_, _≤_}
+use Prim.Native.Nat.{ℕ, _*_, _<_}
 use native.Mathlib.Omega.{arith}
-use mathlib.Core.Bool.{Bool, true, false, _&&_, _||_}
-use mathlib.Core.List.{List, [], _∷_, _++_}
-use mathlib.Core.Path.{_≡_, refl, sym, ap, subst, _∙_}
+use mathlib.Core.Bool.{true, _||_}
+use mathlib.Core.List.{[], _∷_}
+use mathlib.Core.Path.{_≡_, sym, ap, subst, _∙_}
 use borrow.Author.Tests.{eqb-true}
 use lib.Dec.{eqb}
-use lib.ListN.{length, getD}
-use Rattle.calls.specs.declared.Call.{Call}
-use Rattle.calls.specs.declared.Call.the-variants.{Take, Collect}
+use lib.ListN.{length}
+use Rattle.calls.specs.declared.Call.the-variants.{Take}
 use Rattle.pages.specs.declared.Range.{Range}
-use Rattle.pages.specs.Refusals.{first}
 use Rattle.pages.proofs.Choice.{and-left}
 use Rattle.pages.proofs.Refusals.{first-clear}
 use Rattle.reservations.specs.declared.Table.{Table}
-use Rattle.reservations.specs.Find.{rowOf, findOf}
+use Rattle.reservations.specs.Find.{rowOf}
 use Rattle.reservations.specs.Operations.{takeReasons, takeOf, takenRow}
 use Rattle.reservations.specs.Rows.{isOpen, held, live, rangeOf}
 use Rattle.reservations.proofs.After.{Replaced, take-after}
@@ -22,12 +20,12 @@ use Rattle.reservations.proofs.CoreKept.{core-facts}
 use Rattle.reservations.proofs.Kept.{row-live}
 use Rattle.machine.specs.Effects.{effect}
 use Rattle.machine.specs.Reasons.{reasons, unnamed}
-use Rattle.machine.specs.Step.{done, effectOn, wordAfter}
-use Rattle.histories.specs.Runs.{Machine, Granted, outcome, next, Reached}
+use Rattle.machine.specs.Step.{done, wordAfter}
+use Rattle.histories.specs.Runs.{Machine, outcome, next}
 use Rattle.histories.specs.Live.{NoneInto}
-use Rattle.histories.specs.Inv.{rowAt, Inv}
+use Rattle.histories.specs.Inv.{rowAt}
 use Rattle.histories.specs.Lending.{lentRange, LentOnce}
-use Rattle.histories.proofs.Granted.{handed, Went, went, went-next, went-core}
+use Rattle.histories.proofs.Granted.{Went, went, went-next, went-core}
 use Rattle.histories.proofs.Calls.{take-length}
 use Rattle.histories.proofs.Always.{inv-reached}
 use Rattle.histories.proofs.Confining.{none-into-open}

@@ -11,3 +11,6 @@ pub mod Lending
 pub mod Survivors
 pub mod Forming
 pub mod Between
+pub mod Losing
+pub mod Frames
+pub mod Examples

@@ -1,24 +1,21 @@
 -- No survivor. Assumes nothing.
-use Prim.Native.Nat.{ℕ, _*_}
+use Prim.Native.Nat.{ℕ}
 use native.Mathlib.Omega.{arith}
 use mathlib.Core.Bool.{true}
-use mathlib.Core.Path.{_≡_, refl, sym, ap, subst, _∙_}
+use mathlib.Core.Path.{_≡_, sym, ap, subst, _∙_}
 use Rattle.calls.specs.declared.Call.the-variants.{Collect}
-use Rattle.pages.specs.declared.Range.{Range}
-use Rattle.pages.specs.Refusals.{first}
 use Rattle.pages.proofs.Refusals.{first-clear}
-use Rattle.reservations.specs.Revocation.{revoked, coreSound, collectReasons, collectOf}
-use Rattle.reservations.specs.Rows.{rangeOf, live}
+use Rattle.reservations.specs.Revocation.{coreSound, collectReasons, collectOf}
+use Rattle.reservations.specs.Rows.{live}
 use Rattle.reservations.proofs.Revocations.{core-collect}
 use Rattle.machine.specs.Effects.{effect}
 use Rattle.machine.specs.Reasons.{reasons, unnamed, notManager}
-use Rattle.machine.specs.Step.{done, effectOn}
-use Rattle.histories.specs.Runs.{Machine, Granted, next, Reached}
+use Rattle.machine.specs.Step.{done}
+use Rattle.histories.specs.Runs.{Machine, next}
 use Rattle.histories.specs.Live.{NoneInto}
-use Rattle.histories.specs.Inv.{rowAt, Inv}
 use Rattle.histories.specs.Survivors.{NoSurvivor}
 use Rattle.histories.proofs.Table.{collect-open}
-use Rattle.histories.proofs.Granted.{handed, Went, went, went-next, went-core}
+use Rattle.histories.proofs.Granted.{Went, went, went-next, went-core}
 use Rattle.histories.proofs.Calls.{Ends, ends}
 use Rattle.histories.proofs.Always.{inv-reached, inv-step}
 use Rattle.histories.proofs.Confining.{none-into-open}

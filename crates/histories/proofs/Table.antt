@@ -1,12 +1,12 @@
 -- The reservations after a granted call: a lent range is never cut, and what is Open came from what was Open. Assumes nothing.
-use Prim.Native.Nat.{ℕ, zero, suc, _+_, _-_, _*_, _%_, _<_, _≤_}
+use Prim.Native.Nat.{ℕ, zero, suc, _+_, _-_, _%_, _<_, _≤_}
 use native.Mathlib.Omega.{arith}
 use mathlib.Core.Bool.{Bool, true, false, not, _&&_, true≢false, false≢true}
 use mathlib.Core.List.{List, [], _∷_, _++_}
 use mathlib.Core.Logic.{_⊎_, inl, inr, ⊎-elim}
 use mathlib.Core.Path.{_≡_, refl, sym, ap, subst, _∙_}
-use borrow.Author.Tests.{eqb-true, eqb-false, ltb-true, lt-ltb, ltb-false, le-ltb, leb-true, leb-false}
-use lib.Dec.{eqb, ltb, leb}
+use borrow.Author.Tests.{ltb-true, ltb-false}
+use lib.Dec.{ltb}
 use lib.ListN.{length, getD, take, drop, length-append, length-drop, List·getD-append}
 use lib.Seq.{getD-take, getD-drop, getD-append-add, length-take-le}
 use Rattle.pages.specs.declared.Range.{Range}
@@ -16,15 +16,12 @@ use Rattle.reservations.specs.declared.ReservationState.{ReservationState}
 use Rattle.reservations.specs.declared.ReservationState.the-variants.{Open, Taken, Revoking}
 use Rattle.reservations.specs.declared.Core.{Core}
 use Rattle.reservations.specs.declared.Table.{Table}
-use Rattle.reservations.specs.Find.{rowOf, revokingOf, missing}
+use Rattle.reservations.specs.Find.{rowOf, revokingOf}
 use Rattle.pages.specs.Capability.{baseOf}
 use Rattle.reservations.specs.Rows.{isOpen, isRevoking, blank, live, rangeOf}
-use Rattle.reservations.specs.Tiling.{tableSound}
 use Rattle.reservations.specs.Operations.{alike, joined, lowerPart, upperPart, takenRow, givenRow}
 use Rattle.reservations.specs.Revocation.{revokingRow, collectedRow, running, revoked, dying}
 use Rattle.reservations.proofs.Cells.{inside-bounds, inside-made}
-use Rattle.reservations.proofs.Sound.{sound}
-use Rattle.reservations.proofs.Tiled.{tiled-next, tiled-fits}
 use Rattle.reservations.proofs.After.{Replaced}
 use Rattle.reservations.proofs.Kept.{cut-one, cut-two}
 use Rattle.reservations.proofs.Dying.{dyings, none, firstOf, revoking-row, revoking-none, dyings-append, dyings-not}
@@ -99,13 +96,13 @@ module _ (t u : Table) (new : List Reservation) (i k : ℕ) (h : i + k ≤ lengt
   pub long : length (live u) ≡ i + (length new + (length l - (i + k)))
   long = ap length now ∙ size l new i k h
 
-  low-row : (j : ℕ) → j < i → rowAt u j ≡ rowAt t j
+  pub low-row : (j : ℕ) → j < i → rowAt u j ≡ rowAt t j
   low-row j b = ap (λ x. getD x j blank) now ∙ low l new i k h j b
 
   pub mid-row : (j : ℕ) → j < length new → rowAt u (i + j) ≡ getD new j blank
   mid-row j b = ap (λ x. getD x (i + j) blank) now ∙ mid l new i k h j b
 
-  high-row : (j : ℕ) → rowAt u (i + (length new + j)) ≡ rowAt t (i + k + j)
+  pub high-row : (j : ℕ) → rowAt u (i + (length new + j)) ≡ rowAt t (i + k + j)
   high-row j = ap (λ x. getD x (i + (length new + j)) blank) now ∙ high l new i k h j
 
   around : (j n : ℕ) → rowAt u n ≡ rowAt t j → n < length (live u) → isOpen (rowAt t j .state) ≡ false → Around u (rowAt t j)

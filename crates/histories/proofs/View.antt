@@ -1,17 +1,14 @@
 -- Pointwise views of registers, mailboxes, virtual cells and lent words after a change. Assumes nothing.
 use Prim.Native.Nat.{ℕ, _+_, _*_, _/_, _%_, _<_, _≤_}
-use native.Mathlib.Nat.{zero-add}
 use native.Mathlib.Omega.{arith}
-use mathlib.Core.Bool.{Bool, true, false, not, _&&_, true≢false, false≢true}
+use mathlib.Core.Bool.{Bool, true, false, false≢true}
 use mathlib.Core.List.{List, map}
-use mathlib.Core.Logic.{_⊎_, inl, inr}
 use mathlib.Core.Path.{_≡_, refl, sym, ap, subst, _∙_}
-use borrow.Author.Tests.{eqb-true, eqb-false, ltb-true, lt-ltb, eq-eqb, ne-eqb, ltb-false, le-ltb}
-use lib.Dec.{eqb, ltb, leb}
+use borrow.Author.Tests.{eqb-true, eqb-false, ltb-true, lt-ltb, eq-eqb, ltb-false}
+use lib.Dec.{eqb, ltb}
 use lib.ListN.{length, getD, set, List·getD-map, length-set}
 use lib.Seq.{getD-set-same, getD-set-other, set-out}
 use Rattle.pages.specs.declared.Frame.{Frame}
-use Rattle.pages.specs.declared.FrameEntry.{FrameEntry}
 use Rattle.pages.specs.declared.FrameState.{FrameState}
 use Rattle.pages.specs.declared.FrameState.the-variants.{Dirty, Free, Mapped as Shown}
 use Rattle.pages.specs.declared.PageEntry.{PageEntry}
@@ -20,15 +17,11 @@ use Rattle.pages.specs.declared.PageState.the-variants.{Unmapped, Freed, Mapped
 use Rattle.pages.specs.declared.Pages.{Pages}
 use Rattle.pages.specs.declared.Place.{Place}
 use Rattle.pages.specs.declared.Place.the-variants.{At, Nowhere}
-use Rattle.pages.specs.declared.Range.{Range}
-use Rattle.pages.specs.Capability.{baseOf}
 use Rattle.pages.specs.Entries.{isShown, maps, mapsBelow, pageEntry}
 use Rattle.pages.specs.Layer.{pageAt, frameAt, mappings}
 use Rattle.pages.specs.Lists.{pick}
 use Rattle.pages.specs.Mapping.{cleared, lookupOf, placeIn}
-use Rattle.pages.specs.Range.{inside}
-use Rattle.pages.specs.Sweep.{sweptTags, shownAt}
-use Rattle.pages.proofs.Choice.{pick-yes, pick-no, at-most}
+use Rattle.pages.proofs.Choice.{pick-yes, at-most}
 use Rattle.pages.proofs.Formed.{Sound, mapped-once, maps-low}
 use Rattle.pages.proofs.Mappings.{mappings-set}
 use Rattle.pages.proofs.Shows.{cleared-here, cleared-below, cleared-above}

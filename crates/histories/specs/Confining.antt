@@ -1,11 +1,13 @@
 -- Confined. After every history each live capability lies within one Taken or Revoking reservation, with length at least 1, permissions
 -- at most 15 and bits 40 to 63 zero; a Mapped cell of an Open range is 0 and untagged; a Mapped cell's tag byte is 0 or 1. Assumes
 -- nothing.
-use Prim.Native.Nat.{ℕ, _≤_, _<_}
+use Prim.Native.Nat.{ℕ, _+_, _*_, _≤_, _<_}
 use mathlib.Core.Bool.{true}
 use mathlib.Core.Path.{_≡_}
 use lib.ListN.{length, getD}
 use Rattle.pages.specs.declared.Place.the-variants.{At}
+use Rattle.pages.specs.declared.FrameState.the-variants.{Mapped as Shown}
+use Rattle.pages.specs.Layer.{frameAt}
 use Rattle.pages.specs.Mapping.{lookupOf}
 use Rattle.pages.specs.Range.{inside}
 use Rattle.reservations.specs.Rows.{isOpen, live, rangeOf}
@@ -24,3 +26,7 @@ OpenIsZero =
 
 abbrev pub TagsAreBits : Type 0
 TagsAreBits = (m : Machine) → Reached m → (v at : ℕ) → lookupOf (m .state .core .pages) v ≡ At at → getD (m .tags) at 0 ≤ 1
+
+-- The same said of frames.
+abbrev pub FrameTagsAreBits : Type 0
+FrameTagsAreBits = (m : Machine) → Reached m → (k i : ℕ) → frameAt (m .state .core .pages) k ≡ Shown → i < 16 → getD (m .tags) (16 * k + i) 0 ≤ 1

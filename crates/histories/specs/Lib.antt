@@ -7,3 +7,4 @@ pub mod Survivors
 pub mod Confining
 pub mod Lending
 pub mod Forming
+pub mod Losing
