@@ -1,7 +1,7 @@
 -- Document 01, 'The privacy rule': "Demand 3 is a single claim about two whole lists of calls .. and not one for each call."
 -- The claim as a type; its proof is a value of that type. Assumes nothing.
 use Prim.Native.Nat.{ℕ}
-use mathlib.Core.Bool.{Bool, true}
+use mathlib.Core.Bool.{true}
 use mathlib.Core.List.{List, _∷_, _++_}
 use mathlib.Core.Path.{_≡_}
 use Rattle.calls.specs.declared.Call.{Call}
