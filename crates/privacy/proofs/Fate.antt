@@ -1,26 +1,20 @@
 -- A call is turned down and changes nothing, or its effect is done to a well-formed state; and what decides this. Assumes nothing.
 use Prim.Native.Nat.{ℕ, _*_}
 use native.Mathlib.Omega.{arith}
-use mathlib.Core.Bool.{Bool, true, false, not, _&&_, true≢false, false≢true}
-use mathlib.Core.List.{List}
-use mathlib.Core.Path.{_≡_, refl, sym, ap, subst, _∙_}
-use borrow.Author.Tests.{eqb-true, eqb-false, eq-eqb, ne-eqb}
+use mathlib.Core.Bool.{Bool, true, false, _&&_, true≢false, false≢true}
+use mathlib.Core.Path.{_≡_, refl, sym, ap, _∙_}
+use borrow.Author.Tests.{eqb-true, eqb-false}
 use lib.Dec.{eqb}
 use lib.ListN.{length}
 use Rattle.calls.specs.declared.Call.{Call}
 use Rattle.pages.specs.Layer.{serves}
 use Rattle.pages.specs.Lists.{pick}
 use Rattle.pages.specs.Refusals.{first}
-use Rattle.pages.proofs.Choice.{pick-yes, pick-no}
-use Rattle.machine.specs.declared.Slot.{Slot}
-use Rattle.machine.specs.declared.State.{State}
-use Rattle.machine.specs.Formed.{wellFormed, answered}
-use Rattle.machine.specs.Words.{empty}
-use Rattle.machine.specs.Reasons.{Reads, reads, reasons}
-use Rattle.machine.specs.Effects.{Effect, effect}
-use Rattle.machine.specs.Step.{Outcome, refused, registersAfter, mailboxesAfter, cellsAfter, tagsAfter, wordAfter, done, reasonsOn, effectOn, ruled, judged, stepOf}
+use Rattle.machine.specs.Formed.{wellFormed}
+use Rattle.machine.specs.Effects.{Effect}
+use Rattle.machine.specs.Step.{refused, registersAfter, mailboxesAfter, cellsAfter, tagsAfter, wordAfter, done, reasonsOn, effectOn, ruled, judged, stepOf}
 use Rattle.histories.specs.Runs.{Machine, machine, outcome, next}
-use Rattle.privacy.specs.Rule.{Told, told}
+use Rattle.privacy.specs.Rule.{told}
 
 -- The code that a call is answered with.
 unfoldable pub codeOf : Machine → Call → ℕ

@@ -11,7 +11,7 @@ use Rattle.pages.specs.declared.Range.{Range}
 use Rattle.pages.specs.Lists.{pick}
 use Rattle.pages.proofs.Choice.{pick-yes, pick-no, and-left, and-right}
 use Rattle.histories.specs.Runs.{Machine, outcome, next, run}
-use Rattle.privacy.specs.Rule.{housed, isCollect, private, Time, lasting, over, ending, until, timeAfter, struck, Left, remaining, left, indiscreet, discreet, Told, told, heard}
+use Rattle.privacy.specs.Rule.{housed, isCollect, private, Time, lasting, over, ending, until, timeAfter, struck, Left, remaining, left, indiscreet, discreet, told, heard}
 
 -- A struck call is the house's, and no collect, so that the time goes on.
 pub struck-housed : (house : ℕ) (t : Time) (m : Machine) (c : Call) → struck house t m c ≡ true → housed house c ≡ true

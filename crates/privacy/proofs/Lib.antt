@@ -1,4 +1,5 @@
 pub mod Examples
+pub mod Needed
 pub mod Glue
 pub mod Fate
 pub mod Showing

@@ -1,45 +1,45 @@
--- Demand 3: the privacy rule. Assumes nothing.
+-- Demand 3: the privacy rule. The plan: every history has the invariant of `histories`; by it nothing live is into an Open range, so
+-- that the house's take begins its time with nothing live into its range but its own capability (here). In its time only the house's
+-- registers and the range itself hold such capabilities (`House`, kept by `Steps.keeps`). Two histories have equal cores, mailboxes,
+-- registers of the others and Mapped cells that are not hidden (`Relate`): a struck call in one keeps this (`Steps.alone`), and so does
+-- a call that is left in both (`Twice.both-left`). Induction on the two lists (`Glue`) does the rest. Assumes nothing.
 use Prim.Native.Nat.{ℕ, _+_, _*_, _<_, _≤_}
 use native.Mathlib.Omega.{arith}
-use mathlib.Core.Bool.{Bool, true, false, not, _&&_, _||_, true≢false, false≢true}
+use mathlib.Core.Bool.{Bool, true, false, _&&_, _||_, true≢false, false≢true}
 use mathlib.Core.List.{List, [], _∷_, _++_}
 use mathlib.Core.Path.{_≡_, refl, sym, ap, subst, _∙_}
-use borrow.Author.Tests.{eq-eqb, eqb-true}
+use borrow.Author.Tests.{eq-eqb}
 use lib.Dec.{eqb}
-use lib.ListN.{length, getD, set}
+use lib.ListN.{length, getD}
 use Rattle.calls.specs.declared.Call.{Call}
 use Rattle.calls.specs.declared.Call.the-variants.{Take}
-use Rattle.pages.specs.declared.Place.the-variants.{At}
 use Rattle.pages.specs.declared.Range.{Range}
-use Rattle.pages.specs.Capability.{baseOf, lengthOf, capability}
+use Rattle.pages.specs.Capability.{capability}
 use Rattle.pages.specs.Lists.{pick}
-use Rattle.pages.specs.Mapping.{lookupOf}
 use Rattle.pages.specs.Range.{inside}
-use Rattle.pages.specs.Refusals.{Reason, first, reason}
+use Rattle.pages.specs.Refusals.{first, reason}
 use Rattle.pages.proofs.Refusals.{first-clear}
 use Rattle.reservations.specs.declared.Core.{Core}
-use Rattle.reservations.specs.declared.Table.{Table}
 use Rattle.reservations.specs.Operations.{takeReasons, takeOf, takenRow}
 use Rattle.reservations.specs.Revocation.{coreSound}
 use Rattle.reservations.specs.Rows.{isOpen, live, rangeOf}
-use Rattle.reservations.proofs.Cells.{inside-bounds, inside-made}
+use Rattle.reservations.proofs.Cells.{inside-made}
 use Rattle.machine.specs.declared.Slot.{Slot}
 use Rattle.machine.specs.Words.{slot, empty, named, registerOf, mailboxOf, wordAt}
 use Rattle.machine.specs.Reasons.{reasons, unnamed}
 use Rattle.machine.specs.Effects.{effect}
-use Rattle.machine.specs.Step.{reasonsOn, effectOn, registersAfter, mailboxesAfter, cellsAfter, tagsAfter}
+use Rattle.machine.specs.Step.{effectOn, registersAfter, mailboxesAfter, cellsAfter, tagsAfter}
 use Rattle.histories.specs.Inv.{rowAt, Confined, Inv}
 use Rattle.histories.specs.Inv.{Sound as Bounded}
-use Rattle.histories.specs.Live.{Within}
 use Rattle.histories.specs.Runs.{Machine, outcome, next, run, begun}
 use Rattle.histories.proofs.Always.{inv-step, inv-run, inv-begun}
 use Rattle.histories.proofs.Calls.{row-first}
 use Rattle.histories.proofs.View.{shown-at}
-use Rattle.privacy.specs.Rule.{housed, granted, Time, lasting, takenRange, timeAfter, into, left, discreet, Told, told, heard}
-use Rattle.privacy.specs.Claim.{start, take, atTake, afterTake, time, whole, Within as Meeting, Unnoticed, Privacy}
+use Rattle.privacy.specs.Rule.{housed, granted, Time, lasting, takenRange, timeAfter, into, told, heard}
+use Rattle.privacy.specs.Claim.{Privacy}
 use Rattle.privacy.proofs.Fate.{Granted, Fate, down, up, fate, after}
 use Rattle.privacy.proofs.Glue.{Same, glue}
-use Rattle.privacy.proofs.House.{into-cell, Meets, meets, Apart, Tame, Good, apart-good, Housed}
+use Rattle.privacy.proofs.House.{into-cell, Apart, Tame, Good, apart-good, Housed}
 use Rattle.privacy.proofs.Reached.{low-two}
 use Rattle.privacy.proofs.Relate.{Rel, turned, itself, alike}
 use Rattle.privacy.proofs.Steps.{granted-core, granted-next, refused-test, Ok, keeps, alone}

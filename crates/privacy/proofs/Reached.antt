@@ -3,25 +3,20 @@ use Prim.Native.Nat.{ℕ, _+_, _*_, _<_, _≤_}
 use native.Mathlib.Omega.{arith}
 use mathlib.Core.Bool.{Bool, true, false, not, _&&_, _||_, true≢false, false≢true}
 use mathlib.Core.List.{List, [], _∷_}
-use mathlib.Core.Path.{_≡_, refl, sym, ap, subst, _∙_}
+use mathlib.Core.Path.{_≡_, refl, _∙_}
 use borrow.Author.Tests.{ltb-true, leb-false, ltb-false, eqb-false, not-false}
-use lib.Dec.{eqb, ltb, leb}
-use Rattle.calls.specs.declared.Call.{Call}
-use Rattle.calls.specs.declared.Call.the-variants.{Take, Load, Store, Narrow, Number, Grant, Receive, Zero}
-use Rattle.pages.specs.declared.Frame.{Frame}
+use lib.Dec.{eqb, ltb}
 use Rattle.pages.specs.declared.Place.{Place}
 use Rattle.pages.specs.declared.Place.the-variants.{At, Nowhere}
 use Rattle.pages.specs.Capability.{baseOf, lengthOf}
-use Rattle.pages.specs.Mapping.{lookupOf, dirtyReasons, noFrame}
-use Rattle.pages.specs.Entries.{isDirty}
-use Rattle.pages.specs.Layer.{frameAt}
+use Rattle.pages.specs.Mapping.{lookupOf}
 use Rattle.pages.specs.Refusals.{Reason, first, reason}
 use Rattle.pages.proofs.Choice.{or-false}
 use Rattle.pages.proofs.Refusals.{first-clear}
 use Rattle.reservations.specs.declared.Core.{Core}
 use Rattle.machine.specs.declared.Slot.{Slot}
 use Rattle.machine.specs.Words.{named}
-use Rattle.machine.specs.Reasons.{Reads, reasons, addressed, nowhere, unnamed, notManager, mayNotLoad, mayNotStore, pastEnd, badNarrow}
+use Rattle.machine.specs.Reasons.{addressed, nowhere, unnamed, pastEnd, badNarrow}
 use Rattle.machine.specs.Effects.{placeNumber}
 
 pub named-low : (n : ℕ) → unnamed n ≡ false → n < 8

@@ -1,29 +1,24 @@
 -- Two histories: what is equal in both, and that the same effect keeps it so. Assumes nothing.
 use Prim.Native.Nat.{ℕ, _+_, _*_, _/_, _%_, _<_, _≤_}
 use native.Mathlib.Omega.{arith}
-use mathlib.Core.Bool.{Bool, true, false, not, _&&_, true≢false, false≢true}
-use mathlib.Core.List.{List, map}
+use mathlib.Core.Bool.{false, _&&_, true≢false, false≢true}
+use mathlib.Core.List.{map}
 use mathlib.Core.Path.{_≡_, refl, sym, ap, subst, _∙_}
-use borrow.Author.Tests.{eqb-true, eqb-false}
-use lib.Dec.{eqb}
 use lib.ListN.{length, getD, set, length-set, length-map}
-use Rattle.calls.specs.declared.Call.{Call}
 use Rattle.pages.specs.declared.FrameState.the-variants.{Free}
 use Rattle.pages.specs.declared.Pages.{Pages}
 use Rattle.pages.specs.declared.Place.{Place}
 use Rattle.pages.specs.declared.Place.the-variants.{At, Nowhere}
-use Rattle.pages.specs.Layer.{frameAt, serves}
+use Rattle.pages.specs.Layer.{frameAt}
 use Rattle.pages.specs.Mapping.{lookupOf}
 use Rattle.pages.proofs.Formed.{Sound}
-use Rattle.reservations.specs.declared.Core.{Core}
 use Rattle.machine.specs.declared.Slot.{Slot}
-use Rattle.machine.specs.declared.State.{State}
-use Rattle.machine.specs.Words.{empty, registerOf, mailboxOf, wordAt, keepTag, collectedRegister, collectedMailbox}
-use Rattle.machine.specs.Effects.{RegisterChange, keepRegisters, putRegister, fetchInto, collectRegisters, MailboxChange, keepMailboxes, putMailbox, collectMailboxes, MemoryChange, keepMemory, writeWord, clearFrame, sweepCells, Effect}
+use Rattle.machine.specs.Words.{registerOf, mailboxOf, wordAt, keepTag, collectedRegister, collectedMailbox}
+use Rattle.machine.specs.Effects.{RegisterChange, keepRegisters, putRegister, fetchInto, collectRegisters, MailboxChange, keepMailboxes, putMailbox, collectMailboxes, MemoryChange, keepMemory, Effect}
 use Rattle.machine.specs.Step.{registersAfter, mailboxesAfter, cellsAfter, tagsAfter, wordAfter, fetched}
 use Rattle.histories.specs.Runs.{Machine}
-use Rattle.histories.proofs.View.{Seen, seen, seen-low, word-none}
-use Rattle.privacy.specs.Rule.{Time, hidden, Sight, dark, shown, sightAt, sight, Alike}
+use Rattle.histories.proofs.View.{seen, seen-low, word-none}
+use Rattle.privacy.specs.Rule.{Time, hidden, shown, sightAt, sight, Alike}
 use Rattle.privacy.proofs.Fate.{after}
 use Rattle.privacy.proofs.Showing.{Came, old, fresh}
 use Rattle.privacy.proofs.Words.{put-same, collect-register, wordBy, Fits, word-after, cells-long, tags-long}

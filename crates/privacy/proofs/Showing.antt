@@ -1,10 +1,10 @@
 -- A cell that is Mapped after a granted call was Mapped to the same place before it, or lies in a frame that was Free and was not written. Assumes nothing.
 use Prim.Native.Nat.{ℕ, _+_, _*_, _/_, _%_, _<_, _≤_}
 use native.Mathlib.Omega.{arith}
-use mathlib.Core.Bool.{Bool, true, false, not, _&&_, _||_, true≢false, false≢true}
+use mathlib.Core.Bool.{Bool, true, false, _&&_, _||_, true≢false, false≢true}
 use mathlib.Core.List.{List, [], _∷_}
 use mathlib.Core.Path.{_≡_, refl, sym, ap, subst, _∙_}
-use borrow.Author.Tests.{eqb-true, eqb-false, eq-eqb, not-false}
+use borrow.Author.Tests.{eqb-true, eqb-false, eq-eqb}
 use lib.Dec.{eqb}
 use lib.ListN.{length}
 use Rattle.calls.specs.declared.Call.{Call}
@@ -21,7 +21,7 @@ use Rattle.pages.specs.Entries.{isUnmapped}
 use Rattle.pages.specs.Layer.{pageAt, frameAt, withPage, withFrame}
 use Rattle.pages.specs.Lists.{pick}
 use Rattle.pages.specs.Mapping.{lookupOf, mapReasons, mapped, mapOf, unmapReasons, soiled, unmapped, unmapOf, freedOf, releasedOf}
-use Rattle.pages.specs.Range.{inside, pageInside}
+use Rattle.pages.specs.Range.{pageInside}
 use Rattle.pages.specs.Refusals.{Reason, first, reason}
 use Rattle.pages.proofs.Choice.{pick-yes, pick-no}
 use Rattle.pages.proofs.Formed.{Sound, sound}
@@ -36,7 +36,7 @@ use Rattle.reservations.specs.Rows.{rangeOf}
 use Rattle.reservations.proofs.CoreKept.{core-facts}
 use Rattle.machine.specs.declared.Slot.{Slot}
 use Rattle.machine.specs.Reasons.{Reads, reasons, unnamed, notManager}
-use Rattle.machine.specs.Effects.{Effect, effect, MemoryChange, keepMemory}
+use Rattle.machine.specs.Effects.{effect, MemoryChange, keepMemory}
 use Rattle.histories.proofs.View.{Seen, seen, looked}
 
 -- Where a Mapped cell comes from; l is what becomes of memory meanwhile.

@@ -4,38 +4,37 @@ use native.Mathlib.Omega.{arith}
 use mathlib.Core.Bool.{Bool, true, false, not, _&&_, _||_, true≢false, false≢true}
 use mathlib.Core.List.{List, [], _∷_}
 use mathlib.Core.Path.{_≡_, refl, sym, ap, subst, _∙_}
-use borrow.Author.Tests.{eqb-true, eqb-false, eq-eqb, ne-eqb, ltb-true, lt-ltb, leb-false, not-false}
-use lib.Dec.{eqb, ltb}
+use borrow.Author.Tests.{eqb-true, eqb-false, eq-eqb, ne-eqb, lt-ltb, leb-false}
+use lib.Dec.{eqb}
 use lib.Bits.{bitAnd, and-le-l}
-use lib.ListN.{length, getD}
 use Rattle.calls.specs.declared.Call.{Call}
 use Rattle.calls.specs.declared.Call.the-variants.{Take, Split, Merge, Give, Revoke, Sweep, Collect, Map, Unmap, Zero, Load, Store, Narrow, Number, Grant, Receive}
 use Rattle.pages.specs.declared.Place.the-variants.{At}
 use Rattle.pages.specs.declared.Range.{Range}
-use Rattle.pages.specs.Capability.{baseOf, lengthOf, permissionsOf, narrowed, capability, permits}
+use Rattle.pages.specs.Capability.{baseOf, lengthOf, permissionsOf, narrowed}
 use Rattle.pages.specs.Entries.{isDirty}
 use Rattle.pages.specs.Layer.{frameAt}
 use Rattle.pages.specs.Mapping.{lookupOf, dirtyReasons, noFrame}
 use Rattle.pages.specs.Range.{inside}
-use Rattle.pages.specs.Refusals.{Reason, first, reason}
+use Rattle.pages.specs.Refusals.{first, reason}
 use Rattle.pages.proofs.Capabilities.{made-base, made-length}
-use Rattle.pages.proofs.Choice.{and-left, and-right, or-false}
+use Rattle.pages.proofs.Choice.{and-right}
 use Rattle.pages.proofs.Formed.{Sound}
 use Rattle.pages.proofs.Refusals.{first-clear}
 use Rattle.reservations.specs.declared.Core.{Core}
 use Rattle.reservations.specs.Revocation.{dying}
 use Rattle.reservations.proofs.Cells.{inside-made}
-use Rattle.reservations.proofs.Truth.{both, and-yes, or-left, or-right}
+use Rattle.reservations.proofs.Truth.{both, and-yes, or-right}
 use Rattle.machine.specs.declared.Slot.{Slot}
 use Rattle.machine.specs.declared.State.{State}
-use Rattle.machine.specs.Words.{slot, empty, named, registerOf, mailboxOf, wordAt, stored}
-use Rattle.machine.specs.Reasons.{Reads, reads, reasons, unnamed, notManager, addressed, mayNotLoad, mayNotStore}
+use Rattle.machine.specs.Words.{slot, named, registerOf, mailboxOf, wordAt, stored}
+use Rattle.machine.specs.Reasons.{Reads, reasons, unnamed, notManager, addressed, mayNotLoad, mayNotStore}
 use Rattle.machine.specs.Effects.{placeNumber, effect}
 use Rattle.machine.specs.Step.{reasonsOn, effectOn}
-use Rattle.histories.specs.Runs.{Machine, outcome}
+use Rattle.histories.specs.Runs.{Machine}
 use Rattle.histories.specs.Live.{Within}
 use Rattle.histories.proofs.View.{seen, seen-once}
-use Rattle.privacy.specs.Rule.{housed, granted, Time, lasting, over, into, capabilityInto, aimed, private, struck, betrays, indiscreet}
+use Rattle.privacy.specs.Rule.{housed, granted, lasting, into, capabilityInto, aimed, private, struck, betrays, indiscreet}
 use Rattle.privacy.proofs.House.{into-by, Meets, meets, met, Apart, Tame, Good, apart-good, empty-apart, keep-good, Housed, RegisterSafe, MailboxSafe, MemorySafe}
 use Rattle.privacy.proofs.Reached.{Reached, reached, Narrows, narrows, low-two, low-three}
 use Rattle.privacy.proofs.Showing.{after-five}
@@ -231,9 +230,6 @@ module _ (house : ℕ) (r : Range) (m : Machine) (h : Housed house r m) where
         seen-once (s .core .pages) ok (baseOf (registerOf (s .registers) p a .cell) + off) (placeNumber (addressed (s .core) (registerOf (s .registers) p a) off))
         (seen (s .core .pages) (baseOf (registerOf (s .registers) p a .cell) + off) (placeNumber (addressed (s .core) (registerOf (s .registers) p a) off)) (store-reached .place)) v
         (seen (s .core .pages) v (placeNumber (addressed (s .core) (registerOf (s .registers) p a) off)) e)
-
-    word : Slot
-    word = registerOf (s .registers) p x
 
     own-store : p ≡ house → (b : Bool) → aimed r s p a off ≡ b → (v : ℕ) → lookupOf (s .core .pages) v ≡ At (placeNumber (addressed (s .core) (registerOf (s .registers) p a) off)) → Good r (inside r v) (stored (s .core) (registerOf (s .registers) p x))
     own-store n true e v l =

@@ -1,8 +1,8 @@
 -- One call, in one history and in two. Assumes nothing.
 use Prim.Native.Nat.{ℕ, _+_, _*_, _<_, _≤_}
 use native.Mathlib.Omega.{arith}
-use mathlib.Core.Bool.{Bool, true, false, not, _&&_, _||_, true≢false, false≢true}
-use mathlib.Core.List.{List, [], _∷_}
+use mathlib.Core.Bool.{Bool, true, false, _&&_, _||_, true≢false, false≢true}
+use mathlib.Core.List.{[], _∷_}
 use mathlib.Core.Path.{_≡_, refl, sym, ap, subst, _∙_}
 use borrow.Author.Tests.{eqb-true, eqb-false, eq-eqb, ne-eqb}
 use lib.Dec.{eqb}
@@ -11,41 +11,38 @@ use Rattle.calls.specs.declared.Call.{Call}
 use Rattle.calls.specs.declared.Call.the-variants.{Take, Split, Merge, Give, Revoke, Sweep, Collect, Map, Unmap, Zero, Load, Store, Narrow, Number, Grant, Receive}
 use Rattle.pages.specs.declared.Place.the-variants.{At}
 use Rattle.pages.specs.declared.Range.{Range}
-use Rattle.pages.specs.Capability.{baseOf, permits, narrowed}
-use Rattle.pages.specs.Layer.{serves}
-use Rattle.pages.specs.Lists.{pick, each}
+use Rattle.pages.specs.Capability.{permits, narrowed}
+use Rattle.pages.specs.Lists.{pick}
 use Rattle.pages.specs.Mapping.{lookupOf}
 use Rattle.pages.specs.Range.{inside}
 use Rattle.pages.specs.Refusals.{first, reason}
-use Rattle.pages.proofs.Choice.{pick-yes, pick-no, and-left, and-right}
+use Rattle.pages.proofs.Choice.{and-left, and-right}
 use Rattle.pages.proofs.Formed.{Sound, sound}
 use Rattle.pages.proofs.Memory.{served}
 use Rattle.pages.proofs.Refusals.{first-clear}
-use Rattle.reservations.specs.declared.Core.{Core}
 use Rattle.reservations.specs.Operations.{takeReasons}
 use Rattle.reservations.specs.Revocation.{revoked, coreSound}
 use Rattle.reservations.proofs.CoreKept.{core-facts}
 use Rattle.reservations.proofs.Truth.{both}
 use Rattle.machine.specs.declared.Slot.{Slot}
 use Rattle.machine.specs.declared.State.{State}
-use Rattle.machine.specs.Words.{slot, empty, registerOf, wordAt, byteOf, stored}
-use Rattle.machine.specs.Formed.{wellFormed, mailboxesSound, mailboxSound, sized}
-use Rattle.machine.specs.Reasons.{Reads, reading, reads, reasons, unnamed, mayNotLoad, addressed}
-use Rattle.machine.specs.Effects.{Effect, effect, placeNumber}
-use Rattle.machine.specs.Step.{reasonsOn, effectOn, registersAfter, mailboxesAfter, cellsAfter, tagsAfter, wordAfter, fetched, done}
+use Rattle.machine.specs.Words.{slot, registerOf, wordAt, byteOf, stored}
+use Rattle.machine.specs.Formed.{wellFormed, mailboxesSound, sized}
+use Rattle.machine.specs.Reasons.{reads, reasons, unnamed, addressed}
+use Rattle.machine.specs.Effects.{effect, placeNumber}
+use Rattle.machine.specs.Step.{reasonsOn, effectOn, registersAfter, mailboxesAfter, cellsAfter, tagsAfter, fetched}
 use Rattle.histories.specs.Inv.{Inv}
 use Rattle.histories.specs.Runs.{Machine, machine, outcome, next}
 use Rattle.histories.proofs.Always.{inv-step}
 use Rattle.histories.proofs.View.{written-other}
-use Rattle.privacy.specs.Rule.{callerOf, housed, granted, isCollect, contains, Time, lasting, over, ending, until, aimed, private, struck, remaining, indiscreet, hidden, told}
-use Rattle.privacy.proofs.Fate.{codeOf, Granted, Fate, down, up, fate, after, next-done, next-down, told-done, told-down, code-is}
-use Rattle.privacy.proofs.Glue.{Both}
-use Rattle.privacy.proofs.House.{Apart, apart-good, Housed, RegisterSafe, effect-housed}
-use Rattle.privacy.proofs.Reached.{Reached, reached, low-two, low-three}
-use Rattle.privacy.proofs.Relate.{Rel, FetchSame, answer-same, effect-related}
+use Rattle.privacy.specs.Rule.{housed, granted, isCollect, contains, Time, lasting, over, ending, until, aimed, private, struck, indiscreet, hidden}
+use Rattle.privacy.proofs.Fate.{codeOf, Granted, Fate, down, up, fate, after, next-done, next-down, code-is}
+use Rattle.privacy.proofs.House.{apart-good, Housed, RegisterSafe, effect-housed}
+use Rattle.privacy.proofs.Reached.{low-two, low-three}
+use Rattle.privacy.proofs.Relate.{Rel}
 use Rattle.privacy.proofs.Showing.{came}
-use Rattle.privacy.proofs.Sides.{fits-call, outside, register-safe, mailbox-safe, memory-safe, aimed-inside, store-reached, store-once}
-use Rattle.privacy.proofs.Tables.{takes, taken-apart, around-after, collect-hides}
+use Rattle.privacy.proofs.Sides.{fits-call, register-safe, mailbox-safe, memory-safe, aimed-inside, store-reached, store-once}
+use Rattle.privacy.proofs.Tables.{takes, taken-apart, around-after}
 use Rattle.privacy.proofs.Words.{put-own}
 
 -- What a granted call found.

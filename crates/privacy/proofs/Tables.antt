@@ -1,33 +1,31 @@
 -- The reservation around the house's range, and its capability, through each granted call. Assumes nothing.
 use Prim.Native.Nat.{ℕ, suc, _+_, _*_, _/_, _%_, _<_, _≤_}
 use native.Mathlib.Omega.{arith}
-use mathlib.Core.Bool.{Bool, true, false, not, _&&_, _||_, true≢false, false≢true}
+use mathlib.Core.Bool.{Bool, true, false, _&&_, _||_, true≢false, false≢true}
 use mathlib.Core.List.{List, [], _∷_}
 use mathlib.Core.Path.{_≡_, refl, sym, ap, subst, _∙_}
 use borrow.Author.Tests.{eqb-true, eq-eqb, le-leb, leb-true}
 use lib.Dec.{eqb, leb}
-use lib.ListN.{length, getD}
+use lib.ListN.{length}
 use Rattle.calls.specs.declared.Call.{Call}
 use Rattle.calls.specs.declared.Call.the-variants.{Take, Split, Merge, Give, Revoke, Sweep, Collect, Map, Unmap, Zero, Load, Store, Narrow, Number, Grant, Receive}
 use Rattle.pages.specs.declared.Place.the-variants.{At}
 use Rattle.pages.specs.declared.Range.{Range}
 use Rattle.pages.specs.Capability.{baseOf, lengthOf, capability}
-use Rattle.pages.specs.Lists.{pick}
-use Rattle.pages.specs.Mapping.{lookupOf, releasedOf}
+use Rattle.pages.specs.Mapping.{lookupOf}
 use Rattle.pages.specs.Range.{inside, pageInside}
-use Rattle.pages.specs.Refusals.{Reason, first, reason}
+use Rattle.pages.specs.Refusals.{first}
 use Rattle.pages.proofs.Capabilities.{made-base, made-length}
 use Rattle.pages.proofs.Choice.{pick-yes, and-left, and-right}
-use Rattle.pages.proofs.Formed.{Sound, sound}
+use Rattle.pages.proofs.Formed.{sound}
 use Rattle.pages.proofs.Refusals.{first-clear}
 use Rattle.reservations.specs.declared.Core.{Core}
-use Rattle.reservations.specs.declared.Reservation.{Reservation}
 use Rattle.reservations.specs.declared.ReservationState.the-variants.{Taken}
 use Rattle.reservations.specs.declared.Table.{Table}
 use Rattle.reservations.specs.Find.{findOf, rowOf}
 use Rattle.reservations.specs.Operations.{takeReasons, takeOf, takenRow, splitReasons, splitOf, mergeReasons, mergeOf, giveReasons, giveOf}
 use Rattle.reservations.specs.Revocation.{revoked, revokeReasons, revokeOf, collectReasons, collectOf, coreSound}
-use Rattle.reservations.specs.Rows.{isOpen, held, blank, live, rangeOf, reservation}
+use Rattle.reservations.specs.Rows.{isOpen, held, live, rangeOf, reservation}
 use Rattle.reservations.proofs.After.{Replaced, take-after, split-after, merge-after, give-after}
 use Rattle.reservations.proofs.Answers.{split-fits, split-clear}
 use Rattle.reservations.proofs.Cells.{inside-bounds, inside-made, no-shared-cell}

@@ -1,42 +1,40 @@
 -- Both: a call that is left in two histories. Assumes nothing.
 use Prim.Native.Nat.{ℕ, _+_, _*_, _<_, _≤_}
-use native.Mathlib.Omega.{arith}
-use mathlib.Core.Bool.{Bool, true, false, not, _&&_, _||_, true≢false, false≢true}
+use mathlib.Core.Bool.{Bool, true, false, _&&_, _||_, true≢false, false≢true}
 use mathlib.Core.List.{List, [], _∷_}
 use mathlib.Core.Path.{_≡_, refl, sym, ap, subst, _∙_}
-use borrow.Author.Tests.{eqb-true, eqb-false, eq-eqb, ne-eqb}
+use borrow.Author.Tests.{eqb-false, eq-eqb}
 use lib.Dec.{eqb}
 use lib.ListN.{length}
 use Rattle.calls.specs.declared.Call.{Call}
 use Rattle.calls.specs.declared.Call.the-variants.{Take, Split, Merge, Give, Revoke, Sweep, Collect, Map, Unmap, Zero, Load, Store, Narrow, Number, Grant, Receive}
 use Rattle.pages.specs.declared.Place.the-variants.{At}
 use Rattle.pages.specs.declared.Range.{Range}
-use Rattle.pages.specs.Capability.{baseOf, permits}
+use Rattle.pages.specs.Capability.{baseOf}
 use Rattle.pages.specs.Layer.{serves}
 use Rattle.pages.specs.Lists.{pick, each}
 use Rattle.pages.specs.Mapping.{lookupOf}
 use Rattle.pages.specs.Range.{inside}
 use Rattle.pages.specs.Refusals.{first}
-use Rattle.pages.proofs.Choice.{pick-yes, pick-no, and-left, and-right}
+use Rattle.pages.proofs.Choice.{pick-yes, and-left, and-right}
 use Rattle.reservations.specs.declared.Core.{Core}
 use Rattle.reservations.specs.Revocation.{revoked, coreSound}
 use Rattle.machine.specs.declared.Slot.{Slot}
-use Rattle.machine.specs.Words.{empty, registerOf, wordAt}
-use Rattle.machine.specs.Formed.{wellFormed, mailboxesSound, mailboxSound, sized}
+use Rattle.machine.specs.Words.{empty, registerOf}
+use Rattle.machine.specs.Formed.{wellFormed, mailboxesSound, mailboxSound}
 use Rattle.machine.specs.Reasons.{Reads, reading, reads, reasons, unnamed, mayNotLoad, addressed}
-use Rattle.machine.specs.Effects.{Effect, effect, placeNumber}
+use Rattle.machine.specs.Effects.{effect, placeNumber}
 use Rattle.machine.specs.Step.{reasonsOn, effectOn, wordAfter}
-use Rattle.histories.specs.Inv.{Inv}
-use Rattle.histories.specs.Runs.{Machine, outcome, next}
-use Rattle.privacy.specs.Rule.{callerOf, housed, granted, isCollect, contains, Time, lasting, over, ending, until, private, struck, Left, remaining, hidden, Told, told}
-use Rattle.privacy.proofs.Fate.{codeOf, Granted, Fate, down, up, fate, after, next-done, next-down, told-done, told-down, code-is}
+use Rattle.histories.specs.Runs.{Machine, next}
+use Rattle.privacy.specs.Rule.{callerOf, housed, granted, isCollect, contains, Time, lasting, over, ending, until, struck, remaining, hidden}
+use Rattle.privacy.proofs.Fate.{codeOf, Fate, down, up, fate, after, next-down, told-done, told-down, code-is}
 use Rattle.privacy.proofs.Glue.{Both}
 use Rattle.privacy.proofs.House.{Housed}
 use Rattle.privacy.proofs.Reached.{Reached, reached}
 use Rattle.privacy.proofs.Relate.{Rel, FetchSame, answer-same, effect-related}
 use Rattle.privacy.proofs.Showing.{came}
 use Rattle.privacy.proofs.Sides.{fits-call, outside}
-use Rattle.privacy.proofs.Steps.{granted-core, granted-layer, granted-cells, granted-tags, granted-next, granted-test, refused-test, Ok}
+use Rattle.privacy.proofs.Steps.{granted-core, granted-layer, granted-cells, granted-tags, granted-next, refused-test, Ok}
 use Rattle.privacy.proofs.Tables.{collect-hides}
 
 -- A call reads equal registers if those of its caller are equal.
@@ -210,7 +208,6 @@ both-left house t g h c ok₁ ok₂ rel s e = go (fate g c) (fate h c)
     go (down k n x q) (up y w) = absurd (n (sym x ∙ same ∙ y))
     go (up x q) (down l o y w) = absurd (o (sym y ∙ sym same ∙ x))
     go (up x q) (up y w) =
-        let f = effectOn (g .state) c in
         let z = effect-same house t g h (ok₁ .own) rel c e in
         let seen = fetch-same house t g h (ok₁ .own) rel c s (q .clear) in
         let right : next h c ≡ after h (effectOn (g .state) c) = granted-next h c w ∙ ap (after h) (sym z) in

@@ -1,14 +1,13 @@
 -- Registers and lent words after a change, one by one. Assumes nothing.
 use Prim.Native.Nat.{ℕ, _+_, _*_, _/_, _%_, _<_, _≤_}
 use native.Mathlib.Omega.{arith}
-use mathlib.Core.Bool.{Bool, true, false, not, _&&_, true≢false, false≢true}
+use mathlib.Core.Bool.{Bool, true, false, _&&_, true≢false, false≢true}
 use mathlib.Core.List.{List, map}
 use mathlib.Core.Path.{_≡_, refl, sym, ap, subst, _∙_}
-use borrow.Author.Tests.{eqb-true, eqb-false, ltb-true, ltb-false, lt-ltb, eq-eqb, ne-eqb}
+use borrow.Author.Tests.{eqb-true, eqb-false, ltb-true, ltb-false}
 use lib.Dec.{eqb, ltb, leb}
-use lib.ListN.{length, getD, set, List·getD-map, length-set, length-map}
+use lib.ListN.{length, getD, set, List·getD-map, length-set}
 use lib.Seq.{getD-set-same, getD-set-other, set-out}
-use Rattle.pages.specs.declared.Frame.{Frame}
 use Rattle.pages.specs.declared.FrameEntry.{FrameEntry}
 use Rattle.pages.specs.declared.Range.{Range}
 use Rattle.pages.specs.Capability.{baseOf}
@@ -16,7 +15,7 @@ use Rattle.pages.specs.Lists.{pick}
 use Rattle.pages.specs.Range.{inside}
 use Rattle.pages.specs.Mapping.{cleared}
 use Rattle.pages.specs.Sweep.{shownAt, sweptTags}
-use Rattle.pages.proofs.Choice.{pick-yes, pick-no, and-left, and-right}
+use Rattle.pages.proofs.Choice.{pick-yes, pick-no, and-right}
 use Rattle.pages.proofs.Shows.{length-cleared}
 use Rattle.pages.proofs.Sweeping.{doomed, getD-swept, length-swept}
 use Rattle.reservations.specs.declared.Core.{Core}

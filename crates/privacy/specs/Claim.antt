@@ -1,7 +1,7 @@
 -- Document 01, 'The privacy rule': "Demand 3 is a single claim about two whole lists of calls .. and not one for each call."
 -- The claim as a type; its proof is a value of that type. Assumes nothing.
 use Prim.Native.Nat.{ℕ}
-use mathlib.Core.Bool.{Bool, true}
+use mathlib.Core.Bool.{true}
 use mathlib.Core.List.{List, _∷_, _++_}
 use mathlib.Core.Path.{_≡_}
 use Rattle.calls.specs.declared.Call.{Call}
@@ -50,7 +50,7 @@ module _ (v f : ℕ) (cells tags : List ℕ) (before : List Call) (house base re
     pub ended : timeAfter time afterTake after₁ ≡ timeAfter time afterTake after₂
     pub alike : Alike house (timeAfter time afterTake after₁) (run start (whole after₁)) (run start (whole after₂))
 
--- "Whatever a house keeps in a range it took, no history lets others notice it."
+-- Demand 3: whatever a house keeps in a range it took, no history lets others notice it.
 abbrev pub Privacy : Type 0
 Privacy =
     (v f : ℕ) (cells tags : List ℕ) (before : List Call) (house base reg : ℕ) (after₁ after₂ : List Call)
