@@ -1,6 +1,6 @@
 // A session over memory of its own.
-use crate::line::line_of;
 use crate::Text;
+use crate::line::line_of;
 use machine::Commanded;
 use machine::State;
 ghost use mathlib.Core.Path.{_≡_};

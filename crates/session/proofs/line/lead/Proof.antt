@@ -1,3 +1,4 @@
+-- `session::line::lead` meets its contract. One byte more stands before the text.
 use mathlib.Core.Path.{_≡_}
 use lib.ListN.{length}
 use Rattle.pages.proofs.Arrays.{length-under}

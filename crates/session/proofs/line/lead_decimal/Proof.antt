@@ -1,3 +1,4 @@
+-- `session::line::lead_decimal` meets its contract. After each turn the digits made so far stand before the text, and the rest of the number is still to be written.
 use Prim.Native.Nat.{_≤_}
 use native.Mathlib.Omega.{arith}
 use Rattle.session.proofs.Texts.{Spelt, spelt-none, spelt-more, spelt-all, spelt-room, spelt-within}

@@ -1,3 +1,4 @@
+-- `session::line::line_of` meets its contract. The line is made from its last byte to its first: newline, tag, space, number, space, code.
 use Prim.Native.Nat.{_≤_}
 use native.Mathlib.Omega.{arith}
 use mathlib.Core.Path.{refl}

@@ -1,3 +1,4 @@
+-- `session::run::commands` meets its contract. After each turn the lines put so far are those of the definition up to the place reached; the state stays well formed.
 use borrow.Author.Needs.{needs}
 use Prim.Native.Nat.{_-_}
 use native.Mathlib.Omega.{arith}

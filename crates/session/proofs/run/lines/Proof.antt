@@ -1,3 +1,4 @@
+-- `session::run::lines` meets its contract. A short V or F, a refused start, or the start's line and then the commands' lines.
 use Prim.Native.Nat.{_+_, _*_}
 use native.Mathlib.Omega.{arith}
 use mathlib.Core.Path.{sym, _∙_}

@@ -1,3 +1,4 @@
+-- `session::run::one` meets its contract. On a well-formed state the command with and without its test is the same (`judged-command`).
 use Rattle.machine.specs.Command.{commandOf}
 use borrow.Author.Needs.{needs}
 use Rattle.session.proofs.run.one.Statement.{statement}

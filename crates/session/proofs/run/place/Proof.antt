@@ -1,3 +1,4 @@
+-- `session::run::place` meets its contract. Where the bytes fit they are copied; else nothing is written; either way the end is answered.
 use mathlib.Core.Path.{refl}
 use Rattle.session.proofs.Texts.{laid-past, laid-part}
 use borrow.Author.Needs.{needs}

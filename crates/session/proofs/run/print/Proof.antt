@@ -1,3 +1,4 @@
+-- `session::run::print` meets its contract. One pass where the buffer surely holds the lines, else two.
 use lib.ListN.{length}
 use Rattle.session.specs.Session.{linesRead}
 use Rattle.session.proofs.Sessions.{print-fits}

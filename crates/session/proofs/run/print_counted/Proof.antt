@@ -1,3 +1,4 @@
+-- `session::run::print_counted` meets its contract. A first pass counts; the second writes only where the lines fit.
 use native.Mathlib.Omega.{arith}
 use Rattle.session.specs.Session.{linesRead}
 use Rattle.session.proofs.Sessions.{print-fits, print-not}

@@ -1,3 +1,4 @@
+-- `session::run::put` meets its contract. The text's bytes are a tail of its array, handed on to `place`.
 use Prim.Native.Nat.{ℕ, _-_}
 use native.Mathlib.Omega.{arith}
 use mathlib.Core.List.{List}

@@ -1,3 +1,4 @@
+-- `session::run::session` meets its contract. By the number of bytes that are looked at.
 use native.Mathlib.Omega.{arith}
 use mathlib.Core.Path.{_≡_, sym}
 use lib.ListN.{length, take}

@@ -1,3 +1,4 @@
+-- `session::run::started` meets its contract. By the contracts of the callees.
 use Prim.Native.Nat.{_*_}
 use native.Mathlib.Omega.{arith}
 use mathlib.Core.Path.{sym, _∙_, ap}
