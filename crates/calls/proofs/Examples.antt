@@ -7,7 +7,6 @@ use Rattle.calls.specs.Reader.{whole, readOf}
 use Rattle.calls.specs.Commands.{page, frame}
 use Rattle.calls.specs.declared.Call.{Call}
 use Rattle.calls.specs.declared.Call.the-variants.{Take, Split, Give, Revoke, Sweep, Collect, Map, Unmap, Zero, Load, Store, Number}
-use Rattle.calls.specs.declared.Reading.{Reading}
 use Rattle.calls.specs.declared.Reading.the-variants.{Read, Refused}
 
 -- The calls of an input, `n` at the most, up to the first place where none is read.

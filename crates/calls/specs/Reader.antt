@@ -1,11 +1,11 @@
 -- What is read at the beginning of an input.
 use Prim.Native.Nat.{ℕ}
-use mathlib.Core.Bool.{Bool, true, false, _&&_}
+use mathlib.Core.Bool.{Bool, false, _&&_}
 use mathlib.Core.List.{List, [], _∷_}
 use mathlib.Core.Path.{_≡_}
 use lib.ListN.{length, getD}
 use lib.Dec.{ltb, leb}
-use Rattle.pages.specs.Lists.{pick}
+use Rattle.capabilities.specs.Lists.{pick}
 use Rattle.calls.specs.Commands.{lengthOf, callAt}
 use Rattle.calls.specs.declared.Reading.{Reading}
 use Rattle.calls.specs.declared.Reading.the-variants.{Read, Refused}

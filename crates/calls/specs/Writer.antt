@@ -4,7 +4,7 @@ use mathlib.Core.List.{List, _++_}
 use lib.ListN.{length, drop}
 use lib.Dec.{leb}
 use Rattle.calls.specs.Commands.{bytesOf}
-use Rattle.pages.specs.Lists.{pick}
+use Rattle.capabilities.specs.Lists.{pick}
 use Rattle.calls.specs.declared.Call.{Call}
 use Rattle.calls.specs.declared.Written.{Written}
 use Rattle.calls.specs.declared.Written.the-variants.{Wrote, TooShort}

@@ -14,11 +14,11 @@ use Rattle.pages.specs.declared.PageState.the-variants.{Unmapped, Mapped}
 use Rattle.pages.specs.declared.Place.the-variants.{At}
 use Rattle.pages.specs.Entries.{pageEntry, frameEntry}
 use Rattle.pages.specs.Layer.{pageAt, frameAt, freshOf, inRange, blank}
-use Rattle.pages.specs.Lists.{pick}
+use Rattle.capabilities.specs.Lists.{pick}
 use Rattle.pages.specs.Mapping.{lookupOf}
-use Rattle.reservations.specs.Revocation.{freshCore}
+use Rattle.revocation.specs.Revocation.{freshCore}
 use Rattle.machine.specs.Formed.{fresh, startOf}
-use Rattle.machine.specs.Words.{empty}
+use Rattle.words.specs.Words.{empty}
 use Rattle.histories.specs.Runs.{Machine, next, run, begun, Reached}
 use Rattle.histories.specs.Inv.{Sound, Inv}
 use Rattle.histories.proofs.View.{seen, shown-by}

@@ -6,14 +6,14 @@ use mathlib.Core.Path.{_≡_, sym, ap, _∙_}
 use borrow.Author.Tests.{eqb-true, not-false}
 use lib.Dec.{eqb}
 use lib.ListN.{length, getD}
-use Rattle.pages.specs.Capability.{baseOf, lengthOf}
-use Rattle.pages.specs.Range.{inside}
+use Rattle.capabilities.specs.Capability.{baseOf, lengthOf}
+use Rattle.capabilities.specs.Range.{inside}
 use Rattle.reservations.specs.declared.Table.{Table}
 use Rattle.reservations.specs.Rows.{isOpen, live, rangeOf}
-use Rattle.reservations.specs.Revocation.{coreSound}
+use Rattle.revocation.specs.Revocation.{coreSound}
 use Rattle.reservations.proofs.Cells.{inside-made, no-shared-cell}
-use Rattle.reservations.proofs.CoreKept.{core-facts}
-use Rattle.machine.specs.Words.{empty, tagOf, wordAt}
+use Rattle.revocation.proofs.CoreKept.{core-facts}
+use Rattle.words.specs.Words.{empty, tagOf, wordAt}
 use Rattle.histories.specs.Runs.{Machine}
 use Rattle.histories.specs.Live.{Spot, register, mailbox, virtual, Live, wordIn, NoneInto}
 use Rattle.histories.specs.Inv.{rowAt, Confined, Inv}

@@ -6,14 +6,15 @@ use Rattle.calls.specs.declared.Call.the-variants.{Map}
 use Rattle.pages.specs.declared.Frame.{Frame}
 use Rattle.pages.specs.declared.VirtualPage.{VirtualPage}
 use Rattle.pages.specs.Mapping.{lookupOf, mapReasons}
-use Rattle.pages.specs.Refusals.{first}
+use Rattle.capabilities.specs.Refusals.{first}
 use Rattle.pages.proofs.Formed.{sound as layered}
 use Rattle.pages.proofs.Kept.{mappable}
-use Rattle.pages.proofs.Refusals.{first-clear}
+use Rattle.capabilities.proofs.Refusals.{first-clear}
 use Rattle.pages.proofs.Shows.{map-shows}
-use Rattle.reservations.proofs.CoreKept.{core-facts}
+use Rattle.revocation.proofs.CoreKept.{core-facts}
 use Rattle.machine.specs.Effects.{effect}
-use Rattle.machine.specs.Reasons.{reasons, unnamed, notManager}
+use Rattle.machine.specs.Reasons.{reasons}
+use Rattle.words.specs.WordReasons.{unnamed, notManager}
 use Rattle.machine.specs.Step.{done, effectOn, registersAfter, mailboxesAfter, cellsAfter, tagsAfter}
 use Rattle.histories.specs.Runs.{Machine, Reached}
 use Rattle.histories.specs.Crossing.{ShowsZero, MappedIsZero, FreeIsZero}

@@ -12,19 +12,19 @@ use Rattle.machine.specs.Effects.{effect}
 use Rattle.machine.specs.Formed.{mailboxesSound, wellFormed, fresh, startOf}
 use Rattle.machine.specs.Reasons.{addressed, reasons}
 use Rattle.machine.specs.Step.{registersAfter, mailboxesAfter, cellsAfter, tagsAfter, wordAfter, done, ruled, judged, stepOf}
-use Rattle.machine.specs.Words.{empty, byteOf, registerOf, mailboxOf, wordAt}
+use Rattle.words.specs.Words.{empty, byteOf, registerOf, mailboxOf, wordAt}
 use Rattle.reservations.specs.Find.{seek, findOf, nextOf, revokingOf, rowOf, withRow}
 use Rattle.reservations.specs.Operations.{openReasons, takeReasons, takeOf, splitReasonsAt, splitReasons, splitAt, splitOf, mergeable, mergeReasonsAt, mergeReasons, mergeAt, mergeOf, giveReasons, giveOf}
-use Rattle.reservations.specs.Revocation.{freshCore, running, revoked, dying, revokeReasonsAt, revokeReasons, revokeAt, revokeOf, collectReasons, collected, collectOf, revocationSound, coreSound}
+use Rattle.revocation.specs.Revocation.{freshCore, running, revoked, dying, revokeReasonsAt, revokeReasons, revokeAt, revokeOf, collectReasons, collected, collectOf, revocationSound, coreSound}
 use Rattle.reservations.specs.Rows.{live, splice, spread, gather}
 use Rattle.reservations.specs.Tiling.{tiles, allBlank, revokings, sized, tableSound, freshTable}
 use Rattle.pages.specs.Freed.{freedIn, allFreed}
 use Rattle.pages.specs.Layer.{pageAt, frameAt, withPage, withFrame, freshOf, mappings, pageSound, frameSound, wellFormed as pages-wellFormed}
-use Rattle.pages.specs.Lists.{each, mapEach}
+use Rattle.capabilities.specs.Lists.{each, mapEach}
 use Rattle.pages.specs.Mapping.{mapReasons, mapped, mapOf, unmapReasons, soiled, unmapped, unmapOf, dirtyReasons, cleared, lookupOf, notMappedIn, anyMapped, freedEntry, freedOf, releasedEntry, releasedOf}
-use Rattle.pages.specs.Range.{inside}
-use Rattle.pages.specs.Refusals.{first}
-use Rattle.pages.specs.Sweep.{passed, sweptTag, sweptTags}
+use Rattle.capabilities.specs.Range.{inside}
+use Rattle.capabilities.specs.Refusals.{first}
+use Rattle.sweep.specs.Sweep.{passed, sweptTag, sweptTags}
 use Rattle.histories.specs.Runs.{Machine, Begins}
 
 -- Two virtual pages and one frame, whose memory is not 0 and all tagged.

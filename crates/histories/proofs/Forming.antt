@@ -16,13 +16,13 @@ use Rattle.pages.specs.declared.PageState.the-variants.{Unmapped, Freed, Mapped
 use Rattle.pages.specs.declared.Pages.{Pages}
 use Rattle.pages.specs.declared.VirtualPage.{VirtualPage}
 use Rattle.pages.specs.Layer.{serves, pageAt, withPage, withFrame, inRange, freshOf, blank}
-use Rattle.pages.specs.Lists.{pick}
+use Rattle.capabilities.specs.Lists.{pick}
 use Rattle.pages.specs.Mapping.{mapOf, mapped, unmapOf, unmapped, soiled, mapReasons, unmapReasons, freedOf, releasedOf}
-use Rattle.pages.specs.Refusals.{first}
-use Rattle.pages.proofs.Choice.{pick-yes}
-use Rattle.reservations.specs.declared.Core.{Core}
+use Rattle.capabilities.specs.Refusals.{first}
+use Rattle.capabilities.proofs.Choice.{pick-yes}
+use Rattle.revocation.specs.declared.Core.{Core}
 use Rattle.reservations.specs.Find.{findOf}
-use Rattle.reservations.specs.Revocation.{revokeOf, revokeAt, revokeReasons, collectOf, collected, collectReasons, freshCore}
+use Rattle.revocation.specs.Revocation.{revokeOf, revokeAt, revokeReasons, collectOf, collected, collectReasons, freshCore}
 use Rattle.reservations.proofs.Truth.{both}
 use Rattle.machine.specs.declared.State.{State}
 use Rattle.machine.specs.Effects.{effect}

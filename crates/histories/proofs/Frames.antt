@@ -16,11 +16,11 @@ use Rattle.pages.specs.declared.Pages.{Pages}
 use Rattle.pages.specs.declared.Place.the-variants.{At}
 use Rattle.pages.specs.Entries.{isShown, isDirty, isUnmapped, maps, pageEntry, frameEntry}
 use Rattle.pages.specs.Layer.{pageAt, frameAt, mappings, pageSound, frameSound}
-use Rattle.pages.specs.Lists.{pick}
+use Rattle.capabilities.specs.Lists.{pick}
 use Rattle.pages.specs.Mapping.{lookupOf}
-use Rattle.pages.proofs.Choice.{pick-no}
+use Rattle.capabilities.proofs.Choice.{pick-no}
 use Rattle.pages.proofs.Formed.{Sound as Layered, sound as layered, mapped-once}
-use Rattle.reservations.proofs.CoreKept.{core-facts}
+use Rattle.revocation.proofs.CoreKept.{core-facts}
 use Rattle.machine.proofs.Keeps.{facts}
 use Rattle.histories.specs.Confining.{FrameTagsAreBits}
 use Rattle.histories.proofs.View.{looked}

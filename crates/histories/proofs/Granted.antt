@@ -9,10 +9,10 @@ use lib.Dec.{eqb}
 use lib.ListN.{length}
 use Rattle.calls.specs.declared.Call.{Call}
 use Rattle.pages.specs.Layer.{serves}
-use Rattle.pages.specs.Refusals.{first}
-use Rattle.pages.proofs.Choice.{and-left}
+use Rattle.capabilities.specs.Refusals.{first}
+use Rattle.capabilities.proofs.Choice.{and-left}
 use Rattle.pages.proofs.Memory.{served}
-use Rattle.reservations.specs.Revocation.{coreSound}
+use Rattle.revocation.specs.Revocation.{coreSound}
 use Rattle.machine.specs.Formed.{wellFormed, mailboxesSound, sized}
 use Rattle.machine.specs.Step.{Outcome, done, reasonsOn, effectOn, ruled, judged, stepOf}
 use Rattle.histories.specs.Runs.{Machine, machine, outcome, next, Granted}

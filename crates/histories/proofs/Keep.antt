@@ -15,25 +15,25 @@ use Rattle.pages.specs.declared.FrameState.{FrameState}
 use Rattle.pages.specs.declared.FrameState.the-variants.{Dirty, Free, Mapped as Shown}
 use Rattle.pages.specs.declared.Pages.{Pages}
 use Rattle.pages.specs.declared.Place.the-variants.{At, Nowhere}
-use Rattle.pages.specs.Capability.{baseOf}
+use Rattle.capabilities.specs.Capability.{baseOf}
 use Rattle.pages.specs.Entries.{isShown}
 use Rattle.pages.specs.Layer.{frameAt, withFrame}
 use Rattle.pages.specs.Mapping.{cleared, lookupOf}
-use Rattle.pages.specs.Range.{inside}
-use Rattle.pages.specs.Sweep.{sweptTags, shownAt}
-use Rattle.pages.proofs.Choice.{at-most}
+use Rattle.capabilities.specs.Range.{inside}
+use Rattle.sweep.specs.Sweep.{sweptTags, shownAt}
+use Rattle.capabilities.proofs.Choice.{at-most}
 use Rattle.pages.proofs.Formed.{Sound as Layered}
-use Rattle.pages.proofs.Sweeping.{length-swept}
-use Rattle.pages.proofs.Sweeps.{swept-less, swept-clean}
+use Rattle.sweep.proofs.Sweeping.{length-swept}
+use Rattle.sweep.proofs.Sweeps.{swept-less, swept-clean}
 use Rattle.pages.proofs.View.{frame-kept, page-of-frame}
-use Rattle.reservations.specs.declared.Core.{Core}
+use Rattle.revocation.specs.declared.Core.{Core}
 use Rattle.reservations.specs.declared.Table.{Table}
 use Rattle.reservations.specs.Rows.{isOpen, live, rangeOf}
-use Rattle.reservations.specs.Revocation.{core, running, revoked, dying, collectedRow}
+use Rattle.revocation.specs.Revocation.{core, running, revoked, dying, collectedRow}
 use Rattle.reservations.proofs.Cells.{inside-made}
-use Rattle.reservations.proofs.CoreAfter.{dying-inside}
-use Rattle.machine.specs.declared.Slot.{Slot}
-use Rattle.machine.specs.Words.{slot, empty, byteOf, tagOf, wordAt}
+use Rattle.revocation.proofs.CoreAfter.{dying-inside}
+use Rattle.words.specs.declared.Slot.{Slot}
+use Rattle.words.specs.Words.{slot, empty, byteOf, tagOf, wordAt}
 use Rattle.histories.specs.Live.{wordOf, shown}
 use Rattle.histories.specs.Inv.{rowAt, Confined, Sound, Memory}
 use Rattle.histories.proofs.View.{Seen, seen, lookup-same, shown-by, shown-at, seen-low, seen-shown, seen-once, written-here, written-other, cleared-other, cleared-same, word-same, word-none, word-cell, word-tag}

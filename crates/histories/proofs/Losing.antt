@@ -9,9 +9,9 @@ use borrow.Author.Tests.{eq-eqb, eqb-true, eqb-false, ltb-true, ltb-false, lt-lt
 use lib.Dec.{eqb, ltb}
 use lib.ListN.{length, getD}
 use Rattle.calls.specs.declared.Call.the-variants.{Merge}
-use Rattle.pages.specs.Refusals.{first}
-use Rattle.pages.proofs.Choice.{pick-yes}
-use Rattle.pages.proofs.Refusals.{first-clear}
+use Rattle.capabilities.specs.Refusals.{first}
+use Rattle.capabilities.proofs.Choice.{pick-yes}
+use Rattle.capabilities.proofs.Refusals.{first-clear}
 use Rattle.reservations.specs.declared.Found.the-variants.{At}
 use Rattle.reservations.specs.declared.Reservation.{Reservation}
 use Rattle.reservations.specs.declared.ReservationState.{ReservationState}
@@ -22,14 +22,15 @@ use Rattle.reservations.specs.Operations.{alike, joined, mergeable, mergeReason
 use Rattle.reservations.specs.Rows.{isOpen, held, blank, live, reservation}
 use Rattle.reservations.specs.Tiling.{tiles}
 use Rattle.reservations.proofs.After.{Replaced, merge-after}
-use Rattle.reservations.proofs.CoreKept.{core-facts}
+use Rattle.revocation.proofs.CoreKept.{core-facts}
 use Rattle.reservations.proofs.Finding.{next-at}
 use Rattle.reservations.proofs.Kept.{row-live}
 use Rattle.reservations.proofs.Sound.{sound}
 use Rattle.reservations.proofs.Tiled.{tiles-begin, tiles-none, tiled-row, row-holder}
 use Rattle.reservations.proofs.Truth.{both}
 use Rattle.machine.specs.Effects.{effect}
-use Rattle.machine.specs.Reasons.{reasons, unnamed}
+use Rattle.machine.specs.Reasons.{reasons}
+use Rattle.words.specs.WordReasons.{unnamed}
 use Rattle.machine.specs.Step.{reasonsOn}
 use Rattle.machine.proofs.Keeps.{facts}
 use Rattle.histories.specs.Runs.{Machine, Granted, next, run}

@@ -9,18 +9,18 @@ use borrow.Author.Tests.{ltb-true, ltb-false}
 use lib.Dec.{ltb}
 use lib.ListN.{length, getD, take, drop, length-append, length-drop, List·getD-append}
 use lib.Seq.{getD-take, getD-drop, getD-append-add, length-take-le}
-use Rattle.pages.specs.declared.Range.{Range}
-use Rattle.pages.specs.Range.{inside}
+use Rattle.capabilities.specs.declared.Range.{Range}
+use Rattle.capabilities.specs.Range.{inside}
 use Rattle.reservations.specs.declared.Reservation.{Reservation}
 use Rattle.reservations.specs.declared.ReservationState.{ReservationState}
 use Rattle.reservations.specs.declared.ReservationState.the-variants.{Open, Taken, Revoking}
-use Rattle.reservations.specs.declared.Core.{Core}
+use Rattle.revocation.specs.declared.Core.{Core}
 use Rattle.reservations.specs.declared.Table.{Table}
 use Rattle.reservations.specs.Find.{rowOf, revokingOf}
-use Rattle.pages.specs.Capability.{baseOf}
+use Rattle.capabilities.specs.Capability.{baseOf}
 use Rattle.reservations.specs.Rows.{isOpen, isRevoking, blank, live, rangeOf}
 use Rattle.reservations.specs.Operations.{alike, joined, lowerPart, upperPart, takenRow, givenRow}
-use Rattle.reservations.specs.Revocation.{revokingRow, collectedRow, running, revoked, dying}
+use Rattle.revocation.specs.Revocation.{revokingRow, collectedRow, running, revoked, dying}
 use Rattle.reservations.proofs.Cells.{inside-bounds, inside-made}
 use Rattle.reservations.proofs.After.{Replaced}
 use Rattle.reservations.proofs.Kept.{cut-one, cut-two}

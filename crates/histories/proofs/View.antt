@@ -19,15 +19,15 @@ use Rattle.pages.specs.declared.Place.{Place}
 use Rattle.pages.specs.declared.Place.the-variants.{At, Nowhere}
 use Rattle.pages.specs.Entries.{isShown, maps, mapsBelow, pageEntry}
 use Rattle.pages.specs.Layer.{pageAt, frameAt, mappings}
-use Rattle.pages.specs.Lists.{pick}
+use Rattle.capabilities.specs.Lists.{pick}
 use Rattle.pages.specs.Mapping.{cleared, lookupOf, placeIn}
-use Rattle.pages.proofs.Choice.{pick-yes, at-most}
+use Rattle.capabilities.proofs.Choice.{pick-yes, at-most}
 use Rattle.pages.proofs.Formed.{Sound, mapped-once, maps-low}
 use Rattle.pages.proofs.Mappings.{mappings-set}
 use Rattle.pages.proofs.Shows.{cleared-here, cleared-below, cleared-above}
-use Rattle.machine.specs.declared.Slot.{Slot}
-use Rattle.machine.specs.Words.{slot, empty, tagOf, byteOf, wordAt, collectedRegister, collectedMailbox}
-use Rattle.reservations.specs.declared.Core.{Core}
+use Rattle.words.specs.declared.Slot.{Slot}
+use Rattle.words.specs.Words.{slot, empty, tagOf, byteOf, wordAt, collectedRegister, collectedMailbox}
+use Rattle.revocation.specs.declared.Core.{Core}
 use Rattle.histories.specs.Live.{wordOf, shown}
 
 -- What holds of the word that is put and of every old one holds of every new one.

@@ -9,7 +9,7 @@ use Rattle.pages.specs.declared.Place.the-variants.{At}
 use Rattle.pages.specs.declared.FrameState.the-variants.{Mapped as Shown}
 use Rattle.pages.specs.Layer.{frameAt}
 use Rattle.pages.specs.Mapping.{lookupOf}
-use Rattle.pages.specs.Range.{inside}
+use Rattle.capabilities.specs.Range.{inside}
 use Rattle.reservations.specs.Rows.{isOpen, live, rangeOf}
 use Rattle.histories.specs.Runs.{Machine, Reached}
 use Rattle.histories.specs.Live.{Spot, Live, wordIn}

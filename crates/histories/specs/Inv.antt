@@ -6,17 +6,17 @@ use mathlib.Core.Path.{_≡_}
 use lib.ListN.{length, getD}
 use Rattle.pages.specs.declared.FrameState.the-variants.{Free}
 use Rattle.pages.specs.declared.Place.the-variants.{At}
-use Rattle.pages.specs.Capability.{lengthOf, permissionsOf}
+use Rattle.capabilities.specs.Capability.{lengthOf, permissionsOf}
 use Rattle.pages.specs.Layer.{frameAt}
 use Rattle.pages.specs.Mapping.{lookupOf}
-use Rattle.pages.specs.Range.{inside}
-use Rattle.reservations.specs.declared.Core.{Core}
+use Rattle.capabilities.specs.Range.{inside}
+use Rattle.revocation.specs.declared.Core.{Core}
 use Rattle.reservations.specs.declared.Reservation.{Reservation}
 use Rattle.reservations.specs.declared.Table.{Table}
 use Rattle.reservations.specs.Rows.{isOpen, blank, rangeOf, live}
-use Rattle.reservations.specs.Revocation.{dying}
-use Rattle.machine.specs.declared.Slot.{Slot}
-use Rattle.machine.specs.Words.{empty, wordAt}
+use Rattle.revocation.specs.Revocation.{dying}
+use Rattle.words.specs.declared.Slot.{Slot}
+use Rattle.words.specs.Words.{empty, wordAt}
 use Rattle.histories.specs.Runs.{Machine}
 use Rattle.histories.specs.Live.{Within, shown}
 

@@ -7,9 +7,9 @@ use mathlib.Core.List.{List, _∷_, _++_}
 use mathlib.Core.Path.{_≡_}
 use Rattle.calls.specs.declared.Call.{Call}
 use Rattle.calls.specs.declared.Call.the-variants.{Take, Collect}
-use Rattle.pages.specs.declared.Range.{Range}
-use Rattle.pages.specs.Range.{inside}
-use Rattle.reservations.specs.Revocation.{revoked}
+use Rattle.capabilities.specs.declared.Range.{Range}
+use Rattle.capabilities.specs.Range.{inside}
+use Rattle.revocation.specs.Revocation.{revoked}
 use Rattle.histories.specs.Runs.{Machine, Granted, outcome, next, run, Reached}
 use Rattle.histories.specs.Live.{NoneInto}
 

@@ -8,12 +8,12 @@ use lib.ListN.{getD}
 use Rattle.pages.specs.declared.Place.{Place}
 use Rattle.pages.specs.declared.Place.the-variants.{At, Nowhere}
 use Rattle.pages.specs.declared.Pages.{Pages}
-use Rattle.pages.specs.declared.Range.{Range}
-use Rattle.pages.specs.Capability.{baseOf, lengthOf}
+use Rattle.capabilities.specs.declared.Range.{Range}
+use Rattle.capabilities.specs.Capability.{baseOf, lengthOf}
 use Rattle.pages.specs.Mapping.{lookupOf}
-use Rattle.pages.specs.Range.{inside}
-use Rattle.machine.specs.declared.Slot.{Slot}
-use Rattle.machine.specs.Words.{empty, wordAt}
+use Rattle.capabilities.specs.Range.{inside}
+use Rattle.words.specs.declared.Slot.{Slot}
+use Rattle.words.specs.Words.{empty, wordAt}
 use Rattle.histories.specs.Runs.{Machine}
 
 -- Where a word may be: register r of party p as number 8 p + r, a party's mailbox, a virtual cell.

@@ -2,7 +2,7 @@
 -- granted, loaded or mapped while the sweep ran, before or behind it. Assumes nothing.
 use Prim.Native.Nat.{ℕ}
 use Rattle.calls.specs.declared.Call.the-variants.{Collect}
-use Rattle.reservations.specs.Revocation.{revoked}
+use Rattle.revocation.specs.Revocation.{revoked}
 use Rattle.histories.specs.Runs.{Machine, Granted, next, Reached}
 use Rattle.histories.specs.Live.{NoneInto}
 

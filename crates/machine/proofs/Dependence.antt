@@ -7,7 +7,7 @@ use mathlib.Core.Path.{_≡_, sym, ap, _∙_}
 use lib.ListN.{length}
 use Rattle.calls.specs.declared.Call.{Call}
 use Rattle.pages.specs.Layer.{serves}
-use Rattle.pages.specs.Refusals.{first, reason}
+use Rattle.capabilities.specs.Refusals.{first, reason}
 use Rattle.pages.proofs.Memory.{served}
 use Rattle.machine.specs.declared.State.{State}
 use Rattle.machine.specs.Formed.{wellFormed}

@@ -3,17 +3,17 @@ use mathlib.Core.Bool.{true}
 use mathlib.Core.Path.{_≡_, refl}
 use Rattle.pages.specs.Freed.{freedIn, allFreed}
 use Rattle.pages.specs.Layer.{pageAt, frameAt, withPage, withFrame, freshOf, mappings, pageSound, frameSound, wellFormed as pagesFormed}
-use Rattle.pages.specs.Lists.{each, mapEach}
+use Rattle.capabilities.specs.Lists.{each, mapEach}
 use Rattle.pages.specs.Mapping.{mapReasons, mapped, mapOf, dirtyReasons, cleared, lookupOf, notMappedIn, anyMapped, freedEntry, freedOf, releasedEntry, releasedOf}
-use Rattle.pages.specs.Range.{inside}
-use Rattle.pages.specs.Refusals.{first}
-use Rattle.pages.specs.Sweep.{passed, sweptTag, sweptTags}
+use Rattle.capabilities.specs.Range.{inside}
+use Rattle.capabilities.specs.Refusals.{first}
+use Rattle.sweep.specs.Sweep.{passed, sweptTag, sweptTags}
 use Rattle.reservations.specs.Find.{seek, findOf, revokingOf, rowOf, withRow}
 use Rattle.reservations.specs.Operations.{openReasons, takeReasons, takeOf, splitReasonsAt, splitReasons, splitAt, splitOf, giveReasons, giveOf}
-use Rattle.reservations.specs.Revocation.{freshCore, running, revoked, dying, revokeReasonsAt, revokeReasons, revokeAt, revokeOf, collectReasons, collected, collectOf, revocationSound, coreSound}
+use Rattle.revocation.specs.Revocation.{freshCore, running, revoked, dying, revokeReasonsAt, revokeReasons, revokeAt, revokeOf, collectReasons, collected, collectOf, revocationSound, coreSound}
 use Rattle.reservations.specs.Rows.{live, splice, spread}
 use Rattle.reservations.specs.Tiling.{tiles, allBlank, revokings, sized, tableSound, freshTable}
-use Rattle.machine.specs.Words.{registerOf, mailboxOf, wordAt}
+use Rattle.words.specs.Words.{registerOf, mailboxOf, wordAt}
 use Rattle.machine.specs.Formed.{mailboxesSound, wellFormed, fresh, startOf}
 use Rattle.machine.specs.Reasons.{addressed, reasons}
 use Rattle.machine.specs.Effects.{effect}

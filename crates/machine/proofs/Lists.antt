@@ -5,8 +5,8 @@ use mathlib.Core.Bool.{Bool, true}
 use mathlib.Core.List.{List, [], _∷_, map}
 use mathlib.Core.Path.{_≡_, refl}
 use lib.ListN.{set}
-use Rattle.pages.specs.Lists.{each}
-use Rattle.pages.proofs.Choice.{and-left, and-right}
+use Rattle.capabilities.specs.Lists.{each}
+use Rattle.capabilities.proofs.Choice.{and-left, and-right}
 use Rattle.reservations.proofs.Truth.{both}
 
 module _ {A : Type 0} (P : ℕ → A → Bool) where

@@ -12,12 +12,12 @@ use borrow.Author.Tests.{ltb-true, leb-true, eqb-true, eq-eqb, ne-eqb, lt-ltb, l
 use Rattle.calls.specs.declared.Call.{Call}
 use Rattle.calls.specs.declared.Call.the-variants.{Take, Split, Merge, Give, Revoke, Sweep, Collect, Map, Unmap, Zero, Load, Store, Narrow, Number, Grant, Receive}
 use Rattle.pages.specs.Layer.{serves}
-use Rattle.pages.specs.Lists.{pick}
+use Rattle.capabilities.specs.Lists.{pick}
 use Rattle.pages.specs.Mapping.{mapReasons, unmapReasons, dirtyReasons}
-use Rattle.pages.specs.Refusals.{Reason, reason, first}
-use Rattle.pages.proofs.Choice.{and-left, and-right}
+use Rattle.capabilities.specs.Refusals.{Reason, reason, first}
+use Rattle.capabilities.proofs.Choice.{and-left, and-right}
 use Rattle.reservations.specs.Operations.{openReasons, takeReasons, splitReasonsAt, splitReasons, mergeReasonsAt, mergeReasons, giveReasons}
-use Rattle.reservations.specs.Revocation.{revokeReasonsAt, revokeReasons, collectReasons}
+use Rattle.revocation.specs.Revocation.{revokeReasonsAt, revokeReasons, collectReasons}
 use Rattle.machine.specs.declared.State.{State}
 use Rattle.machine.specs.Formed.{wellFormed}
 use Rattle.machine.specs.Reasons.{reasons}

@@ -9,7 +9,7 @@ use lib.ListN.{length}
 use lib.Dec.{eqb}
 use borrow.Author.Tests.{eqb-true, leb-false, not-false}
 use Rattle.pages.specs.declared.Pages.{Pages}
-use Rattle.pages.specs.declared.Range.{Range}
+use Rattle.capabilities.specs.declared.Range.{Range}
 use Rattle.pages.specs.declared.Frame.{Frame}
 use Rattle.pages.specs.declared.VirtualPage.{VirtualPage}
 use Rattle.pages.specs.declared.PageState.{PageState}
@@ -19,21 +19,21 @@ use Rattle.pages.specs.declared.FrameState.the-variants.{Dirty, Free, Mapped as
 use Rattle.pages.specs.Entries.{isDirty, pageEntry}
 use Rattle.pages.specs.Freed.{isFreed, freedIn, allFreed}
 use Rattle.pages.specs.Layer.{pageAt, frameAt, withPage, withFrame, wellFormed}
-use Rattle.pages.specs.Lists.{pick}
+use Rattle.capabilities.specs.Lists.{pick}
 use Rattle.pages.specs.Mapping.{noFrame, mapReasons, mapped, mapOf, unmapReasons, soiled, unmapped, unmapOf, dirtyReasons}
-use Rattle.pages.specs.Range.{pageInside}
-use Rattle.pages.specs.Refusals.{first}
-use Rattle.pages.proofs.Choice.{and-left, and-right}
+use Rattle.capabilities.specs.Range.{pageInside}
+use Rattle.capabilities.specs.Refusals.{first}
+use Rattle.capabilities.proofs.Choice.{and-left, and-right}
 use Rattle.pages.proofs.Formed.{sound, formed, frame-changed}
 use Rattle.pages.proofs.Kept.{Mappable, mappable, map-keeps, unmap-keeps}
-use Rattle.pages.proofs.Lists.{each-at}
-use Rattle.pages.proofs.Refusals.{first-clear}
+use Rattle.capabilities.proofs.Lists.{each-at}
+use Rattle.capabilities.proofs.Refusals.{first-clear}
 use Rattle.pages.proofs.States.{is-dirty}
-use Rattle.reservations.specs.declared.Core.{Core}
+use Rattle.revocation.specs.declared.Core.{Core}
 use Rattle.reservations.specs.Find.{revokingOf, rowOf}
 use Rattle.reservations.specs.Tiling.{tableSound}
-use Rattle.reservations.specs.Revocation.{running, revoked, wholePages, revocationSound, coreSound}
-use Rattle.reservations.proofs.CoreKept.{core-facts, core-made}
+use Rattle.revocation.specs.Revocation.{running, revoked, wholePages, revocationSound, coreSound}
+use Rattle.revocation.proofs.CoreKept.{core-facts, core-made}
 use Rattle.reservations.proofs.Truth.{both}
 use Rattle.machine.specs.Effects.{withPages}
 use Rattle.machine.proofs.Judging.{pick-by}

@@ -1,5 +1,5 @@
 -- The two ways in which a call returns: turned down, or done. Assumes nothing.
-use Prim.Native.Nat.{ℕ, _-_, _*_}
+use Prim.Native.Nat.{ℕ, _+_, _-_, _*_}
 use native.Mathlib.Omega.{arith}
 use mathlib.Core.Bool.{Bool, true, false, not}
 use mathlib.Core.List.{List, map}
@@ -8,20 +8,20 @@ use lib.ListN.{length, set}
 use borrow.Author.Tests.{ne-eqb}
 use Rattle.calls.specs.declared.Call.{Call}
 use Rattle.pages.specs.declared.Frame.{Frame}
-use Rattle.pages.specs.declared.Range.{Range}
+use Rattle.capabilities.specs.declared.Range.{Range}
 use Rattle.pages.specs.Layer.{serves}
-use Rattle.pages.specs.Lists.{pick}
+use Rattle.capabilities.specs.Lists.{pick}
 use Rattle.pages.specs.Mapping.{cleared}
-use Rattle.pages.specs.Refusals.{first}
-use Rattle.pages.specs.Sweep.{sweptTags, sweepOf}
-use Rattle.reservations.specs.declared.Core.{Core}
-use Rattle.reservations.specs.Revocation.{core, running, revoked, sweepReasons, coreSwept, passing, sweptCore, sweepCoreOf}
+use Rattle.capabilities.specs.Refusals.{first}
+use Rattle.sweep.specs.Sweep.{sweptTags, sweepOf}
+use Rattle.revocation.specs.declared.Core.{Core}
+use Rattle.revocation.specs.Revocation.{core, running, revoked, sweepReasons, coreSwept, passing, sweptCore, sweepCoreOf}
 use Rattle.machine.specs.declared.State.{State}
 use Rattle.machine.specs.Formed.{answered}
-use Rattle.machine.specs.declared.Slot.{Slot}
-use Rattle.machine.specs.Words.{empty, byteOf, collectedRegister, collectedMailbox}
+use Rattle.words.specs.declared.Slot.{Slot}
+use Rattle.words.specs.Words.{empty, byteOf, collectedRegister, collectedMailbox}
 use Rattle.machine.specs.Effects.{effectOf, keepRegisters, putRegister, fetchInto, collectRegisters, keepMailboxes, putMailbox, collectMailboxes, keepMemory, writeWord, clearFrame, sweepCells, sweptTo}
-use Rattle.machine.specs.Step.{Outcome, left, fetched, done, registersAfter, mailboxesAfter, cellsAfter, tagsAfter, wordAfter, reasonsOn, effectOn, ruled, judged, refused, withCore, withRegister, withMailbox}
+use Rattle.machine.specs.Step.{Outcome, left, fetched, done, registersAfter, mailboxesAfter, cellsAfter, tagsAfter, wordAfter, reasonsOn, effectOn, ruled, judged, refused, withCore}
 
 module _ (s : State) (c : Call) (k : ℕ) (e : k ≡ first (reasonsOn s c)) where
   pub ruled-down : (k ≡ 0 → ⊥) → (cells tags : List ℕ) → left (answered k empty s) cells tags ≡ ruled s c cells tags
@@ -39,27 +39,27 @@ module _ (s : State) (c : Core) (w : Slot) (cells tags : List ℕ) where
   done-core = refl
 
   pub done-register : (p r : ℕ) (x : Slot)
-      → left (answered 0 w (withRegister (withCore s c) p r x)) cells tags
+      → left (answered 0 w (record { core = c; registers = set (s .registers) (8 * p + r) x; mailboxes = s .mailboxes })) cells tags
       ≡ done s (effectOf c (putRegister p r x) keepMailboxes keepMemory w) cells tags
-  unfolding done registersAfter mailboxesAfter cellsAfter tagsAfter wordAfter withCore withRegister
+  unfolding done registersAfter mailboxesAfter cellsAfter tagsAfter wordAfter
   done-register p r x = refl
 
   pub done-mailbox : (p : ℕ) (x : Slot)
-      → left (answered 0 w (withMailbox (withCore s c) p x)) cells tags
+      → left (answered 0 w (record { core = c; registers = s .registers; mailboxes = set (s .mailboxes) p x })) cells tags
       ≡ done s (effectOf c keepRegisters (putMailbox p x) keepMemory w) cells tags
-  unfolding done registersAfter mailboxesAfter cellsAfter tagsAfter wordAfter withCore withMailbox
+  unfolding done registersAfter mailboxesAfter cellsAfter tagsAfter wordAfter
   done-mailbox p x = refl
 
   pub done-both : (p r : ℕ) (x : Slot) (q : ℕ) (y : Slot)
-      → left (answered 0 w (withMailbox (withRegister (withCore s c) p r x) q y)) cells tags
+      → left (answered 0 w (record { core = c; registers = set (s .registers) (8 * p + r) x; mailboxes = set (s .mailboxes) q y })) cells tags
       ≡ done s (effectOf c (putRegister p r x) (putMailbox q y) keepMemory w) cells tags
-  unfolding done registersAfter mailboxesAfter cellsAfter tagsAfter wordAfter withCore withRegister withMailbox
+  unfolding done registersAfter mailboxesAfter cellsAfter tagsAfter wordAfter
   done-both p r x q y = refl
 
   pub done-fetch : (p r at : ℕ) (keep : Bool)
-      → left (answered 0 (fetched cells tags at keep) (withRegister (withCore s c) p r (fetched cells tags at keep))) cells tags
+      → left (answered 0 (fetched cells tags at keep) (record { core = c; registers = set (s .registers) (8 * p + r) (fetched cells tags at keep); mailboxes = s .mailboxes })) cells tags
       ≡ done s (effectOf c (fetchInto p r at keep) keepMailboxes keepMemory w) cells tags
-  unfolding done registersAfter mailboxesAfter cellsAfter tagsAfter wordAfter withCore withRegister
+  unfolding done registersAfter mailboxesAfter cellsAfter tagsAfter wordAfter
   done-fetch p r at keep = refl
 
   pub done-write : (at : ℕ) (x : Slot)

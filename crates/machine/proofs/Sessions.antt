@@ -5,14 +5,14 @@ use mathlib.Core.List.{List, [], _∷_}
 use mathlib.Core.Path.{_≡_, refl}
 use Rattle.pages.specs.Freed.{freedIn, allFreed}
 use Rattle.pages.specs.Layer.{pageAt, frameAt, withPage, withFrame, freshOf, mappings, pageSound, frameSound, wellFormed}
-use Rattle.pages.specs.Lists.{each, mapEach}
+use Rattle.capabilities.specs.Lists.{each, mapEach}
 use Rattle.pages.specs.Mapping.{mapReasons, mapped, mapOf, unmapReasons, soiled, unmapped, unmapOf, dirtyReasons, zeroReasons, cleared, zeroOf, lookupOf, notMappedIn, anyMapped, freedEntry, freedOf, releasedEntry, releasedOf}
-use Rattle.pages.specs.Range.{inside}
-use Rattle.pages.specs.Refusals.{first}
-use Rattle.pages.specs.Sweep.{passed, sweptTag, sweptTags, sweepOf}
+use Rattle.capabilities.specs.Range.{inside}
+use Rattle.capabilities.specs.Refusals.{first}
+use Rattle.sweep.specs.Sweep.{passed, sweptTag, sweptTags, sweepOf}
 use Rattle.reservations.specs.Find.{seek, findOf, nextOf, revokingOf, rowOf, withRow, inUse}
 use Rattle.reservations.specs.Operations.{openReasons, takeReasons, takeOf, splitReasonsAt, splitReasons, splitAt, splitOf, mergeable, mergeReasonsAt, mergeReasons, mergeAt, mergeOf, giveReasons, giveOf}
-use Rattle.reservations.specs.Revocation.{freshCore, running, revoked, dying, revokeReasonsAt, revokeReasons, revokeAt, revokeOf, sweepReasons, sweptCore, sweepCoreOf, collectReasons, collected, collectOf, revocationSound, coreSound}
+use Rattle.revocation.specs.Revocation.{freshCore, running, revoked, dying, revokeReasonsAt, revokeReasons, revokeAt, revokeOf, sweepReasons, sweptCore, sweepCoreOf, collectReasons, collected, collectOf, revocationSound, coreSound}
 use Rattle.reservations.specs.Rows.{live, splice, spread, gather}
 use Rattle.reservations.specs.Tiling.{tiles, allBlank, revokings, sized, tableSound, freshTable, covered, covers}
 use Rattle.calls.specs.Reader.{whole, readOf}
@@ -20,8 +20,8 @@ use Rattle.machine.specs.Command.{onReading, commandJudged, commandOf}
 use Rattle.machine.specs.Effects.{effect}
 use Rattle.machine.specs.Formed.{mailboxesSound, wellFormed as wellFormed-Formed, fresh, startOf}
 use Rattle.machine.specs.Reasons.{addressed, reasons}
-use Rattle.machine.specs.Step.{registersAfter, mailboxesAfter, cellsAfter, tagsAfter, wordAfter, done, ruled, judged, stepOf, withCore, withRegister, withMailbox}
-use Rattle.machine.specs.Words.{registerOf, mailboxOf, wordAt}
+use Rattle.machine.specs.Step.{registersAfter, mailboxesAfter, cellsAfter, tagsAfter, wordAfter, done, ruled, judged, stepOf}
+use Rattle.words.specs.Words.{registerOf, mailboxOf, wordAt}
 use Rattle.machine.specs.Session.{Line, line, linesFrom, linesStarted, linesRead, linesOf}
 
 pub document : List ℕ
@@ -42,7 +42,7 @@ document-lines =
     []
 
 pub document-runs : linesOf document ≡ document-lines
-unfolding document document-lines freedIn allFreed pageAt frameAt withPage withFrame freshOf mappings pageSound frameSound wellFormed each mapEach mapReasons mapped mapOf unmapReasons soiled unmapped unmapOf dirtyReasons zeroReasons cleared zeroOf lookupOf notMappedIn anyMapped freedEntry freedOf releasedEntry releasedOf inside first passed sweptTag sweptTags sweepOf seek findOf nextOf revokingOf rowOf withRow inUse openReasons takeReasons takeOf splitReasonsAt splitReasons splitAt splitOf mergeable mergeReasonsAt mergeReasons mergeAt mergeOf giveReasons giveOf freshCore running revoked dying revokeReasonsAt revokeReasons revokeAt revokeOf sweepReasons sweptCore sweepCoreOf collectReasons collected collectOf revocationSound coreSound live splice spread gather tiles allBlank revokings sized tableSound freshTable covered covers whole readOf onReading commandJudged commandOf effect mailboxesSound wellFormed-Formed fresh startOf addressed reasons linesFrom linesStarted linesRead linesOf registersAfter mailboxesAfter cellsAfter tagsAfter wordAfter done ruled judged stepOf withCore withRegister withMailbox registerOf mailboxOf wordAt
+unfolding document document-lines freedIn allFreed pageAt frameAt withPage withFrame freshOf mappings pageSound frameSound wellFormed each mapEach mapReasons mapped mapOf unmapReasons soiled unmapped unmapOf dirtyReasons zeroReasons cleared zeroOf lookupOf notMappedIn anyMapped freedEntry freedOf releasedEntry releasedOf inside first passed sweptTag sweptTags sweepOf seek findOf nextOf revokingOf rowOf withRow inUse openReasons takeReasons takeOf splitReasonsAt splitReasons splitAt splitOf mergeable mergeReasonsAt mergeReasons mergeAt mergeOf giveReasons giveOf freshCore running revoked dying revokeReasonsAt revokeReasons revokeAt revokeOf sweepReasons sweptCore sweepCoreOf collectReasons collected collectOf revocationSound coreSound live splice spread gather tiles allBlank revokings sized tableSound freshTable covered covers whole readOf onReading commandJudged commandOf effect mailboxesSound wellFormed-Formed fresh startOf addressed reasons linesFrom linesStarted linesRead linesOf registersAfter mailboxesAfter cellsAfter tagsAfter wordAfter done ruled judged stepOf registerOf mailboxOf wordAt
 document-runs = refl
 
 pub random-00 : List ℕ
@@ -74,7 +74,7 @@ random-00-lines =
     []
 
 pub random-00-runs : linesOf random-00 ≡ random-00-lines
-unfolding random-00 random-00-lines freedIn allFreed pageAt frameAt withPage withFrame freshOf mappings pageSound frameSound wellFormed each mapEach mapReasons mapped mapOf unmapReasons soiled unmapped unmapOf dirtyReasons zeroReasons cleared zeroOf lookupOf notMappedIn anyMapped freedEntry freedOf releasedEntry releasedOf inside first passed sweptTag sweptTags sweepOf seek findOf nextOf revokingOf rowOf withRow inUse openReasons takeReasons takeOf splitReasonsAt splitReasons splitAt splitOf mergeable mergeReasonsAt mergeReasons mergeAt mergeOf giveReasons giveOf freshCore running revoked dying revokeReasonsAt revokeReasons revokeAt revokeOf sweepReasons sweptCore sweepCoreOf collectReasons collected collectOf revocationSound coreSound live splice spread gather tiles allBlank revokings sized tableSound freshTable covered covers whole readOf onReading commandJudged commandOf effect mailboxesSound wellFormed-Formed fresh startOf addressed reasons linesFrom linesStarted linesRead linesOf registersAfter mailboxesAfter cellsAfter tagsAfter wordAfter done ruled judged stepOf withCore withRegister withMailbox registerOf mailboxOf wordAt
+unfolding random-00 random-00-lines freedIn allFreed pageAt frameAt withPage withFrame freshOf mappings pageSound frameSound wellFormed each mapEach mapReasons mapped mapOf unmapReasons soiled unmapped unmapOf dirtyReasons zeroReasons cleared zeroOf lookupOf notMappedIn anyMapped freedEntry freedOf releasedEntry releasedOf inside first passed sweptTag sweptTags sweepOf seek findOf nextOf revokingOf rowOf withRow inUse openReasons takeReasons takeOf splitReasonsAt splitReasons splitAt splitOf mergeable mergeReasonsAt mergeReasons mergeAt mergeOf giveReasons giveOf freshCore running revoked dying revokeReasonsAt revokeReasons revokeAt revokeOf sweepReasons sweptCore sweepCoreOf collectReasons collected collectOf revocationSound coreSound live splice spread gather tiles allBlank revokings sized tableSound freshTable covered covers whole readOf onReading commandJudged commandOf effect mailboxesSound wellFormed-Formed fresh startOf addressed reasons linesFrom linesStarted linesRead linesOf registersAfter mailboxesAfter cellsAfter tagsAfter wordAfter done ruled judged stepOf registerOf mailboxOf wordAt
 random-00-runs = refl
 
 pub random-01 : List ℕ
@@ -89,7 +89,7 @@ random-01-lines =
     []
 
 pub random-01-runs : linesOf random-01 ≡ random-01-lines
-unfolding random-01 random-01-lines freedIn allFreed pageAt frameAt withPage withFrame freshOf mappings pageSound frameSound wellFormed each mapEach mapReasons mapped mapOf unmapReasons soiled unmapped unmapOf dirtyReasons zeroReasons cleared zeroOf lookupOf notMappedIn anyMapped freedEntry freedOf releasedEntry releasedOf inside first passed sweptTag sweptTags sweepOf seek findOf nextOf revokingOf rowOf withRow inUse openReasons takeReasons takeOf splitReasonsAt splitReasons splitAt splitOf mergeable mergeReasonsAt mergeReasons mergeAt mergeOf giveReasons giveOf freshCore running revoked dying revokeReasonsAt revokeReasons revokeAt revokeOf sweepReasons sweptCore sweepCoreOf collectReasons collected collectOf revocationSound coreSound live splice spread gather tiles allBlank revokings sized tableSound freshTable covered covers whole readOf onReading commandJudged commandOf effect mailboxesSound wellFormed-Formed fresh startOf addressed reasons linesFrom linesStarted linesRead linesOf registersAfter mailboxesAfter cellsAfter tagsAfter wordAfter done ruled judged stepOf withCore withRegister withMailbox registerOf mailboxOf wordAt
+unfolding random-01 random-01-lines freedIn allFreed pageAt frameAt withPage withFrame freshOf mappings pageSound frameSound wellFormed each mapEach mapReasons mapped mapOf unmapReasons soiled unmapped unmapOf dirtyReasons zeroReasons cleared zeroOf lookupOf notMappedIn anyMapped freedEntry freedOf releasedEntry releasedOf inside first passed sweptTag sweptTags sweepOf seek findOf nextOf revokingOf rowOf withRow inUse openReasons takeReasons takeOf splitReasonsAt splitReasons splitAt splitOf mergeable mergeReasonsAt mergeReasons mergeAt mergeOf giveReasons giveOf freshCore running revoked dying revokeReasonsAt revokeReasons revokeAt revokeOf sweepReasons sweptCore sweepCoreOf collectReasons collected collectOf revocationSound coreSound live splice spread gather tiles allBlank revokings sized tableSound freshTable covered covers whole readOf onReading commandJudged commandOf effect mailboxesSound wellFormed-Formed fresh startOf addressed reasons linesFrom linesStarted linesRead linesOf registersAfter mailboxesAfter cellsAfter tagsAfter wordAfter done ruled judged stepOf registerOf mailboxOf wordAt
 random-01-runs = refl
 
 pub random-13 : List ℕ
@@ -102,7 +102,7 @@ random-13-lines =
     []
 
 pub random-13-runs : linesOf random-13 ≡ random-13-lines
-unfolding random-13 random-13-lines freedIn allFreed pageAt frameAt withPage withFrame freshOf mappings pageSound frameSound wellFormed each mapEach mapReasons mapped mapOf unmapReasons soiled unmapped unmapOf dirtyReasons zeroReasons cleared zeroOf lookupOf notMappedIn anyMapped freedEntry freedOf releasedEntry releasedOf inside first passed sweptTag sweptTags sweepOf seek findOf nextOf revokingOf rowOf withRow inUse openReasons takeReasons takeOf splitReasonsAt splitReasons splitAt splitOf mergeable mergeReasonsAt mergeReasons mergeAt mergeOf giveReasons giveOf freshCore running revoked dying revokeReasonsAt revokeReasons revokeAt revokeOf sweepReasons sweptCore sweepCoreOf collectReasons collected collectOf revocationSound coreSound live splice spread gather tiles allBlank revokings sized tableSound freshTable covered covers whole readOf onReading commandJudged commandOf effect mailboxesSound wellFormed-Formed fresh startOf addressed reasons linesFrom linesStarted linesRead linesOf registersAfter mailboxesAfter cellsAfter tagsAfter wordAfter done ruled judged stepOf withCore withRegister withMailbox registerOf mailboxOf wordAt
+unfolding random-13 random-13-lines freedIn allFreed pageAt frameAt withPage withFrame freshOf mappings pageSound frameSound wellFormed each mapEach mapReasons mapped mapOf unmapReasons soiled unmapped unmapOf dirtyReasons zeroReasons cleared zeroOf lookupOf notMappedIn anyMapped freedEntry freedOf releasedEntry releasedOf inside first passed sweptTag sweptTags sweepOf seek findOf nextOf revokingOf rowOf withRow inUse openReasons takeReasons takeOf splitReasonsAt splitReasons splitAt splitOf mergeable mergeReasonsAt mergeReasons mergeAt mergeOf giveReasons giveOf freshCore running revoked dying revokeReasonsAt revokeReasons revokeAt revokeOf sweepReasons sweptCore sweepCoreOf collectReasons collected collectOf revocationSound coreSound live splice spread gather tiles allBlank revokings sized tableSound freshTable covered covers whole readOf onReading commandJudged commandOf effect mailboxesSound wellFormed-Formed fresh startOf addressed reasons linesFrom linesStarted linesRead linesOf registersAfter mailboxesAfter cellsAfter tagsAfter wordAfter done ruled judged stepOf registerOf mailboxOf wordAt
 random-13-runs = refl
 
 pub random-14 : List ℕ
@@ -147,7 +147,7 @@ random-14-lines =
     []
 
 pub random-14-runs : linesOf random-14 ≡ random-14-lines
-unfolding random-14 random-14-lines freedIn allFreed pageAt frameAt withPage withFrame freshOf mappings pageSound frameSound wellFormed each mapEach mapReasons mapped mapOf unmapReasons soiled unmapped unmapOf dirtyReasons zeroReasons cleared zeroOf lookupOf notMappedIn anyMapped freedEntry freedOf releasedEntry releasedOf inside first passed sweptTag sweptTags sweepOf seek findOf nextOf revokingOf rowOf withRow inUse openReasons takeReasons takeOf splitReasonsAt splitReasons splitAt splitOf mergeable mergeReasonsAt mergeReasons mergeAt mergeOf giveReasons giveOf freshCore running revoked dying revokeReasonsAt revokeReasons revokeAt revokeOf sweepReasons sweptCore sweepCoreOf collectReasons collected collectOf revocationSound coreSound live splice spread gather tiles allBlank revokings sized tableSound freshTable covered covers whole readOf onReading commandJudged commandOf effect mailboxesSound wellFormed-Formed fresh startOf addressed reasons linesFrom linesStarted linesRead linesOf registersAfter mailboxesAfter cellsAfter tagsAfter wordAfter done ruled judged stepOf withCore withRegister withMailbox registerOf mailboxOf wordAt
+unfolding random-14 random-14-lines freedIn allFreed pageAt frameAt withPage withFrame freshOf mappings pageSound frameSound wellFormed each mapEach mapReasons mapped mapOf unmapReasons soiled unmapped unmapOf dirtyReasons zeroReasons cleared zeroOf lookupOf notMappedIn anyMapped freedEntry freedOf releasedEntry releasedOf inside first passed sweptTag sweptTags sweepOf seek findOf nextOf revokingOf rowOf withRow inUse openReasons takeReasons takeOf splitReasonsAt splitReasons splitAt splitOf mergeable mergeReasonsAt mergeReasons mergeAt mergeOf giveReasons giveOf freshCore running revoked dying revokeReasonsAt revokeReasons revokeAt revokeOf sweepReasons sweptCore sweepCoreOf collectReasons collected collectOf revocationSound coreSound live splice spread gather tiles allBlank revokings sized tableSound freshTable covered covers whole readOf onReading commandJudged commandOf effect mailboxesSound wellFormed-Formed fresh startOf addressed reasons linesFrom linesStarted linesRead linesOf registersAfter mailboxesAfter cellsAfter tagsAfter wordAfter done ruled judged stepOf registerOf mailboxOf wordAt
 random-14-runs = refl
 
 pub random-19 : List ℕ
@@ -193,7 +193,7 @@ random-19-lines =
     []
 
 pub random-19-runs : linesOf random-19 ≡ random-19-lines
-unfolding random-19 random-19-lines freedIn allFreed pageAt frameAt withPage withFrame freshOf mappings pageSound frameSound wellFormed each mapEach mapReasons mapped mapOf unmapReasons soiled unmapped unmapOf dirtyReasons zeroReasons cleared zeroOf lookupOf notMappedIn anyMapped freedEntry freedOf releasedEntry releasedOf inside first passed sweptTag sweptTags sweepOf seek findOf nextOf revokingOf rowOf withRow inUse openReasons takeReasons takeOf splitReasonsAt splitReasons splitAt splitOf mergeable mergeReasonsAt mergeReasons mergeAt mergeOf giveReasons giveOf freshCore running revoked dying revokeReasonsAt revokeReasons revokeAt revokeOf sweepReasons sweptCore sweepCoreOf collectReasons collected collectOf revocationSound coreSound live splice spread gather tiles allBlank revokings sized tableSound freshTable covered covers whole readOf onReading commandJudged commandOf effect mailboxesSound wellFormed-Formed fresh startOf addressed reasons linesFrom linesStarted linesRead linesOf registersAfter mailboxesAfter cellsAfter tagsAfter wordAfter done ruled judged stepOf withCore withRegister withMailbox registerOf mailboxOf wordAt
+unfolding random-19 random-19-lines freedIn allFreed pageAt frameAt withPage withFrame freshOf mappings pageSound frameSound wellFormed each mapEach mapReasons mapped mapOf unmapReasons soiled unmapped unmapOf dirtyReasons zeroReasons cleared zeroOf lookupOf notMappedIn anyMapped freedEntry freedOf releasedEntry releasedOf inside first passed sweptTag sweptTags sweepOf seek findOf nextOf revokingOf rowOf withRow inUse openReasons takeReasons takeOf splitReasonsAt splitReasons splitAt splitOf mergeable mergeReasonsAt mergeReasons mergeAt mergeOf giveReasons giveOf freshCore running revoked dying revokeReasonsAt revokeReasons revokeAt revokeOf sweepReasons sweptCore sweepCoreOf collectReasons collected collectOf revocationSound coreSound live splice spread gather tiles allBlank revokings sized tableSound freshTable covered covers whole readOf onReading commandJudged commandOf effect mailboxesSound wellFormed-Formed fresh startOf addressed reasons linesFrom linesStarted linesRead linesOf registersAfter mailboxesAfter cellsAfter tagsAfter wordAfter done ruled judged stepOf registerOf mailboxOf wordAt
 random-19-runs = refl
 
 pub random-25 : List ℕ
@@ -207,7 +207,7 @@ random-25-lines =
     []
 
 pub random-25-runs : linesOf random-25 ≡ random-25-lines
-unfolding random-25 random-25-lines freedIn allFreed pageAt frameAt withPage withFrame freshOf mappings pageSound frameSound wellFormed each mapEach mapReasons mapped mapOf unmapReasons soiled unmapped unmapOf dirtyReasons zeroReasons cleared zeroOf lookupOf notMappedIn anyMapped freedEntry freedOf releasedEntry releasedOf inside first passed sweptTag sweptTags sweepOf seek findOf nextOf revokingOf rowOf withRow inUse openReasons takeReasons takeOf splitReasonsAt splitReasons splitAt splitOf mergeable mergeReasonsAt mergeReasons mergeAt mergeOf giveReasons giveOf freshCore running revoked dying revokeReasonsAt revokeReasons revokeAt revokeOf sweepReasons sweptCore sweepCoreOf collectReasons collected collectOf revocationSound coreSound live splice spread gather tiles allBlank revokings sized tableSound freshTable covered covers whole readOf onReading commandJudged commandOf effect mailboxesSound wellFormed-Formed fresh startOf addressed reasons linesFrom linesStarted linesRead linesOf registersAfter mailboxesAfter cellsAfter tagsAfter wordAfter done ruled judged stepOf withCore withRegister withMailbox registerOf mailboxOf wordAt
+unfolding random-25 random-25-lines freedIn allFreed pageAt frameAt withPage withFrame freshOf mappings pageSound frameSound wellFormed each mapEach mapReasons mapped mapOf unmapReasons soiled unmapped unmapOf dirtyReasons zeroReasons cleared zeroOf lookupOf notMappedIn anyMapped freedEntry freedOf releasedEntry releasedOf inside first passed sweptTag sweptTags sweepOf seek findOf nextOf revokingOf rowOf withRow inUse openReasons takeReasons takeOf splitReasonsAt splitReasons splitAt splitOf mergeable mergeReasonsAt mergeReasons mergeAt mergeOf giveReasons giveOf freshCore running revoked dying revokeReasonsAt revokeReasons revokeAt revokeOf sweepReasons sweptCore sweepCoreOf collectReasons collected collectOf revocationSound coreSound live splice spread gather tiles allBlank revokings sized tableSound freshTable covered covers whole readOf onReading commandJudged commandOf effect mailboxesSound wellFormed-Formed fresh startOf addressed reasons linesFrom linesStarted linesRead linesOf registersAfter mailboxesAfter cellsAfter tagsAfter wordAfter done ruled judged stepOf registerOf mailboxOf wordAt
 random-25-runs = refl
 
 pub random-34 : List ℕ
@@ -262,5 +262,5 @@ random-34-lines =
     []
 
 pub random-34-runs : linesOf random-34 ≡ random-34-lines
-unfolding random-34 random-34-lines freedIn allFreed pageAt frameAt withPage withFrame freshOf mappings pageSound frameSound wellFormed each mapEach mapReasons mapped mapOf unmapReasons soiled unmapped unmapOf dirtyReasons zeroReasons cleared zeroOf lookupOf notMappedIn anyMapped freedEntry freedOf releasedEntry releasedOf inside first passed sweptTag sweptTags sweepOf seek findOf nextOf revokingOf rowOf withRow inUse openReasons takeReasons takeOf splitReasonsAt splitReasons splitAt splitOf mergeable mergeReasonsAt mergeReasons mergeAt mergeOf giveReasons giveOf freshCore running revoked dying revokeReasonsAt revokeReasons revokeAt revokeOf sweepReasons sweptCore sweepCoreOf collectReasons collected collectOf revocationSound coreSound live splice spread gather tiles allBlank revokings sized tableSound freshTable covered covers whole readOf onReading commandJudged commandOf effect mailboxesSound wellFormed-Formed fresh startOf addressed reasons linesFrom linesStarted linesRead linesOf registersAfter mailboxesAfter cellsAfter tagsAfter wordAfter done ruled judged stepOf withCore withRegister withMailbox registerOf mailboxOf wordAt
+unfolding random-34 random-34-lines freedIn allFreed pageAt frameAt withPage withFrame freshOf mappings pageSound frameSound wellFormed each mapEach mapReasons mapped mapOf unmapReasons soiled unmapped unmapOf dirtyReasons zeroReasons cleared zeroOf lookupOf notMappedIn anyMapped freedEntry freedOf releasedEntry releasedOf inside first passed sweptTag sweptTags sweepOf seek findOf nextOf revokingOf rowOf withRow inUse openReasons takeReasons takeOf splitReasonsAt splitReasons splitAt splitOf mergeable mergeReasonsAt mergeReasons mergeAt mergeOf giveReasons giveOf freshCore running revoked dying revokeReasonsAt revokeReasons revokeAt revokeOf sweepReasons sweptCore sweepCoreOf collectReasons collected collectOf revocationSound coreSound live splice spread gather tiles allBlank revokings sized tableSound freshTable covered covers whole readOf onReading commandJudged commandOf effect mailboxesSound wellFormed-Formed fresh startOf addressed reasons linesFrom linesStarted linesRead linesOf registersAfter mailboxesAfter cellsAfter tagsAfter wordAfter done ruled judged stepOf registerOf mailboxOf wordAt
 random-34-runs = refl

@@ -15,8 +15,8 @@ use Rattle.calls.specs.Reader.{readOf}
 use Rattle.calls.specs.declared.Reading.the-variants.{Read}
 use Rattle.calls.proofs.RoundTrip.{round-trip}
 use Rattle.pages.specs.Layer.{serves}
-use Rattle.pages.specs.Lists.{pick}
-use Rattle.pages.specs.Refusals.{first}
+use Rattle.capabilities.specs.Lists.{pick}
+use Rattle.capabilities.specs.Refusals.{first}
 use Rattle.machine.specs.declared.State.{State}
 use Rattle.machine.specs.Formed.{wellFormed}
 use Rattle.machine.specs.Step.{refused, reasonsOn, ruled, judged, stepOf}

@@ -7,7 +7,7 @@ use Rattle.calls.specs.declared.Reading.{Reading}
 use Rattle.calls.specs.declared.Reading.the-variants.{Read, Refused}
 use Rattle.calls.specs.Reader.{readOf}
 use Rattle.pages.specs.Layer.{serves}
-use Rattle.pages.specs.Lists.{pick}
+use Rattle.capabilities.specs.Lists.{pick}
 use Rattle.machine.specs.declared.State.{State}
 use Rattle.machine.specs.declared.Commanded.{Commanded}
 use Rattle.machine.specs.Formed.{wellFormed}

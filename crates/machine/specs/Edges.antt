@@ -9,9 +9,8 @@ use Rattle.calls.specs.declared.Call.{Call}
 use Rattle.calls.specs.declared.Call.the-variants.{Take, Split, Give, Revoke, Sweep, Collect, Map, Zero, Load, Store}
 use Rattle.calls.specs.Commands.{page, frame}
 use Rattle.machine.specs.declared.State.{State}
-use Rattle.machine.specs.declared.Answered.{Answered}
 use Rattle.machine.specs.Formed.{startOf}
-use Rattle.machine.specs.Step.{Outcome, stepOf}
+use Rattle.machine.specs.Step.{stepOf}
 
 -- V and F, the calls, and the codes expected: the start's, then each call's.
 pub record Case : Type 0 where

@@ -9,19 +9,17 @@ use Rattle.calls.specs.declared.Call.the-variants.{Take, Split, Merge, Give, Re
 use Rattle.pages.specs.declared.Frame.{Frame}
 use Rattle.pages.specs.declared.FrameState.the-variants.{Free}
 use Rattle.pages.specs.declared.Pages.{Pages}
-use Rattle.pages.specs.declared.Place.{Place}
-use Rattle.pages.specs.declared.Place.the-variants.{At, Nowhere}
-use Rattle.pages.specs.declared.Range.{Range}
-use Rattle.pages.specs.Capability.{capability, narrowed, permits}
+use Rattle.capabilities.specs.declared.Range.{Range}
+use Rattle.capabilities.specs.Capability.{capability, narrowed, permits}
 use Rattle.pages.specs.Layer.{withFrame}
 use Rattle.pages.specs.Mapping.{mapOf, unmapOf}
-use Rattle.pages.specs.Sweep.{passed}
-use Rattle.reservations.specs.declared.Core.{Core}
+use Rattle.sweep.specs.Sweep.{passed}
+use Rattle.revocation.specs.declared.Core.{Core}
 use Rattle.reservations.specs.declared.Table.{Table}
 use Rattle.reservations.specs.Operations.{takeOf, splitOf, mergeOf, giveOf}
-use Rattle.reservations.specs.Revocation.{core, revoked, revokeOf, collectOf}
-use Rattle.machine.specs.declared.Slot.{Slot}
-use Rattle.machine.specs.Words.{slot, empty, mailboxOf, stored}
+use Rattle.revocation.specs.Revocation.{core, revoked, revokeOf, collectOf}
+use Rattle.words.specs.declared.Slot.{Slot}
+use Rattle.words.specs.Words.{slot, empty, mailboxOf, placeNumber, stored}
 use Rattle.machine.specs.Reasons.{Reads, addressed}
 
 -- What becomes of the registers: nothing; a word is put into one of a party's; the word at a place of lent memory is,
@@ -69,11 +67,6 @@ tableChange c t = effectOf (withTable c t) keepRegisters keepMailboxes keepMemor
 
 abbrev pub pageChange : Core → Pages → Effect
 pageChange c p = effectOf (withPages c p) keepRegisters keepMailboxes keepMemory empty
-
--- The number of a place that is there.
-abbrev pub placeNumber : Place → ℕ
-placeNumber (At at) = at
-placeNumber Nowhere = 0
 
 -- 06: the place that a sweep of n cells reaches.
 abbrev pub sweptTo : Core → ℕ → ℕ

@@ -1,5 +1,4 @@
 -- The rules of document 01, in its order: the state, the reasons against a call, its effect, and one step.
-pub mod Words
 pub mod Formed
 pub mod Reasons
 pub mod Effects

@@ -1,21 +1,20 @@
 -- Document 01, 'Why a call is turned down', 4 to 19: for each kind of call the reasons against it, in the order of their
 -- numbers. They look at the core, the mailboxes and the registers that the call reads, and at nothing else. Assumes nothing.
 use Prim.Native.Nat.{ℕ, _+_}
-use mathlib.Core.Bool.{Bool, true, false, not, _&&_, _||_}
+use mathlib.Core.Bool.{not, _||_}
 use mathlib.Core.List.{List, [], _∷_}
-use lib.Dec.{leb, ltb, eqb}
 use Rattle.calls.specs.declared.Call.{Call}
 use Rattle.calls.specs.declared.Call.the-variants.{Take, Split, Merge, Give, Revoke, Sweep, Collect, Map, Unmap, Zero, Load, Store, Narrow, Number, Grant, Receive}
 use Rattle.pages.specs.declared.Place.{Place}
-use Rattle.pages.specs.declared.Place.the-variants.{At, Nowhere}
-use Rattle.pages.specs.Capability.{baseOf, lengthOf, permits}
+use Rattle.capabilities.specs.Capability.{baseOf}
 use Rattle.pages.specs.Mapping.{lookupOf, mapReasons, unmapReasons, dirtyReasons}
-use Rattle.pages.specs.Refusals.{Reason, reason}
-use Rattle.reservations.specs.declared.Core.{Core}
+use Rattle.capabilities.specs.Refusals.{Reason, reason}
+use Rattle.revocation.specs.declared.Core.{Core}
 use Rattle.reservations.specs.Operations.{takeReasons, splitReasons, mergeReasons, giveReasons}
-use Rattle.reservations.specs.Revocation.{running, revokeReasons, collectReasons}
-use Rattle.machine.specs.declared.Slot.{Slot}
-use Rattle.machine.specs.Words.{empty, named, registerOf, mailboxOf}
+use Rattle.revocation.specs.Revocation.{running, revokeReasons, collectReasons}
+use Rattle.words.specs.declared.Slot.{Slot}
+use Rattle.words.specs.WordReasons.{unnamed, notManager, loadReasons, storeReasons, narrowReasons, grantReasons, receiveReasons}
+use Rattle.words.specs.Words.{empty, registerOf, mailboxOf}
 
 -- The registers that a call reads: at most two, in the order of its operands.
 pub record Reads : Type 0 where
@@ -48,33 +47,6 @@ reads registers (Receive p d) = reading empty empty
 unfoldable pub addressed : Core → Slot → ℕ → Place
 addressed c a off = lookupOf (c .pages) (baseOf (a .cell) + off)
 
-abbrev pub nowhere : Place → Bool
-nowhere (At at) = false
-nowhere Nowhere = true
-
--- 4: "A party number, a `to` or a register number is above 7."
-abbrev pub unnamed : ℕ → Bool
-unnamed n = not (named n)
-
--- 5: "A command 05 to 0A comes from a party other than 0."
-abbrev pub notManager : ℕ → Bool
-notManager p = not (eqb p 0)
-
--- 16: "Load lacks permission 1, store lacks 2, or a tagged s is stored through an a without 8."
-abbrev pub mayNotLoad : Slot → Bool
-mayNotLoad a = not (permits (a .cell) 1)
-
-abbrev pub mayNotStore : Slot → Slot → Bool
-mayNotStore a s = not (permits (a .cell) 2) || (s .tag && not (permits (a .cell) 8))
-
--- 17: "An offset is not below the length".
-abbrev pub pastEnd : Slot → ℕ → Bool
-pastEnd a off = leb (lengthOf (a .cell)) off
-
--- 17: ".. or a narrowing has length 0, ends past the capability or begins above 65,535."
-abbrev pub badNarrow : Slot → ℕ → ℕ → Bool
-badNarrow s off len = (eqb len 0 || ltb (lengthOf (s .cell)) (off + len)) || ltb 65535 (baseOf (s .cell) + off)
-
 -- The reasons against a call, given the core, the mailboxes and the registers that it reads.
 unfoldable pub reasons : Core → List Slot → Reads → Call → List Reason
 reasons c mail r (Take p base reg) = reason 4 (unnamed p || unnamed reg) ∷ takeReasons (c .table) p base
@@ -87,21 +59,9 @@ reasons c mail r (Collect p) = reason 4 (unnamed p) ∷ reason 5 (notManager p) 
 reasons c mail r (Map p page frame) = reason 4 (unnamed p) ∷ reason 5 (notManager p) ∷ mapReasons (c .pages) page frame
 reasons c mail r (Unmap p page) = reason 4 (unnamed p) ∷ reason 5 (notManager p) ∷ unmapReasons (c .pages) page
 reasons c mail r (Zero p frame) = reason 4 (unnamed p) ∷ reason 5 (notManager p) ∷ dirtyReasons (c .pages) frame
-reasons c mail r (Load p a off d) =
-    reason 4 ((unnamed p || unnamed a) || unnamed d)
-    ∷ reason 15 (not (r .one .tag))
-    ∷ reason 16 (mayNotLoad (r .one))
-    ∷ reason 17 (pastEnd (r .one) off) ∷ reason 18 (nowhere (addressed c (r .one) off)) ∷ []
-reasons c mail r (Store p a off s) =
-    reason 4 ((unnamed p || unnamed a) || unnamed s)
-    ∷ reason 15 (not (r .one .tag))
-    ∷ reason 16 (mayNotStore (r .one) (r .two))
-    ∷ reason 17 (pastEnd (r .one) off) ∷ reason 18 (nowhere (addressed c (r .one) off)) ∷ []
-reasons c mail r (Narrow p s off len mask d) =
-    reason 4 ((unnamed p || unnamed s) || unnamed d)
-    ∷ reason 15 (not (r .one .tag)) ∷ reason 17 (pastEnd (r .one) off || badNarrow (r .one) off len) ∷ []
+reasons c mail r (Load p a off d) = loadReasons p a d (r .one) off (addressed c (r .one) off)
+reasons c mail r (Store p a off s) = storeReasons p a s (r .one) (r .two) off (addressed c (r .one) off)
+reasons c mail r (Narrow p s off len mask d) = narrowReasons p s d (r .one) off len
 reasons c mail r (Number p d value) = reason 4 (unnamed p || unnamed d) ∷ []
-reasons c mail r (Grant p s to) =
-    reason 4 ((unnamed p || unnamed s) || unnamed to)
-    ∷ reason 15 (not (r .one .tag)) ∷ reason 19 (mailboxOf mail to .tag) ∷ []
-reasons c mail r (Receive p d) = reason 4 (unnamed p || unnamed d) ∷ reason 19 (not (mailboxOf mail p .tag)) ∷ []
+reasons c mail r (Grant p s to) = grantReasons p s to (r .one) (mailboxOf mail to)
+reasons c mail r (Receive p d) = receiveReasons p d (mailboxOf mail p)

@@ -5,13 +5,11 @@ use mathlib.Core.List.{List, [], _∷_}
 use lib.ListN.{length, take, replicate}
 use lib.Dec.{leb, ltb}
 use Rattle.calls.specs.Bytes.{number}
-use Rattle.pages.specs.Lists.{pick}
 use Rattle.machine.specs.declared.State.{State}
 use Rattle.machine.specs.declared.Answered.{Answered}
-use Rattle.machine.specs.declared.Commanded.{Commanded}
-use Rattle.machine.specs.Words.{byteOf}
+use Rattle.words.specs.Words.{byteOf}
 use Rattle.machine.specs.Formed.{startOf}
-use Rattle.machine.specs.Command.{Ran, commandOf}
+use Rattle.machine.specs.Command.{commandOf}
 
 -- "It prints a decimal line `code number tag`".
 pub record Line : Type 0 where

@@ -7,15 +7,15 @@ use lib.ListN.{length, set}
 use lib.Dec.{eqb}
 use Rattle.calls.specs.declared.Call.{Call}
 use Rattle.pages.specs.Layer.{serves}
-use Rattle.pages.specs.Lists.{pick}
+use Rattle.capabilities.specs.Lists.{pick}
 use Rattle.pages.specs.Mapping.{cleared}
-use Rattle.pages.specs.Refusals.{Reason, first}
-use Rattle.pages.specs.Sweep.{sweptTags}
-use Rattle.reservations.specs.declared.Core.{Core}
-use Rattle.machine.specs.declared.Slot.{Slot}
+use Rattle.capabilities.specs.Refusals.{Reason, first}
+use Rattle.sweep.specs.Sweep.{sweptTags}
+use Rattle.revocation.specs.declared.Core.{Core}
+use Rattle.words.specs.declared.Slot.{Slot}
 use Rattle.machine.specs.declared.State.{State}
 use Rattle.machine.specs.declared.Answered.{Answered}
-use Rattle.machine.specs.Words.{empty, byteOf, wordAt, keepTag, collectedRegister, collectedMailbox}
+use Rattle.words.specs.Words.{empty, byteOf, wordAt, keepTag, collectedRegister, collectedMailbox}
 use Rattle.machine.specs.Formed.{wellFormed, answered}
 use Rattle.machine.specs.Reasons.{reads, reasons}
 use Rattle.machine.specs.Effects.{RegisterChange, keepRegisters, putRegister, fetchInto, collectRegisters, MailboxChange, keepMailboxes, putMailbox, collectMailboxes, MemoryChange, keepMemory, writeWord, clearFrame, sweepCells, Effect, effect}
@@ -100,12 +100,6 @@ stepOf s c cells tags = pick (wellFormed s) (judged s c cells tags) (refused 1 s
 abbrev pub Rules : Answered → State → Call → Type 0
 Rules r s c = (cells tags : List ℕ) → left r cells tags ≡ ruled s c cells tags
 
--- A state with one part put in place of the old one.
+-- A state with another core.
 unfoldable pub withCore : State → Core → State
 withCore s c = record { core = c; registers = s .registers; mailboxes = s .mailboxes }
-
-unfoldable pub withRegister : State → ℕ → ℕ → Slot → State
-withRegister s p r w = record { core = s .core; registers = set (s .registers) (8 * p + r) w; mailboxes = s .mailboxes }
-
-unfoldable pub withMailbox : State → ℕ → Slot → State
-withMailbox s p w = record { core = s .core; registers = s .registers; mailboxes = set (s .mailboxes) p w }

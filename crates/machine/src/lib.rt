@@ -1,18 +1,13 @@
 // The reservation machine: sixteen calls on one state and the memory that it is lent.
-use reservations::Core;
+use revocation::Core;
+use words::Slot;
 
 pub mod page_calls;
+pub mod registers;
 pub mod revocation_calls;
 pub mod step;
 pub mod table_calls;
 pub mod word_calls;
-pub mod words;
-
-// A word: a cell and its tag. Tagged, it is a capability.
-pub struct Slot {
-    pub cell: u64,
-    pub tag: bool,
-}
 
 // The core, eight registers of each of eight parties (register r of party p stands at 8 p + r), and a mailbox of each.
 pub struct State {

@@ -1,10 +1,10 @@
 // Calls 08 to 0A, on the page layer.
 use crate::Answered;
 use crate::State;
-use crate::revocation_calls::manager_code;
 use pages::Frame;
 use pages::Pages;
 use pages::VirtualPage;
+use words::codes::manager_code;
 ghost use mathlib.Core.Path.{_≡_};
 ghost use Rattle.calls.specs.declared.Call.the-variants.{Map, Unmap};
 ghost use Rattle.machine.specs.Effects.{withPages};

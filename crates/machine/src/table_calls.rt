@@ -1,10 +1,10 @@
 // Calls 01 to 04, on the reservation table.
 use crate::Answered;
-use crate::Slot;
 use crate::State;
-use pages::capability::capability;
-use pages::refusal::first;
+use capabilities::capability::capability;
+use capabilities::refusal::first;
 use reservations::Table;
+use words::Slot;
 ghost use mathlib.Core.Path.{_≡_};
 ghost use Rattle.calls.specs.declared.Call.the-variants.{Take, Split, Merge, Give};
 ghost use Rattle.machine.specs.Effects.{withTable};
@@ -36,9 +36,15 @@ impl State {
             cell: capability(base, length, 15),
             tag: true,
         };
-        let changed = self.with_table(after);
-        let put = changed.with_register(party, reg, word);
-        put.granted(length as u64, false)
+        let mut state = self.with_table(after);
+        let i = 8 * (party as usize) + reg as usize;
+        state.registers[i] = word;
+        Answered {
+            code: 0,
+            number: length as u64,
+            tag: false,
+            state,
+        }
     }
 
     pub(crate) fn split(self, party: u8, base: u16, len: u16) -> Answered

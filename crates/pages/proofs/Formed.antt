@@ -18,10 +18,10 @@ use Rattle.pages.specs.declared.FrameState.{FrameState}
 use Rattle.pages.specs.declared.FrameState.the-variants.{Dirty}
 use Rattle.pages.specs.Entries.{mapsBelow, isShown, pageEntry, frameEntry}
 use Rattle.pages.specs.Layer.{pageAt, frameAt, withPage, withFrame, inRange, blank, shaped, mappings, pageSound, frameSound, wellFormed}
-use Rattle.pages.specs.Lists.{pick, each}
+use Rattle.capabilities.specs.Lists.{pick, each}
 use Rattle.pages.specs.Mapping.{withPages}
-use Rattle.pages.proofs.Choice.{pick-yes, pick-twice, and-left, and-right}
-use Rattle.pages.proofs.Lists.{each-at, each-all}
+use Rattle.capabilities.proofs.Choice.{pick-yes, pick-twice, and-left, and-right}
+use Rattle.capabilities.proofs.Lists.{each-at, each-all}
 
 abbrev page₀ : PageEntry
 page₀ = pageEntry Unmapped

@@ -15,8 +15,8 @@ use Rattle.pages.specs.declared.PageState.{PageState}
 use Rattle.pages.specs.declared.PageState.the-variants.{Unmapped, Freed, Mapped}
 use Rattle.pages.specs.Entries.{maps, frameNumber}
 use Rattle.pages.specs.Layer.{mappings, Tally}
-use Rattle.pages.specs.Lists.{pick, mapEach}
-use Rattle.pages.proofs.Choice.{pick-yes, pick-no, at-most}
+use Rattle.capabilities.specs.Lists.{pick, mapEach}
+use Rattle.capabilities.proofs.Choice.{pick-yes, pick-no, at-most}
 
 -- One if the page maps the frame, else none.
 abbrev pub one : PageEntry → ℕ → ℕ

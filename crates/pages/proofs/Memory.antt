@@ -14,9 +14,9 @@ use Rattle.pages.specs.declared.FrameState.the-variants.{Dirty, Free}
 use Rattle.pages.specs.Entries.{isDirty}
 use Rattle.pages.specs.Layer.{frameAt, serves, withFrame}
 use Rattle.pages.specs.Mapping.{zeroReasons, dirtyReasons, noFrame, cleared, zeroed, zeroOf}
-use Rattle.pages.specs.Refusals.{first}
-use Rattle.pages.proofs.Choice.{and-left, and-right}
-use Rattle.pages.proofs.Refusals.{first-clear}
+use Rattle.capabilities.specs.Refusals.{first}
+use Rattle.capabilities.proofs.Choice.{and-left, and-right}
+use Rattle.capabilities.proofs.Refusals.{first-clear}
 use Rattle.pages.proofs.States.{is-dirty}
 
 -- The part comes back cleared, between what stood before it and what stood after it.

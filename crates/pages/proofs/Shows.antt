@@ -16,7 +16,7 @@ use Rattle.pages.specs.declared.FrameState.the-variants.{Mapped as Shown
 use Rattle.pages.specs.declared.Place.the-variants.{At, Nowhere}
 use Rattle.pages.specs.Layer.{pageAt, withPage, withFrame}
 use Rattle.pages.specs.Mapping.{mapped, cleared, zeroOf, lookupOf, placeIn}
-use Rattle.pages.proofs.Choice.{pick-yes}
+use Rattle.capabilities.proofs.Choice.{pick-yes}
 use Rattle.pages.proofs.Formed.{Sound}
 use Rattle.pages.proofs.Kept.{Mappable}
 use Rattle.pages.proofs.Memory.{zero-served}

@@ -13,7 +13,7 @@ use Rattle.pages.specs.declared.PageState.the-variants.{Unmapped}
 use Rattle.pages.specs.declared.FrameState.{FrameState}
 use Rattle.pages.specs.declared.FrameState.the-variants.{Dirty}
 use Rattle.pages.specs.Entries.{isUnmapped, maps, mapsBelow, isDirty, isShown, pageEntry, frameEntry}
-use Rattle.pages.specs.Lists.{pick, each}
+use Rattle.capabilities.specs.Lists.{pick, each}
 
 -- The state of a page and of a frame; past the table's end, an unused entry's.
 unfoldable pub pageAt : Pages → ℕ → PageState

@@ -2,8 +2,8 @@
 use crate::PageEntry;
 use crate::PageState;
 use crate::Pages;
-use crate::Range;
-use crate::ranges::inside;
+use capabilities::Range;
+use capabilities::ranges::inside;
 ghost use mathlib.Core.Path.{_≡_};
 ghost use Prim.Native.Nat.{_<_};
 ghost use Rattle.pages.specs.Freed.{isFreed, freedIn, allFreed};

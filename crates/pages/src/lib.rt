@@ -1,12 +1,9 @@
 // The page layer: virtual pages, frames, and the cells of lent memory behind them.
-pub mod capability;
 pub mod entry;
 pub mod freed;
 pub mod layer;
 pub mod mapping;
 pub mod ranges;
-pub mod refusal;
-pub mod sweep;
 
 // The number of a virtual page. V is at most 256, so a byte holds every one.
 pub struct VirtualPage(pub u8);
@@ -44,12 +41,6 @@ pub struct Pages {
     pub frames: [FrameEntry; 128],
 }
 
-// A range of virtual cells: `length` of them from `base` on.
-pub struct Range {
-    pub base: u16,
-    pub length: u16,
-}
-
 // What map, unmap and zero answer: 0 or the refusal's number, and the layer after it.
 pub struct Paged {
     pub code: u8,
@@ -60,11 +51,4 @@ pub struct Paged {
 pub enum Place {
     At(usize),
     Nowhere,
-}
-
-// What a sweep answers: 0 or the refusal's number, the cells left and the place reached.
-pub struct Swept {
-    pub code: u8,
-    pub left: u32,
-    pub place: u32,
 }

@@ -1,22 +1,15 @@
-// Ranges of virtual cells, and what becomes of the pages in one.
+// What becomes of the pages in a range.
 use crate::PageEntry;
 use crate::PageState;
 use crate::Pages;
-use crate::Range;
 use crate::entry::is_mapped;
 use crate::entry::is_unmapped;
+use capabilities::Range;
+use capabilities::ranges::inside;
 ghost use mathlib.Core.Path.{_≡_};
 ghost use Prim.Native.Nat.{_<_};
 ghost use Rattle.pages.specs.Mapping.{notMappedIn, anyMapped, freedEntry, freedOf, releasedEntry, releasedOf};
-ghost use Rattle.pages.specs.Range.{inside, pageInside};
-
-pub fn inside(range: Range, cell: u32) -> bool
-    ensures { λ r. ⌜ r ≡ inside range cell ⌝ }
-{
-    let base = range.base as u32;
-    let end = base + range.length as u32;
-    (base <= cell) & (cell < end)
-}
+ghost use Rattle.capabilities.specs.Range.{pageInside};
 
 fn page_inside(range: Range, page: usize) -> bool
     requires { ⌜ page < 256 ⌝ }

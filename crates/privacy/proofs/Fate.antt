@@ -1,15 +1,15 @@
 -- A call is turned down and changes nothing, or its effect is done to a well-formed state; and what decides this. Assumes nothing.
-use Prim.Native.Nat.{ℕ, _*_}
+use Prim.Native.Nat.{ℕ}
 use native.Mathlib.Omega.{arith}
-use mathlib.Core.Bool.{Bool, true, false, _&&_, true≢false, false≢true}
+use mathlib.Core.Bool.{Bool, true, false}
 use mathlib.Core.Path.{_≡_, refl, sym, ap, _∙_}
 use borrow.Author.Tests.{eqb-true, eqb-false}
 use lib.Dec.{eqb}
 use lib.ListN.{length}
 use Rattle.calls.specs.declared.Call.{Call}
 use Rattle.pages.specs.Layer.{serves}
-use Rattle.pages.specs.Lists.{pick}
-use Rattle.pages.specs.Refusals.{first}
+use Rattle.capabilities.specs.Lists.{pick}
+use Rattle.capabilities.specs.Refusals.{first}
 use Rattle.machine.specs.Formed.{wellFormed}
 use Rattle.machine.specs.Effects.{Effect}
 use Rattle.machine.specs.Step.{refused, registersAfter, mailboxesAfter, cellsAfter, tagsAfter, wordAfter, done, reasonsOn, effectOn, ruled, judged, stepOf}

@@ -1,5 +1,5 @@
 -- One history in the house's time: which capabilities into the range there are, and that an effect keeps it so. Assumes nothing.
-use Prim.Native.Nat.{ℕ, _+_, _*_, _/_, _%_, _<_, _≤_}
+use Prim.Native.Nat.{ℕ, _+_, _*_, _/_, _<_, _≤_}
 use native.Mathlib.Omega.{arith}
 use mathlib.Core.Bool.{Bool, true, false, not, _&&_, true≢false, false≢true}
 use mathlib.Core.List.{List}
@@ -9,22 +9,22 @@ use lib.Dec.{eqb, ltb, leb}
 use lib.ListN.{length, getD}
 use Rattle.pages.specs.declared.FrameEntry.{FrameEntry}
 use Rattle.pages.specs.declared.Place.the-variants.{At}
-use Rattle.pages.specs.declared.Range.{Range}
-use Rattle.pages.specs.Capability.{baseOf, lengthOf}
-use Rattle.pages.specs.Lists.{pick}
+use Rattle.capabilities.specs.declared.Range.{Range}
+use Rattle.capabilities.specs.Capability.{baseOf, lengthOf}
+use Rattle.capabilities.specs.Lists.{pick}
 use Rattle.pages.specs.Mapping.{lookupOf}
-use Rattle.pages.specs.Range.{inside}
-use Rattle.pages.specs.Sweep.{shownAt}
-use Rattle.pages.proofs.Choice.{and-left, and-right}
+use Rattle.capabilities.specs.Range.{inside}
+use Rattle.sweep.specs.Sweep.{shownAt}
+use Rattle.capabilities.proofs.Choice.{and-left, and-right}
 use Rattle.pages.proofs.Formed.{Sound}
-use Rattle.reservations.specs.declared.Core.{Core}
+use Rattle.revocation.specs.declared.Core.{Core}
 use Rattle.reservations.specs.declared.ReservationState.the-variants.{Taken}
-use Rattle.reservations.specs.Revocation.{dying}
+use Rattle.revocation.specs.Revocation.{dying}
 use Rattle.reservations.specs.Rows.{reservation}
 use Rattle.reservations.proofs.Cells.{inside-bounds, inside-made}
 use Rattle.reservations.proofs.Truth.{both}
-use Rattle.machine.specs.declared.Slot.{Slot}
-use Rattle.machine.specs.Words.{slot, empty, registerOf, mailboxOf, wordAt, keepTag, collectedMailbox}
+use Rattle.words.specs.declared.Slot.{Slot}
+use Rattle.words.specs.Words.{slot, empty, registerOf, mailboxOf, wordAt, keepTag, collectedMailbox}
 use Rattle.machine.specs.Effects.{RegisterChange, keepRegisters, putRegister, fetchInto, collectRegisters, MailboxChange, keepMailboxes, putMailbox, collectMailboxes, MemoryChange, keepMemory, writeWord, clearFrame, sweepCells, Effect}
 use Rattle.machine.specs.Step.{registersAfter, mailboxesAfter, cellsAfter, tagsAfter, fetched}
 use Rattle.histories.specs.Runs.{Machine}

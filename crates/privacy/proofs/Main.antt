@@ -3,7 +3,7 @@
 -- registers and the range itself hold such capabilities (`House`, kept by `Steps.keeps`). Two histories have equal cores, mailboxes,
 -- registers of the others and Mapped cells that are not hidden (`Relate`): a struck call in one keeps this (`Steps.alone`), and so does
 -- a call that is left in both (`Twice.both-left`). Induction on the two lists (`Glue`) does the rest. Assumes nothing.
-use Prim.Native.Nat.{ℕ, _+_, _*_, _<_, _≤_}
+use Prim.Native.Nat.{ℕ, _+_, _*_, _<_}
 use native.Mathlib.Omega.{arith}
 use mathlib.Core.Bool.{Bool, true, false, _&&_, _||_, true≢false, false≢true}
 use mathlib.Core.List.{List, [], _∷_, _++_}
@@ -13,20 +13,21 @@ use lib.Dec.{eqb}
 use lib.ListN.{length, getD}
 use Rattle.calls.specs.declared.Call.{Call}
 use Rattle.calls.specs.declared.Call.the-variants.{Take}
-use Rattle.pages.specs.declared.Range.{Range}
-use Rattle.pages.specs.Capability.{capability}
-use Rattle.pages.specs.Lists.{pick}
-use Rattle.pages.specs.Range.{inside}
-use Rattle.pages.specs.Refusals.{first, reason}
-use Rattle.pages.proofs.Refusals.{first-clear}
-use Rattle.reservations.specs.declared.Core.{Core}
+use Rattle.capabilities.specs.declared.Range.{Range}
+use Rattle.capabilities.specs.Capability.{capability}
+use Rattle.capabilities.specs.Lists.{pick}
+use Rattle.capabilities.specs.Range.{inside}
+use Rattle.capabilities.specs.Refusals.{first, reason}
+use Rattle.capabilities.proofs.Refusals.{first-clear}
+use Rattle.revocation.specs.declared.Core.{Core}
 use Rattle.reservations.specs.Operations.{takeReasons, takeOf, takenRow}
-use Rattle.reservations.specs.Revocation.{coreSound}
+use Rattle.revocation.specs.Revocation.{coreSound}
 use Rattle.reservations.specs.Rows.{isOpen, live, rangeOf}
 use Rattle.reservations.proofs.Cells.{inside-made}
-use Rattle.machine.specs.declared.Slot.{Slot}
-use Rattle.machine.specs.Words.{slot, empty, named, registerOf, mailboxOf, wordAt}
-use Rattle.machine.specs.Reasons.{reasons, unnamed}
+use Rattle.words.specs.declared.Slot.{Slot}
+use Rattle.words.specs.Words.{slot, empty, named, registerOf, mailboxOf, wordAt}
+use Rattle.machine.specs.Reasons.{reasons}
+use Rattle.words.specs.WordReasons.{unnamed}
 use Rattle.machine.specs.Effects.{effect}
 use Rattle.machine.specs.Step.{effectOn, registersAfter, mailboxesAfter, cellsAfter, tagsAfter}
 use Rattle.histories.specs.Inv.{rowAt, Confined, Inv}

@@ -1,23 +1,25 @@
 -- What a granted call knows of the words that it reads and of the cell that it addresses. Assumes nothing.
-use Prim.Native.Nat.{ℕ, _+_, _*_, _<_, _≤_}
+use Prim.Native.Nat.{ℕ, _+_, _<_, _≤_}
 use native.Mathlib.Omega.{arith}
-use mathlib.Core.Bool.{Bool, true, false, not, _&&_, _||_, true≢false, false≢true}
+use mathlib.Core.Bool.{Bool, true, false, not, _||_, true≢false}
 use mathlib.Core.List.{List, [], _∷_}
-use mathlib.Core.Path.{_≡_, refl, _∙_}
+use mathlib.Core.Path.{_≡_, refl}
 use borrow.Author.Tests.{ltb-true, leb-false, ltb-false, eqb-false, not-false}
 use lib.Dec.{eqb, ltb}
 use Rattle.pages.specs.declared.Place.{Place}
 use Rattle.pages.specs.declared.Place.the-variants.{At, Nowhere}
-use Rattle.pages.specs.Capability.{baseOf, lengthOf}
+use Rattle.capabilities.specs.Capability.{baseOf, lengthOf}
 use Rattle.pages.specs.Mapping.{lookupOf}
-use Rattle.pages.specs.Refusals.{Reason, first, reason}
-use Rattle.pages.proofs.Choice.{or-false}
-use Rattle.pages.proofs.Refusals.{first-clear}
-use Rattle.reservations.specs.declared.Core.{Core}
-use Rattle.machine.specs.declared.Slot.{Slot}
-use Rattle.machine.specs.Words.{named}
-use Rattle.machine.specs.Reasons.{addressed, nowhere, unnamed, pastEnd, badNarrow}
-use Rattle.machine.specs.Effects.{placeNumber}
+use Rattle.capabilities.specs.Refusals.{Reason, first, reason}
+use Rattle.capabilities.proofs.Choice.{or-false}
+use Rattle.capabilities.proofs.Refusals.{first-clear}
+use Rattle.revocation.specs.declared.Core.{Core}
+use Rattle.words.specs.declared.Slot.{Slot}
+use Rattle.words.specs.Words.{named}
+use Rattle.machine.specs.Reasons.{addressed}
+use Rattle.words.specs.Words.{nowhere}
+use Rattle.words.specs.WordReasons.{unnamed, pastEnd, badNarrow}
+use Rattle.words.specs.Words.{placeNumber}
 
 pub named-low : (n : ℕ) → unnamed n ≡ false → n < 8
 named-low n e = ltb-true n 8 (not-false (named n) e)

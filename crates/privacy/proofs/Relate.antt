@@ -1,7 +1,7 @@
 -- Two histories: what is equal in both, and that the same effect keeps it so. Assumes nothing.
-use Prim.Native.Nat.{ℕ, _+_, _*_, _/_, _%_, _<_, _≤_}
+use Prim.Native.Nat.{ℕ, _+_, _*_, _<_}
 use native.Mathlib.Omega.{arith}
-use mathlib.Core.Bool.{false, _&&_, true≢false, false≢true}
+use mathlib.Core.Bool.{false}
 use mathlib.Core.List.{map}
 use mathlib.Core.Path.{_≡_, refl, sym, ap, subst, _∙_}
 use lib.ListN.{length, getD, set, length-set, length-map}
@@ -12,8 +12,8 @@ use Rattle.pages.specs.declared.Place.the-variants.{At, Nowhere}
 use Rattle.pages.specs.Layer.{frameAt}
 use Rattle.pages.specs.Mapping.{lookupOf}
 use Rattle.pages.proofs.Formed.{Sound}
-use Rattle.machine.specs.declared.Slot.{Slot}
-use Rattle.machine.specs.Words.{registerOf, mailboxOf, wordAt, keepTag, collectedRegister, collectedMailbox}
+use Rattle.words.specs.declared.Slot.{Slot}
+use Rattle.words.specs.Words.{registerOf, mailboxOf, wordAt, keepTag, collectedRegister, collectedMailbox}
 use Rattle.machine.specs.Effects.{RegisterChange, keepRegisters, putRegister, fetchInto, collectRegisters, MailboxChange, keepMailboxes, putMailbox, collectMailboxes, MemoryChange, keepMemory, Effect}
 use Rattle.machine.specs.Step.{registersAfter, mailboxesAfter, cellsAfter, tagsAfter, wordAfter, fetched}
 use Rattle.histories.specs.Runs.{Machine}

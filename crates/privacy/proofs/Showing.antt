@@ -1,8 +1,8 @@
 -- A cell that is Mapped after a granted call was Mapped to the same place before it, or lies in a frame that was Free and was not written. Assumes nothing.
-use Prim.Native.Nat.{ℕ, _+_, _*_, _/_, _%_, _<_, _≤_}
+use Prim.Native.Nat.{ℕ, _+_, _*_, _/_, _%_, _<_}
 use native.Mathlib.Omega.{arith}
-use mathlib.Core.Bool.{Bool, true, false, _&&_, _||_, true≢false, false≢true}
-use mathlib.Core.List.{List, [], _∷_}
+use mathlib.Core.Bool.{Bool, true, false, _&&_}
+use mathlib.Core.List.{List, _∷_}
 use mathlib.Core.Path.{_≡_, refl, sym, ap, subst, _∙_}
 use borrow.Author.Tests.{eqb-true, eqb-false, eq-eqb}
 use lib.Dec.{eqb}
@@ -15,27 +15,28 @@ use Rattle.pages.specs.declared.PageState.{PageState}
 use Rattle.pages.specs.declared.PageState.the-variants.{Unmapped, Freed, Mapped}
 use Rattle.pages.specs.declared.Pages.{Pages}
 use Rattle.pages.specs.declared.Place.the-variants.{At}
-use Rattle.pages.specs.declared.Range.{Range}
+use Rattle.capabilities.specs.declared.Range.{Range}
 use Rattle.pages.specs.declared.VirtualPage.{VirtualPage}
 use Rattle.pages.specs.Entries.{isUnmapped}
 use Rattle.pages.specs.Layer.{pageAt, frameAt, withPage, withFrame}
-use Rattle.pages.specs.Lists.{pick}
+use Rattle.capabilities.specs.Lists.{pick}
 use Rattle.pages.specs.Mapping.{lookupOf, mapReasons, mapped, mapOf, unmapReasons, soiled, unmapped, unmapOf, freedOf, releasedOf}
-use Rattle.pages.specs.Range.{pageInside}
-use Rattle.pages.specs.Refusals.{Reason, first, reason}
-use Rattle.pages.proofs.Choice.{pick-yes, pick-no}
+use Rattle.capabilities.specs.Range.{pageInside}
+use Rattle.capabilities.specs.Refusals.{Reason, first, reason}
+use Rattle.capabilities.proofs.Choice.{pick-yes, pick-no}
 use Rattle.pages.proofs.Formed.{Sound, sound}
 use Rattle.pages.proofs.Freeing.{freed-at, released-at}
 use Rattle.pages.proofs.Kept.{Mappable, mappable, unmappable}
-use Rattle.pages.proofs.Refusals.{first-clear}
+use Rattle.capabilities.proofs.Refusals.{first-clear}
 use Rattle.pages.proofs.View.{page-put, page-kept, page-of-frame}
-use Rattle.reservations.specs.declared.Core.{Core}
+use Rattle.revocation.specs.declared.Core.{Core}
 use Rattle.reservations.specs.Find.{findOf, rowOf}
-use Rattle.reservations.specs.Revocation.{revoked, revokeReasons, revokeAt, revokeOf, collectReasons, collected, collectOf, coreSound}
+use Rattle.revocation.specs.Revocation.{revoked, revokeReasons, revokeAt, revokeOf, collectReasons, collected, collectOf, coreSound}
 use Rattle.reservations.specs.Rows.{rangeOf}
-use Rattle.reservations.proofs.CoreKept.{core-facts}
-use Rattle.machine.specs.declared.Slot.{Slot}
-use Rattle.machine.specs.Reasons.{Reads, reasons, unnamed, notManager}
+use Rattle.revocation.proofs.CoreKept.{core-facts}
+use Rattle.words.specs.declared.Slot.{Slot}
+use Rattle.machine.specs.Reasons.{Reads, reasons}
+use Rattle.words.specs.WordReasons.{unnamed, notManager}
 use Rattle.machine.specs.Effects.{effect, MemoryChange, keepMemory}
 use Rattle.histories.proofs.View.{Seen, seen, looked}
 

@@ -10,26 +10,28 @@ use lib.Bits.{bitAnd, and-le-l}
 use Rattle.calls.specs.declared.Call.{Call}
 use Rattle.calls.specs.declared.Call.the-variants.{Take, Split, Merge, Give, Revoke, Sweep, Collect, Map, Unmap, Zero, Load, Store, Narrow, Number, Grant, Receive}
 use Rattle.pages.specs.declared.Place.the-variants.{At}
-use Rattle.pages.specs.declared.Range.{Range}
-use Rattle.pages.specs.Capability.{baseOf, lengthOf, permissionsOf, narrowed}
+use Rattle.capabilities.specs.declared.Range.{Range}
+use Rattle.capabilities.specs.Capability.{baseOf, lengthOf, permissionsOf, narrowed}
 use Rattle.pages.specs.Entries.{isDirty}
 use Rattle.pages.specs.Layer.{frameAt}
 use Rattle.pages.specs.Mapping.{lookupOf, dirtyReasons, noFrame}
-use Rattle.pages.specs.Range.{inside}
-use Rattle.pages.specs.Refusals.{first, reason}
-use Rattle.pages.proofs.Capabilities.{made-base, made-length}
-use Rattle.pages.proofs.Choice.{and-right}
+use Rattle.capabilities.specs.Range.{inside}
+use Rattle.capabilities.specs.Refusals.{first, reason}
+use Rattle.capabilities.proofs.Capabilities.{made-base, made-length}
+use Rattle.capabilities.proofs.Choice.{and-right}
 use Rattle.pages.proofs.Formed.{Sound}
-use Rattle.pages.proofs.Refusals.{first-clear}
-use Rattle.reservations.specs.declared.Core.{Core}
-use Rattle.reservations.specs.Revocation.{dying}
+use Rattle.capabilities.proofs.Refusals.{first-clear}
+use Rattle.revocation.specs.declared.Core.{Core}
+use Rattle.revocation.specs.Revocation.{dying}
 use Rattle.reservations.proofs.Cells.{inside-made}
 use Rattle.reservations.proofs.Truth.{both, and-yes, or-right}
-use Rattle.machine.specs.declared.Slot.{Slot}
+use Rattle.words.specs.declared.Slot.{Slot}
 use Rattle.machine.specs.declared.State.{State}
-use Rattle.machine.specs.Words.{slot, named, registerOf, mailboxOf, wordAt, stored}
-use Rattle.machine.specs.Reasons.{Reads, reasons, unnamed, notManager, addressed, mayNotLoad, mayNotStore}
-use Rattle.machine.specs.Effects.{placeNumber, effect}
+use Rattle.words.specs.Words.{slot, named, registerOf, mailboxOf, wordAt, stored}
+use Rattle.machine.specs.Reasons.{Reads, reasons, addressed}
+use Rattle.words.specs.WordReasons.{unnamed, notManager, mayNotLoad, mayNotStore}
+use Rattle.machine.specs.Effects.{effect}
+use Rattle.words.specs.Words.{placeNumber}
 use Rattle.machine.specs.Step.{reasonsOn, effectOn}
 use Rattle.histories.specs.Runs.{Machine}
 use Rattle.histories.specs.Live.{Within}

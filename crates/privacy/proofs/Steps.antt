@@ -1,8 +1,8 @@
 -- One call, in one history and in two. Assumes nothing.
-use Prim.Native.Nat.{ℕ, _+_, _*_, _<_, _≤_}
+use Prim.Native.Nat.{ℕ, _+_, _*_, _<_}
 use native.Mathlib.Omega.{arith}
 use mathlib.Core.Bool.{Bool, true, false, _&&_, _||_, true≢false, false≢true}
-use mathlib.Core.List.{[], _∷_}
+use mathlib.Core.List.{_∷_}
 use mathlib.Core.Path.{_≡_, refl, sym, ap, subst, _∙_}
 use borrow.Author.Tests.{eqb-true, eqb-false, eq-eqb, ne-eqb}
 use lib.Dec.{eqb}
@@ -10,26 +10,28 @@ use lib.ListN.{length, set, length-set}
 use Rattle.calls.specs.declared.Call.{Call}
 use Rattle.calls.specs.declared.Call.the-variants.{Take, Split, Merge, Give, Revoke, Sweep, Collect, Map, Unmap, Zero, Load, Store, Narrow, Number, Grant, Receive}
 use Rattle.pages.specs.declared.Place.the-variants.{At}
-use Rattle.pages.specs.declared.Range.{Range}
-use Rattle.pages.specs.Capability.{permits, narrowed}
-use Rattle.pages.specs.Lists.{pick}
+use Rattle.capabilities.specs.declared.Range.{Range}
+use Rattle.capabilities.specs.Capability.{permits, narrowed}
+use Rattle.capabilities.specs.Lists.{pick}
 use Rattle.pages.specs.Mapping.{lookupOf}
-use Rattle.pages.specs.Range.{inside}
-use Rattle.pages.specs.Refusals.{first, reason}
-use Rattle.pages.proofs.Choice.{and-left, and-right}
+use Rattle.capabilities.specs.Range.{inside}
+use Rattle.capabilities.specs.Refusals.{first, reason}
+use Rattle.capabilities.proofs.Choice.{and-left, and-right}
 use Rattle.pages.proofs.Formed.{Sound, sound}
 use Rattle.pages.proofs.Memory.{served}
-use Rattle.pages.proofs.Refusals.{first-clear}
+use Rattle.capabilities.proofs.Refusals.{first-clear}
 use Rattle.reservations.specs.Operations.{takeReasons}
-use Rattle.reservations.specs.Revocation.{revoked, coreSound}
-use Rattle.reservations.proofs.CoreKept.{core-facts}
+use Rattle.revocation.specs.Revocation.{revoked, coreSound}
+use Rattle.revocation.proofs.CoreKept.{core-facts}
 use Rattle.reservations.proofs.Truth.{both}
-use Rattle.machine.specs.declared.Slot.{Slot}
+use Rattle.words.specs.declared.Slot.{Slot}
 use Rattle.machine.specs.declared.State.{State}
-use Rattle.machine.specs.Words.{slot, registerOf, wordAt, byteOf, stored}
+use Rattle.words.specs.Words.{slot, registerOf, wordAt, byteOf, stored}
 use Rattle.machine.specs.Formed.{wellFormed, mailboxesSound, sized}
-use Rattle.machine.specs.Reasons.{reads, reasons, unnamed, addressed}
-use Rattle.machine.specs.Effects.{effect, placeNumber}
+use Rattle.machine.specs.Reasons.{reads, reasons, addressed}
+use Rattle.words.specs.WordReasons.{unnamed}
+use Rattle.machine.specs.Effects.{effect}
+use Rattle.words.specs.Words.{placeNumber}
 use Rattle.machine.specs.Step.{reasonsOn, effectOn, registersAfter, mailboxesAfter, cellsAfter, tagsAfter, fetched}
 use Rattle.histories.specs.Inv.{Inv}
 use Rattle.histories.specs.Runs.{Machine, machine, outcome, next}

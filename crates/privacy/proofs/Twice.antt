@@ -1,7 +1,7 @@
 -- Both: a call that is left in two histories. Assumes nothing.
-use Prim.Native.Nat.{ℕ, _+_, _*_, _<_, _≤_}
+use Prim.Native.Nat.{ℕ, _+_}
 use mathlib.Core.Bool.{Bool, true, false, _&&_, _||_, true≢false, false≢true}
-use mathlib.Core.List.{List, [], _∷_}
+use mathlib.Core.List.{List}
 use mathlib.Core.Path.{_≡_, refl, sym, ap, subst, _∙_}
 use borrow.Author.Tests.{eqb-false, eq-eqb}
 use lib.Dec.{eqb}
@@ -9,21 +9,23 @@ use lib.ListN.{length}
 use Rattle.calls.specs.declared.Call.{Call}
 use Rattle.calls.specs.declared.Call.the-variants.{Take, Split, Merge, Give, Revoke, Sweep, Collect, Map, Unmap, Zero, Load, Store, Narrow, Number, Grant, Receive}
 use Rattle.pages.specs.declared.Place.the-variants.{At}
-use Rattle.pages.specs.declared.Range.{Range}
-use Rattle.pages.specs.Capability.{baseOf}
+use Rattle.capabilities.specs.declared.Range.{Range}
+use Rattle.capabilities.specs.Capability.{baseOf}
 use Rattle.pages.specs.Layer.{serves}
-use Rattle.pages.specs.Lists.{pick, each}
+use Rattle.capabilities.specs.Lists.{pick, each}
 use Rattle.pages.specs.Mapping.{lookupOf}
-use Rattle.pages.specs.Range.{inside}
-use Rattle.pages.specs.Refusals.{first}
-use Rattle.pages.proofs.Choice.{pick-yes, and-left, and-right}
-use Rattle.reservations.specs.declared.Core.{Core}
-use Rattle.reservations.specs.Revocation.{revoked, coreSound}
-use Rattle.machine.specs.declared.Slot.{Slot}
-use Rattle.machine.specs.Words.{empty, registerOf}
+use Rattle.capabilities.specs.Range.{inside}
+use Rattle.capabilities.specs.Refusals.{first}
+use Rattle.capabilities.proofs.Choice.{pick-yes, and-left, and-right}
+use Rattle.revocation.specs.declared.Core.{Core}
+use Rattle.revocation.specs.Revocation.{revoked, coreSound}
+use Rattle.words.specs.declared.Slot.{Slot}
+use Rattle.words.specs.Words.{empty, registerOf}
 use Rattle.machine.specs.Formed.{wellFormed, mailboxesSound, mailboxSound}
-use Rattle.machine.specs.Reasons.{Reads, reading, reads, reasons, unnamed, mayNotLoad, addressed}
-use Rattle.machine.specs.Effects.{effect, placeNumber}
+use Rattle.machine.specs.Reasons.{Reads, reading, reads, reasons, addressed}
+use Rattle.words.specs.WordReasons.{unnamed, mayNotLoad}
+use Rattle.machine.specs.Effects.{effect}
+use Rattle.words.specs.Words.{placeNumber}
 use Rattle.machine.specs.Step.{reasonsOn, effectOn, wordAfter}
 use Rattle.histories.specs.Runs.{Machine, next}
 use Rattle.privacy.specs.Rule.{callerOf, housed, granted, isCollect, contains, Time, lasting, over, ending, until, struck, remaining, hidden}

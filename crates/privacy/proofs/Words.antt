@@ -1,7 +1,7 @@
 -- Registers and lent words after a change, one by one. Assumes nothing.
 use Prim.Native.Nat.{ℕ, _+_, _*_, _/_, _%_, _<_, _≤_}
 use native.Mathlib.Omega.{arith}
-use mathlib.Core.Bool.{Bool, true, false, _&&_, true≢false, false≢true}
+use mathlib.Core.Bool.{Bool, true, false, _&&_}
 use mathlib.Core.List.{List, map}
 use mathlib.Core.Path.{_≡_, refl, sym, ap, subst, _∙_}
 use borrow.Author.Tests.{eqb-true, eqb-false, ltb-true, ltb-false}
@@ -9,18 +9,18 @@ use lib.Dec.{eqb, ltb, leb}
 use lib.ListN.{length, getD, set, List·getD-map, length-set}
 use lib.Seq.{getD-set-same, getD-set-other, set-out}
 use Rattle.pages.specs.declared.FrameEntry.{FrameEntry}
-use Rattle.pages.specs.declared.Range.{Range}
-use Rattle.pages.specs.Capability.{baseOf}
-use Rattle.pages.specs.Lists.{pick}
-use Rattle.pages.specs.Range.{inside}
+use Rattle.capabilities.specs.declared.Range.{Range}
+use Rattle.capabilities.specs.Capability.{baseOf}
+use Rattle.capabilities.specs.Lists.{pick}
+use Rattle.capabilities.specs.Range.{inside}
 use Rattle.pages.specs.Mapping.{cleared}
-use Rattle.pages.specs.Sweep.{shownAt, sweptTags}
-use Rattle.pages.proofs.Choice.{pick-yes, pick-no, and-right}
+use Rattle.sweep.specs.Sweep.{shownAt, sweptTags}
+use Rattle.capabilities.proofs.Choice.{pick-yes, pick-no, and-right}
 use Rattle.pages.proofs.Shows.{length-cleared}
-use Rattle.pages.proofs.Sweeping.{doomed, getD-swept, length-swept}
-use Rattle.reservations.specs.declared.Core.{Core}
-use Rattle.machine.specs.declared.Slot.{Slot}
-use Rattle.machine.specs.Words.{slot, empty, named, registerOf, tagOf, wordAt, collectedRegister}
+use Rattle.sweep.proofs.Sweeping.{doomed, getD-swept, length-swept}
+use Rattle.revocation.specs.declared.Core.{Core}
+use Rattle.words.specs.declared.Slot.{Slot}
+use Rattle.words.specs.Words.{slot, empty, named, registerOf, tagOf, wordAt, collectedRegister}
 use Rattle.machine.specs.Effects.{MemoryChange, keepMemory, writeWord, clearFrame, sweepCells}
 use Rattle.machine.specs.Step.{cellsAfter, tagsAfter}
 use Rattle.histories.proofs.View.{written-here, written-other, cleared-other, cleared-same, word-same, word-none}

@@ -9,9 +9,9 @@ use borrow.Author.Tests.{eq-eqb, eqb-true}
 use lib.Dec.{eqb}
 use lib.ListN.{length, getD, take, drop, set}
 use lib.Seq.{set-getD}
-use Rattle.pages.specs.Lists.{pick}
-use Rattle.pages.specs.Refusals.{first}
-use Rattle.pages.proofs.Choice.{and-right, pick-yes, pick-twice}
+use Rattle.capabilities.specs.Lists.{pick}
+use Rattle.capabilities.specs.Refusals.{first}
+use Rattle.capabilities.proofs.Choice.{and-right, pick-yes, pick-twice}
 use Rattle.reservations.specs.declared.Reservation.{Reservation}
 use Rattle.reservations.specs.declared.Table.{Table}
 use Rattle.reservations.specs.declared.Found.{Found}
@@ -28,7 +28,7 @@ use Rattle.reservations.proofs.Answers.{Splits, open-clear, split-clear
 use Rattle.reservations.proofs.Sound.{sound}
 use Rattle.reservations.proofs.Kept.{row-live}
 use Rattle.reservations.proofs.Inverse.{spread-live, gather-live}
-use Rattle.reservations.proofs.CoreKept.{with-live}
+use Rattle.reservations.proofs.Unrevoked.{with-live}
 
 -- In u, `new` stands in place of the k rows of t from i on; the first of these is the one that a call names.
 pub record Replaced (t u : Table) (party base i k : ℕ) (new : List Reservation) : Type 0 where

@@ -7,10 +7,10 @@ use mathlib.Core.List.{List, [], _∷_}
 use mathlib.Core.Path.{_≡_, sym, ap, _∙_}
 use borrow.Author.Tests.{eq-eqb, ne-eqb, leb-false, not-true, not-false}
 use lib.Dec.{eqb, leb}
-use Rattle.pages.specs.Lists.{pick}
-use Rattle.pages.specs.Refusals.{Reason, reason, first}
-use Rattle.pages.proofs.Choice.{pick-yes, pick-no, and-left}
-use Rattle.pages.proofs.Refusals.{first-clear}
+use Rattle.capabilities.specs.Lists.{pick}
+use Rattle.capabilities.specs.Refusals.{Reason, reason, first}
+use Rattle.capabilities.proofs.Choice.{pick-yes, pick-no, and-left}
+use Rattle.capabilities.proofs.Refusals.{first-clear}
 use Rattle.reservations.specs.declared.Table.{Table}
 use Rattle.reservations.specs.declared.Tabled.{Tabled}
 use Rattle.reservations.specs.declared.Taken.{Taken}
@@ -19,9 +19,6 @@ use Rattle.reservations.specs.declared.Found.{Found}
 use Rattle.reservations.proofs.Truth.{or-right}
 use Rattle.reservations.specs.Rows.{isOpen}
 use Rattle.reservations.specs.Find.{missing, nextOf, rowOf}
-use Rattle.reservations.specs.declared.Core.{Core}
-use Rattle.reservations.specs.declared.Cored.{Cored}
-use Rattle.reservations.specs.Revocation.{cored}
 use Rattle.reservations.specs.Operations.{tabled, openReasons, badSplit, full, mergeable, splitReasonsAt, mergeReasonsAt}
 
 module _ {A : Type 0} (code told : ℕ) (e : code ≡ told) (x y : A) where
@@ -56,16 +53,6 @@ module _ (code told : ℕ) (e : code ≡ told) (before after : Table) (length : 
       ap (λ k. take-answer k n t) e
       ∙ ap (λ n. take-answer told n t) (p ∙ sym (granted code told e length 0 z))
       ∙ ap (take-answer told (pick (eqb told 0) length 0)) (q ∙ sym (granted code told e after before z))
-
-abbrev core-answer : ℕ → Core → Cored
-core-answer code c = record { code = code; core = c }
-
-module _ (code told : ℕ) (e : code ≡ told) (before after : Core) where
-  pub cored-refused : (code ≡ 0 → ⊥) → core-answer code before ≡ cored told before after
-  cored-refused z = ap (λ k. core-answer k before) e ∙ ap (core-answer told) (sym (refused code told e after before z))
-
-  pub cored-granted : (c : Core) → code ≡ 0 → c ≡ after → core-answer code c ≡ cored told before after
-  cored-granted c z p = ap (λ k. core-answer k c) e ∙ ap (core-answer told) (p ∙ sym (granted code told e after before z))
 
 -- What was not refused under 8 fits.
 pub split-fits : (r : Reservation) (len : ℕ) → badSplit r len ≡ false → len ≤ r .length

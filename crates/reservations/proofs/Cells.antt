@@ -8,9 +8,9 @@ use mathlib.Core.Path.{_≡_, refl, sym, ap, _∙_}
 use borrow.Author.Tests.{ltb-true, lt-ltb, ltb-false, leb-true, le-leb}
 use lib.Dec.{ltb, leb}
 use lib.ListN.{length, getD}
-use Rattle.pages.specs.declared.Range.{Range}
-use Rattle.pages.specs.Range.{inside}
-use Rattle.pages.proofs.Choice.{and-left, and-right}
+use Rattle.capabilities.specs.declared.Range.{Range}
+use Rattle.capabilities.specs.Range.{inside}
+use Rattle.capabilities.proofs.Choice.{and-left, and-right}
 use Rattle.reservations.specs.declared.Reservation.{Reservation}
 use Rattle.reservations.specs.declared.Table.{Table}
 use Rattle.reservations.specs.Rows.{rangeOf, blank, live}

@@ -6,8 +6,8 @@ use mathlib.Core.Bool.{Bool, true, false}
 use mathlib.Core.List.{List, [], _∷_, _++_}
 use mathlib.Core.Path.{_≡_, refl, sym, ap, _∙_}
 use lib.ListN.{length, getD}
-use Rattle.pages.specs.Lists.{pick}
-use Rattle.pages.proofs.Choice.{pick-yes, pick-no}
+use Rattle.capabilities.specs.Lists.{pick}
+use Rattle.capabilities.proofs.Choice.{pick-yes, pick-no}
 use Rattle.reservations.specs.declared.Reservation.{Reservation}
 use Rattle.reservations.specs.declared.Table.{Table}
 use Rattle.reservations.specs.declared.Found.{Found}

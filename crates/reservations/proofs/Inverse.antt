@@ -9,9 +9,9 @@ use borrow.Author.Tests.{eqb-true, leb-false, ne-eqb, lt-leb}
 use lib.Dec.{eqb, leb}
 use lib.ListN.{length, getD, take, drop, length-append, length-take, length-drop}
 use lib.Seq.{drop-cons, take-at, drop-append-add, drop-append-seam, getD-at, getD-append-add, length-take-le}
-use Rattle.pages.specs.Lists.{pick}
-use Rattle.pages.specs.Refusals.{first}
-use Rattle.pages.proofs.Choice.{and-left, and-right}
+use Rattle.capabilities.specs.Lists.{pick}
+use Rattle.capabilities.specs.Refusals.{first}
+use Rattle.capabilities.proofs.Choice.{and-left, and-right}
 use Rattle.reservations.specs.declared.Reservation.{Reservation}
 use Rattle.reservations.specs.declared.ReservationState.{ReservationState}
 use Rattle.reservations.specs.declared.ReservationState.the-variants.{Open, Taken, Revoking}
@@ -19,7 +19,7 @@ use Rattle.reservations.specs.declared.Table.{Table}
 use Rattle.reservations.specs.declared.Tabled.{Tabled}
 use Rattle.reservations.specs.declared.Found.{Found}
 use Rattle.reservations.specs.declared.Found.the-variants.{At, Nowhere}
-use Rattle.reservations.specs.Rows.{isOpen, isBlank, held, live, table, blank, reservation, splice, spread, gather}
+use Rattle.reservations.specs.Rows.{isOpen, isBlank, held, live, table, blank, splice, spread, gather}
 use Rattle.reservations.specs.Find.{seek, rowOf, findOf, begins, nextOf, missing}
 use Rattle.reservations.specs.Tiling.{allBlank, tableSound}
 use Rattle.reservations.specs.Operations.{tabled, badSplit, full, lowerPart, upperPart, splitReasonsAt, splitReasons, splitAt, splitOf}

@@ -2,28 +2,28 @@
 use Prim.Native.Nat.{ℕ, suc, _+_, _-_, _%_, _<_, _≤_}
 use native.Mathlib.Numerals.{add-one}
 use native.Mathlib.Omega.{arith}
-use mathlib.Core.Bool.{Bool, true, false, not, _&&_, _||_}
+use mathlib.Core.Bool.{Bool, true, false, _&&_, _||_}
 use mathlib.Core.List.{List, _∷_, _++_}
 use mathlib.Core.Path.{_≡_, refl, sym, ap, subst, _∙_}
 use borrow.Author.Tests.{eqb-true, lt-ltb, le-leb, leb-false, eqb-false}
 use lib.Dec.{eqb, leb, ltb}
 use lib.ListN.{length, getD, take, drop, set, length-append, length-take, length-drop, length-set}
 use lib.Seq.{split-at, drop-cons, set-split}
-use Rattle.pages.specs.Lists.{pick}
-use Rattle.pages.proofs.Choice.{and-right, pick-yes, pick-no}
+use Rattle.capabilities.specs.Lists.{pick}
+use Rattle.capabilities.proofs.Choice.{and-right, pick-yes, pick-no}
 use Rattle.reservations.specs.declared.Reservation.{Reservation}
 use Rattle.reservations.specs.declared.ReservationState.{ReservationState}
 use Rattle.reservations.specs.declared.ReservationState.the-variants.{Open, Taken, Revoking}
 use Rattle.reservations.specs.declared.Table.{Table}
 use Rattle.reservations.specs.declared.Found.{Found}
 use Rattle.reservations.specs.declared.Found.the-variants.{At, Nowhere}
-use Rattle.reservations.specs.Rows.{isOpen, isRevoking, isBlank, live, table, blank, reservation, splice, spread, gather}
+use Rattle.reservations.specs.Rows.{isOpen, isRevoking, isBlank, live, table, blank, splice, spread, gather}
 use Rattle.reservations.specs.Find.{withRow, rowOf, findOf, begins, nextOf}
 use Rattle.reservations.specs.Tiling.{rowSound, tiles, allBlank, revokings, weight, tableSound}
 use Rattle.reservations.specs.Operations.{openReasons, takeReasons, takenRow, takeOf, giveReasons, givenRow, giveOf}
 use Rattle.reservations.specs.Operations.{badSplit, lowerPart, upperPart, splitReasonsAt, splitReasons, splitAt, splitOf}
 use Rattle.reservations.specs.Operations.{joined, mergeable, mergeReasonsAt, mergeReasons, mergeAt, mergeOf}
-use Rattle.pages.specs.Refusals.{first}
+use Rattle.capabilities.specs.Refusals.{first}
 use Rattle.reservations.proofs.Truth.{both, or-left, or-right, or-first}
 use Rattle.reservations.proofs.Moving.{live-at}
 use Rattle.reservations.proofs.Finding.{found-at, next-below, next-at}

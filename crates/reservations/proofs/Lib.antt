@@ -9,9 +9,6 @@ pub mod Kept
 pub mod Cells
 pub mod Inverse
 pub mod Dying
-pub mod CoreKept
-pub mod Revocations
-pub mod Starts
+pub mod Unrevoked
 pub mod Refused
 pub mod After
-pub mod CoreAfter

@@ -8,7 +8,7 @@ use borrow.Author.Tests.{eqb-true, eq-eqb, ltb-true, lt-ltb, leb-true, le-leb}
 use lib.Dec.{eqb, ltb, leb}
 use lib.ListN.{length, drop, set, length-append, length-set, take-append-drop}
 use lib.Seq.{take-append-seam, drop-append-seam, set-append-left}
-use Rattle.pages.proofs.Choice.{and-left, and-right}
+use Rattle.capabilities.proofs.Choice.{and-left, and-right}
 use Rattle.reservations.specs.declared.Reservation.{Reservation}
 use Rattle.reservations.specs.declared.Table.{Table}
 use Rattle.reservations.specs.declared.Found.the-variants.{At}

@@ -2,4 +2,3 @@ pub mod Rows
 pub mod Find
 pub mod Operations
 pub mod Tiling
-pub mod Revocation

@@ -5,8 +5,8 @@ use mathlib.Core.Bool.{Bool, true, false, _&&_, _||_}
 use mathlib.Core.List.{List, [], _∷_}
 use lib.ListN.{length, drop, replicate}
 use lib.Dec.{leb, ltb, eqb}
-use Rattle.pages.specs.Lists.{pick}
-use Rattle.pages.specs.Range.{inside}
+use Rattle.capabilities.specs.Lists.{pick}
+use Rattle.capabilities.specs.Range.{inside}
 use Rattle.reservations.specs.declared.Reservation.{Reservation}
 use Rattle.reservations.specs.declared.ReservationState.the-variants.{Open}
 use Rattle.reservations.specs.declared.Table.{Table}

@@ -1,9 +1,6 @@
-// The reservation table, and the core that joins it with the page layer and the sweep place.
-use pages::Pages;
-
+// The reservation table.
 pub mod find;
 pub mod operations;
-pub mod revocation;
 pub mod row;
 pub mod rows;
 pub mod tiling;
@@ -46,24 +43,4 @@ pub struct Taken {
     pub code: u8,
     pub length: u16,
     pub table: Table,
-}
-
-// What no party's data enters: the page layer, the table, and the place that the sweep has reached.
-pub struct Core {
-    pub pages: Pages,
-    pub table: Table,
-    pub place: u32,
-}
-
-// What revoke and collect answer: 0 or the refusal's number, and the core after it.
-pub struct Cored {
-    pub code: u8,
-    pub core: Core,
-}
-
-// What a sweep answers: the same, and the cells left.
-pub struct CoreSwept {
-    pub code: u8,
-    pub left: u32,
-    pub core: Core,
 }

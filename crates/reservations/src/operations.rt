@@ -7,9 +7,9 @@ use crate::Tabled;
 use crate::Taken;
 use crate::row::is_open;
 use crate::row::missing;
-use pages::refusal::first;
+use capabilities::refusal::first;
 ghost use mathlib.Core.Path.{_≡_};
-ghost use Rattle.pages.specs.Refusals.{first};
+ghost use Rattle.capabilities.specs.Refusals.{first};
 ghost use Rattle.reservations.specs.Operations.{openReasons, takenRow, takeOf, givenRow, giveOf};
 
 // 6 if there is no such reservation, 7 if it is not Open.

@@ -3,12 +3,12 @@ use Prim.Native.Nat.{ℕ, zero, suc, _+_, _*_, _/_, _%_, _≤_, _<_}
 use native.Mathlib.Omega.{arith}
 use mathlib.Core.Bool.{Bool, true, false}
 use mathlib.Core.List.{List, [], _∷_, _++_}
-use mathlib.Core.Path.{_≡_, refl, sym, _∙_, ap}
+use mathlib.Core.Path.{_≡_, refl, ap}
 use lib.ListN.{length, length-append}
 use lib.Dec.{ltb}
 use borrow.Author.Tests.{ltb-true, ltb-false, lt-ltb, le-ltb}
-use Rattle.pages.specs.Lists.{pick}
-use Rattle.machine.specs.Words.{byteOf}
+use Rattle.capabilities.specs.Lists.{pick}
+use Rattle.words.specs.Words.{byteOf}
 use Rattle.session.specs.Lines.{digits, decimal, lineOf}
 
 -- Enough digits are enough.

@@ -6,17 +6,16 @@ use mathlib.Core.List.{List, [], _∷_, _++_, append-nil, append-assoc}
 use mathlib.Core.Path.{_≡_, refl, sym, _∙_, ap, subst}
 use lib.ListN.{length, getD, take, drop, replicate, length-drop, length-append}
 use lib.Dec.{ltb, leb, eqb}
-use borrow.Author.Tests.{lt-ltb, le-ltb, ltb-true, ltb-false, leb-true, eqb-true, le-leb, lt-leb}
+use borrow.Author.Tests.{lt-ltb, le-ltb, ltb-true, leb-true, eqb-true, le-leb, lt-leb}
 use Rattle.calls.specs.declared.Reading.the-variants.{Read, Refused}
-use Rattle.calls.specs.declared.Reading.{Reading}
 use Rattle.calls.specs.Commands.{lengths, lengthOf, callAt}
 use Rattle.calls.specs.Reader.{whole, readOf, first}
 use Rattle.pages.specs.Layer.{serves, inRange}
-use Rattle.pages.specs.Lists.{pick}
+use Rattle.capabilities.specs.Lists.{pick}
 use Rattle.machine.specs.declared.State.{State}
 use Rattle.machine.specs.declared.Answered.{Answered}
 use Rattle.machine.specs.Formed.{wellFormed, startOf}
-use Rattle.machine.specs.Step.{refused, judged}
+use Rattle.machine.specs.Step.{refused}
 use Rattle.machine.specs.declared.Commanded.{Commanded}
 use Rattle.machine.specs.Command.{Ran, ran, used, onReading, commandJudged, commandOf}
 use Rattle.machine.proofs.Judging.{pick-by}

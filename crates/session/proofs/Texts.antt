@@ -1,14 +1,14 @@
 -- Bytes put before a text, and a text put into a buffer. Assumes nothing.
-use Prim.Native.Nat.{ℕ, zero, suc, _+_, _-_, _*_, _/_, _%_, _≤_, _<_}
+use Prim.Native.Nat.{ℕ, suc, _+_, _-_, _/_, _%_, _≤_, _<_}
 use native.Mathlib.Omega.{arith}
 use mathlib.Core.Bool.{Bool}
 use mathlib.Core.List.{List, [], _∷_, _++_, append-assoc, append-nil}
 use mathlib.Core.Path.{_≡_, refl, sym, _∙_, ap, subst}
-use lib.ListN.{length, take, drop, set, getD, length-append, length-set, length-drop, drop-of-length-le, take-append-drop}
+use lib.ListN.{length, take, drop, set, length-append, length-set, length-drop, drop-of-length-le, take-append-drop}
 use lib.Seq.{drop-cons, getD-set-same, drop-set-lt, take-length, take-at, drop-at, drop-drop, take-all, length-take-le}
 use Rattle.session.specs.declared.Text.{Text}
 use Rattle.session.proofs.Decimal.{decimal-one, decimal-more, decimal-some}
-use Rattle.machine.specs.Words.{byteOf}
+use Rattle.words.specs.Words.{byteOf}
 use Rattle.session.specs.Lines.{decimal, lineOf}
 use Rattle.session.specs.Laid.{body, Led, Laid}
 

@@ -1,10 +1,10 @@
 -- Document 01, 'One session in full': "a decimal line `code number tag` for the start and each command". Assumes nothing.
 use Prim.Native.Nat.{ℕ, zero, suc, _+_, _/_, _%_}
-use mathlib.Core.Bool.{Bool, true, false}
+use mathlib.Core.Bool.{Bool}
 use mathlib.Core.List.{List, [], _∷_, _++_}
 use lib.Dec.{ltb}
-use Rattle.pages.specs.Lists.{pick}
-use Rattle.machine.specs.Words.{byteOf}
+use Rattle.capabilities.specs.Lists.{pick}
+use Rattle.words.specs.Words.{byteOf}
 
 -- The digits of a number, the highest first, of which there are at most so many as the first number says.
 unfoldable pub digits : ℕ → ℕ → List ℕ

@@ -2,11 +2,11 @@
 -- commands, over zeroed memory of its own. It prints a decimal line `code number tag` for the start and each command, with
 -- no header, and ends at the input's end or after a refusal 1 to 3. A short V or F prints `1 0 0`." Assumes nothing.
 use Prim.Native.Nat.{ℕ, zero, suc, _+_, _*_, _≤_}
-use mathlib.Core.Bool.{Bool, true, false, _&&_}
+use mathlib.Core.Bool.{Bool, false, _&&_}
 use mathlib.Core.List.{List, [], _++_}
 use lib.ListN.{length, getD, take, drop, replicate}
 use lib.Dec.{ltb, leb}
-use Rattle.pages.specs.Lists.{pick}
+use Rattle.capabilities.specs.Lists.{pick}
 use Rattle.machine.specs.declared.State.{State}
 use Rattle.machine.specs.declared.Answered.{Answered}
 use Rattle.machine.specs.Formed.{startOf}

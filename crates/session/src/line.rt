@@ -4,7 +4,7 @@ ghost use mathlib.Core.Path.{_≡_};
 ghost use mathlib.Core.List.{[], _∷_};
 ghost use Prim.Native.Nat.{_≤_, _<_, _+_};
 ghost use lib.ListN.{length};
-ghost use Rattle.machine.specs.Words.{byteOf};
+ghost use Rattle.words.specs.Words.{byteOf};
 ghost use Rattle.session.specs.Lines.{decimal, lineOf};
 ghost use Rattle.session.specs.Laid.{body, Led};
 

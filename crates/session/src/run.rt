@@ -6,7 +6,7 @@ use machine::State;
 ghost use mathlib.Core.Path.{_≡_};
 ghost use mathlib.Core.Bool.{true, false};
 ghost use Prim.Native.Nat.{_≤_, _<_, _+_, _*_};
-ghost use lib.ListN.{length, getD};
+ghost use lib.ListN.{length};
 ghost use Rattle.machine.specs.Formed.{wellFormed};
 ghost use Rattle.machine.specs.Command.{ran, commandOf};
 ghost use Rattle.session.specs.Laid.{body, Laid};

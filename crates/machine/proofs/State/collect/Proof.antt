@@ -1,7 +1,7 @@
 -- `machine::State::collect` meets its contract. Refused by `ruled-down`; granted, the two loops leave the words that `done-collect` names.
 use borrow.Author.Needs.{needs}
-use Rattle.reservations.specs.Revocation.{collectOf, dying}
-use Rattle.pages.specs.Refusals.{first}
+use Rattle.revocation.specs.Revocation.{collectOf, dying}
+use Rattle.capabilities.specs.Refusals.{first}
 use Rattle.machine.specs.Effects.{effect}
 use Rattle.machine.specs.Reasons.{reasons}
 use Rattle.machine.proofs.Ruled.{ruled-down, ruled-done, done-collect}

@@ -1,7 +1,7 @@
 -- `machine::State::give` meets its contract. Refused by `ruled-down`; granted, the table's own give and `done-core`.
 use borrow.Author.Needs.{needs}
 use mathlib.Core.Path.{_∙_}
-use Rattle.pages.specs.Refusals.{first}
+use Rattle.capabilities.specs.Refusals.{first}
 use Rattle.reservations.specs.Operations.{giveOf}
 use Rattle.machine.specs.Effects.{effect}
 use Rattle.machine.specs.Reasons.{reasons}

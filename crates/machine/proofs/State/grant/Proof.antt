@@ -1,11 +1,11 @@
 -- `machine::State::grant` meets its contract. Refused by `ruled-down`; granted, one mailbox is put: `done-mailbox`.
 use borrow.Author.Needs.{needs}
-use Rattle.machine.specs.Step.{withCore}
-use Rattle.pages.specs.Refusals.{first}
-use Rattle.machine.specs.Effects.{effect}
-use Rattle.machine.specs.Reasons.{reasons}
 use Rattle.machine.proofs.Ruled.{ruled-down, ruled-done, done-mailbox}
+use Rattle.machine.specs.Reasons.{reasons}
+use Rattle.machine.specs.Effects.{effect}
+use Rattle.words.proofs.Named.{three-named}
 use Rattle.calls.specs.declared.Call.the-variants.{Grant}
+use Rattle.capabilities.specs.Refusals.{first}
 use Rattle.machine.proofs.State.grant.Statement.{statement}
 use Rattle.machine.proofs.State.grant.Tie as tie
 
@@ -15,55 +15,43 @@ register-requires c κs = search needs
 mailbox-requires : tie.Need-mailbox-requires
 mailbox-requires c κs = search needs
 
-unnamed-requires : tie.Need-unnamed-requires
-unnamed-requires c κs = search needs
-
-first-requires : tie.Need-first-requires
-first-requires c κs = search needs
-
-first-requires-2 : tie.Need-first-requires-2
-first-requires-2 c κs = search needs
-
-first-requires-3 : tie.Need-first-requires-3
-first-requires-3 c κs = search needs
+grant-code-requires : tie.Need-grant-code-requires
+grant-code-requires c κs = search needs
 
 refused-requires : tie.Need-refused-requires
 refused-requires c κs = search needs
 
 returns : tie.Need-returns
-unfolding first reasons
+unfolding reasons
 returns c =
     let refused = c .refused in
-    let a = c .before .before .before .before .before .before .before .before .before .args in
-    let first3 = c .before .before .first3 in
-    let first2 = c .before .before .before .first2 in
-    let first = c .before .before .before .before .first in
-    let unnamed = c .before .before .before .before .before .before .unnamed in
-    let mailbox = c .before .before .before .before .before .before .before .mailbox in
-    let register = c .before .before .before .before .before .before .before .before .register in
+    let a = c .before .before .before .before .before .args in
+    let grant-code = c .before .before .grant-code in
+    let mailbox = c .before .before .before .mailbox in
+    let register = c .before .before .before .before .register in
     let if1 = c .before .if1 in
-    rw (refused .ensures) (ruled-down (a .self) (Grant (a .party) (a .s) (a .to)) (first3 .result) (rw (first3 .ensures, first2 .ensures, first .ensures, unnamed .ensures, mailbox .ensures, register .ensures)) (if1 .taken))
+    rw (refused .ensures) (ruled-down (a .t1) (Grant (a .party) (a .s) (a .to)) (grant-code .result) (rw (grant-code .ensures, mailbox .ensures, register .ensures)) (if1 .taken))
 
-with-mailbox-requires : tie.Need-with-mailbox-requires
-with-mailbox-requires c κs = search needs
+mul-from : tie.Need-mul-from
+mul-from c = search needs
 
-granted-requires : tie.Need-granted-requires
-granted-requires c κs = search needs
+element-set-from-from : tie.Need-element-set-from-from
+unfolding first
+element-set-from-from c =
+    let a = c .before .before .before .before .args in
+    let grant-code = c .before .grant-code in
+    let if1 = c .if1 in
+    three-named (a .party) (a .to) (grant-code .result) _ (a .s) (grant-code .ensures) (if1 .left) .1
 
 returns-2 : tie.Need-returns-2
-unfolding first reasons effect withCore
+unfolding reasons effect
 returns-2 c =
-    let a = c .before .before .before .before .before .before .before .before .before .before .args in
-    let first3 = c .before .before .before .first3 in
-    let first2 = c .before .before .before .before .first2 in
-    let first = c .before .before .before .before .before .first in
-    let unnamed = c .before .before .before .before .before .before .before .unnamed in
-    let mailbox = c .before .before .before .before .before .before .before .before .mailbox in
-    let register = c .before .before .before .before .before .before .before .before .before .register in
-    let if1 = c .before .before .if1 in
-    let granted = c .granted in
-    let with-mailbox = c .before .with-mailbox in
-    λ cells tags. ruled-done (a .self) (Grant (a .party) (a .s) (a .to)) (first3 .result) (rw (first3 .ensures, first2 .ensures, first .ensures, unnamed .ensures, mailbox .ensures, register .ensures)) (if1 .left) cells tags _ (rw (granted .ensures, with-mailbox .ensures, register .ensures) (done-mailbox (a .self) (a .self .core) _ _ _ _ _))
+    let a = c .before .before .before .before .args in
+    let grant-code = c .before .grant-code in
+    let mailbox = c .before .before .mailbox in
+    let register = c .before .before .before .register in
+    let if1 = c .if1 in
+    λ cells tags. ruled-done (a .t1) (Grant (a .party) (a .s) (a .to)) (grant-code .result) (rw (grant-code .ensures, mailbox .ensures, register .ensures)) (if1 .left) cells tags _ (rw (register .ensures) (done-mailbox (a .t1) (a .t1 .core) _ cells tags (a .to) _))
 
 pub grant-spec : {M : Type 1} → statement M
 grant-spec =
@@ -71,12 +59,9 @@ grant-spec =
     (tie.spec
     register-requires
     mailbox-requires
-    unnamed-requires
-    first-requires
-    first-requires-2
-    first-requires-3
+    grant-code-requires
     refused-requires
     returns
-    with-mailbox-requires
-    granted-requires
+    mul-from
+    element-set-from-from
     returns-2)

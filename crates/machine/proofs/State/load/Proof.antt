@@ -1,11 +1,11 @@
 -- `machine::State::load` meets its contract. Refused by `ruled-down`; granted, the word at the place goes to the register and is the answer: `done-fetch`.
 use borrow.Author.Needs.{needs}
-use Rattle.machine.specs.Step.{withCore}
-use Rattle.pages.specs.Refusals.{first}
-use Rattle.machine.specs.Effects.{effect}
-use Rattle.machine.specs.Reasons.{reasons}
 use Rattle.machine.proofs.Ruled.{ruled-down, ruled-done, done-fetch}
+use Rattle.machine.specs.Reasons.{reasons}
+use Rattle.machine.specs.Effects.{effect}
+use Rattle.words.proofs.Named.{three-named, index-below}
 use Rattle.calls.specs.declared.Call.the-variants.{Load}
+use Rattle.capabilities.specs.Refusals.{first}
 use Rattle.machine.proofs.State.load.Statement.{statement}
 use Rattle.machine.proofs.State.load.Tie as tie
 
@@ -15,54 +15,22 @@ register-requires c κs = search needs
 addressed-requires : tie.Need-addressed-requires
 addressed-requires c κs = search needs
 
-length-of-requires : tie.Need-length-of-requires
-length-of-requires c κs = search needs
-
-nowhere-requires : tie.Need-nowhere-requires
-nowhere-requires c κs = search needs
-
-first-requires : tie.Need-first-requires
-first-requires c κs = search needs
-
-first-requires-2 : tie.Need-first-requires-2
-first-requires-2 c κs = search needs
-
-unnamed-requires : tie.Need-unnamed-requires
-unnamed-requires c κs = search needs
-
-may-load-requires : tie.Need-may-load-requires
-may-load-requires c κs = search needs
-
-first-requires-3 : tie.Need-first-requires-3
-first-requires-3 c κs = search needs
-
-first-requires-4 : tie.Need-first-requires-4
-first-requires-4 c κs = search needs
-
-first-requires-5 : tie.Need-first-requires-5
-first-requires-5 c κs = search needs
+load-code-requires : tie.Need-load-code-requires
+load-code-requires c κs = search needs
 
 refused-requires : tie.Need-refused-requires
 refused-requires c κs = search needs
 
 returns : tie.Need-returns
-unfolding first reasons
+unfolding reasons
 returns c =
     let refused = c .refused in
-    let a = c .before .before .before .before .before .before .before .before .before .before .before .before .before .before .before .before .args in
-    let first5 = c .before .before .first5 in
-    let first4 = c .before .before .before .first4 in
-    let first3 = c .before .before .before .before .first3 in
-    let may-load = c .before .before .before .before .before .may-load in
-    let unnamed = c .before .before .before .before .before .before .before .unnamed in
-    let first2 = c .before .before .before .before .before .before .before .before .first2 in
-    let first = c .before .before .before .before .before .before .before .before .before .first in
-    let nowhere = c .before .before .before .before .before .before .before .before .before .before .nowhere in
-    let length-of = c .before .before .before .before .before .before .before .before .before .before .before .length-of in
-    let addressed = c .before .before .before .before .before .before .before .before .before .before .before .before .addressed in
-    let register = c .before .before .before .before .before .before .before .before .before .before .before .before .before .register in
+    let a = c .before .before .before .before .before .before .before .args in
+    let load-code = c .before .before .load-code in
+    let addressed = c .before .before .before .addressed in
+    let register = c .before .before .before .before .register in
     let if1 = c .before .if1 in
-    rw (refused .ensures) (ruled-down (a .self) (Load (a .party) (a .a) (a .off) (a .d)) (first5 .result) (rw (first5 .ensures, first4 .ensures, first3 .ensures, may-load .ensures, unnamed .ensures, first2 .ensures, first .ensures, nowhere .ensures, length-of .ensures, addressed .ensures, register .ensures)) (if1 .taken) (a .cells .now) (a .tags .now))
+    rw (refused .ensures) (ruled-down (a .t1) (Load (a .party) (a .a) (a .off) (a .d)) (load-code .result) (rw (load-code .ensures, addressed .ensures, register .ensures)) (if1 .taken) (a .cells .now) (a .tags .now))
 
 place-number-requires : tie.Need-place-number-requires
 place-number-requires c κs = search needs
@@ -70,41 +38,38 @@ place-number-requires c κs = search needs
 word-at-requires : tie.Need-word-at-requires
 word-at-requires c κs = search needs
 
-may-load-capability-requires : tie.Need-may-load-capability-requires
-may-load-capability-requires c κs = search needs
+loaded-requires : tie.Need-loaded-requires
+loaded-requires c κs = search needs
 
-keep-tag-requires : tie.Need-keep-tag-requires
-keep-tag-requires c κs = search needs
+mul-i : tie.Need-mul-i
+mul-i c = search needs
 
-with-register-requires : tie.Need-with-register-requires
-with-register-requires c κs = search needs
+add-i : tie.Need-add-i
+add-i c = search needs
 
-granted-requires : tie.Need-granted-requires
-granted-requires c κs = search needs
+mul-word : tie.Need-mul-word
+mul-word c = search needs
+
+element-set-from-word : tie.Need-element-set-from-word
+unfolding first
+element-set-from-word c =
+    let a = c .before .before .before .before .before .before .before .before .before .args in
+    let load-code = c .before .before .before .before .load-code in
+    let if1 = c .before .before .before .if1 in
+    index-below (a .party) (a .d) (three-named (a .party) (a .d) (load-code .result) _ (a .a) (load-code .ensures) (if1 .left))
 
 returns-2 : tie.Need-returns-2
-unfolding first reasons effect withCore
+unfolding reasons effect
 returns-2 c =
-    let a = c .before .before .before .before .before .before .before .before .before .before .before .before .before .before .before .before .before .before .before .before .before .args in
-    let first5 = c .before .before .before .before .before .before .before .first5 in
-    let first4 = c .before .before .before .before .before .before .before .before .first4 in
-    let first3 = c .before .before .before .before .before .before .before .before .before .first3 in
-    let may-load = c .before .before .before .before .before .before .before .before .before .before .may-load in
-    let unnamed = c .before .before .before .before .before .before .before .before .before .before .before .before .unnamed in
-    let first2 = c .before .before .before .before .before .before .before .before .before .before .before .before .before .first2 in
-    let first = c .before .before .before .before .before .before .before .before .before .before .before .before .before .before .first in
-    let nowhere = c .before .before .before .before .before .before .before .before .before .before .before .before .before .before .before .nowhere in
-    let length-of = c .before .before .before .before .before .before .before .before .before .before .before .before .before .before .before .before .length-of in
-    let addressed = c .before .before .before .before .before .before .before .before .before .before .before .before .before .before .before .before .before .addressed in
-    let register = c .before .before .before .before .before .before .before .before .before .before .before .before .before .before .before .before .before .before .register in
-    let if1 = c .before .before .before .before .before .before .if1 in
-    let granted = c .granted in
-    let with-register = c .before .with-register in
-    let keep-tag = c .before .before .keep-tag in
-    let may-load-capability = c .before .before .before .may-load-capability in
-    let word-at = c .before .before .before .before .word-at in
-    let place-number = c .before .before .before .before .before .place-number in
-    ruled-done (a .self) (Load (a .party) (a .a) (a .off) (a .d)) (first5 .result) (rw (first5 .ensures, first4 .ensures, first3 .ensures, may-load .ensures, unnamed .ensures, first2 .ensures, first .ensures, nowhere .ensures, length-of .ensures, addressed .ensures, register .ensures)) (if1 .left) (a .cells .now) (a .tags .now) _ (rw (granted .ensures, with-register .ensures, keep-tag .ensures, may-load-capability .ensures, word-at .ensures, place-number .ensures, addressed .ensures, register .ensures) (done-fetch (a .self) (a .self .core) _ _ _ _ _ _ _))
+    let a = c .before .before .before .before .before .before .before .before .before .args in
+    let load-code = c .before .before .before .before .load-code in
+    let addressed = c .before .before .before .before .before .addressed in
+    let register = c .before .before .before .before .before .before .register in
+    let if1 = c .before .before .before .if1 in
+    let loaded = c .loaded in
+    let word-at = c .before .word-at in
+    let place-number = c .before .before .place-number in
+    ruled-done (a .t1) (Load (a .party) (a .a) (a .off) (a .d)) (load-code .result) (rw (load-code .ensures, addressed .ensures, register .ensures)) (if1 .left) (a .cells .now) (a .tags .now) _ (rw (loaded .ensures, word-at .ensures, place-number .ensures, addressed .ensures, register .ensures) (done-fetch (a .t1) (a .t1 .core) _ _ _ (a .party) (a .d) _ _))
 
 pub load-spec : {M : Type 1} → statement M
 load-spec =
@@ -112,21 +77,14 @@ load-spec =
     (tie.spec
     register-requires
     addressed-requires
-    length-of-requires
-    nowhere-requires
-    first-requires
-    first-requires-2
-    unnamed-requires
-    may-load-requires
-    first-requires-3
-    first-requires-4
-    first-requires-5
+    load-code-requires
     refused-requires
     returns
     place-number-requires
     word-at-requires
-    may-load-capability-requires
-    keep-tag-requires
-    with-register-requires
-    granted-requires
+    loaded-requires
+    mul-i
+    add-i
+    mul-word
+    element-set-from-word
     returns-2)

@@ -3,8 +3,8 @@ use borrow.Author.Needs.{needs}
 use native.Mathlib.Omega.{arith}
 use lib.ListN.{length, List·getD-eq-default}
 use mathlib.Core.Path.{_≡_, refl, sym, _∙_}
-use Rattle.pages.proofs.Arrays.{length-under}
-use Rattle.machine.specs.Words.{mailboxOf}
+use Rattle.capabilities.proofs.Arrays.{length-under}
+use Rattle.words.specs.Words.{mailboxOf}
 use Rattle.machine.proofs.State.mailbox.Statement.{statement}
 use Rattle.machine.proofs.State.mailbox.Tie as tie
 

@@ -1,7 +1,7 @@
 -- `machine::State::map` meets its contract. Refused by `ruled-down`; granted, the page layer's own map and `done-core`.
 use borrow.Author.Needs.{needs}
 use Rattle.pages.specs.Mapping.{mapOf}
-use Rattle.pages.specs.Refusals.{first}
+use Rattle.capabilities.specs.Refusals.{first}
 use Rattle.machine.specs.Effects.{effect}
 use Rattle.machine.specs.Reasons.{reasons}
 use Rattle.machine.proofs.Ruled.{ruled-down, ruled-done, done-core}

@@ -2,7 +2,7 @@
 use borrow.Author.Needs.{needs}
 use mathlib.Core.Path.{_∙_}
 use Rattle.machine.proofs.Ruled.{ruled-down, ruled-done, done-core}
-use Rattle.pages.specs.Refusals.{first}
+use Rattle.capabilities.specs.Refusals.{first}
 use Rattle.reservations.specs.Operations.{mergeOf}
 use Rattle.machine.specs.Effects.{effect}
 use Rattle.machine.specs.Reasons.{reasons}

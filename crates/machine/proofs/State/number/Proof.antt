@@ -1,11 +1,11 @@
 -- `machine::State::number` meets its contract. Refused by `ruled-down`; granted, one register is put: `done-register`.
 use borrow.Author.Needs.{needs}
-use Rattle.machine.specs.Step.{withCore}
-use Rattle.pages.specs.Refusals.{first}
-use Rattle.machine.specs.Effects.{effect}
-use Rattle.machine.specs.Reasons.{reasons}
 use Rattle.machine.proofs.Ruled.{ruled-down, ruled-done, done-register}
+use Rattle.machine.specs.Reasons.{reasons}
+use Rattle.machine.specs.Effects.{effect}
+use Rattle.words.proofs.Named.{two-named, index-below}
 use Rattle.calls.specs.declared.Call.the-variants.{Number}
+use Rattle.capabilities.specs.Refusals.{first}
 use Rattle.machine.proofs.State.number.Statement.{statement}
 use Rattle.machine.proofs.State.number.Tie as tie
 
@@ -22,23 +22,31 @@ returns c =
     let a = c .before .before .before .args in
     let first = c .before .before .first in
     let if1 = c .before .if1 in
-    rw (refused .ensures) (ruled-down (a .self) (Number (a .party) (a .d) (a .value)) (first .result) (rw (first .ensures)) (if1 .taken))
+    rw (refused .ensures) (ruled-down (a .t1) (Number (a .party) (a .d) (a .value)) (first .result) (rw (first .ensures)) (if1 .taken))
 
-with-register-requires : tie.Need-with-register-requires
-with-register-requires c κs = search needs
+mul-i : tie.Need-mul-i
+mul-i c = search needs
 
-granted-requires : tie.Need-granted-requires
-granted-requires c κs = search needs
+add-i : tie.Need-add-i
+add-i c = search needs
+
+mul-word : tie.Need-mul-word
+mul-word c = search needs
+
+element-set-from-word : tie.Need-element-set-from-word
+element-set-from-word c =
+    let a = c .before .before .args in
+    let first = c .before .first in
+    let if1 = c .if1 in
+    index-below (a .party) (a .d) (two-named (a .party) (a .d) (first .result) 0 (first .ensures) (if1 .left))
 
 returns-2 : tie.Need-returns-2
-unfolding first reasons effect withCore
+unfolding first reasons effect
 returns-2 c =
-    let a = c .before .before .before .before .args in
-    let first = c .before .before .before .first in
-    let if1 = c .before .before .if1 in
-    let granted = c .granted in
-    let with-register = c .before .with-register in
-    λ cells tags. ruled-done (a .self) (Number (a .party) (a .d) (a .value)) (first .result) (rw (first .ensures)) (if1 .left) cells tags _ (rw (granted .ensures, with-register .ensures) (done-register (a .self) (a .self .core) _ _ _ _ _ _))
+    let a = c .before .before .args in
+    let first = c .before .first in
+    let if1 = c .if1 in
+    λ cells tags. ruled-done (a .t1) (Number (a .party) (a .d) (a .value)) (first .result) (rw (first .ensures)) (if1 .left) cells tags _ (done-register (a .t1) (a .t1 .core) _ cells tags (a .party) (a .d) _)
 
 pub number-spec : {M : Type 1} → statement M
 number-spec =
@@ -47,6 +55,8 @@ number-spec =
     first-requires
     refused-requires
     returns
-    with-register-requires
-    granted-requires
+    mul-i
+    add-i
+    mul-word
+    element-set-from-word
     returns-2)

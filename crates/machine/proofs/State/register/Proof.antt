@@ -4,8 +4,8 @@ use borrow.Author.Tests.{ltb-true}
 use lib.Dec.{ltb}
 use native.Mathlib.Omega.{arith}
 use mathlib.Core.Path.{sym, _∙_}
-use Rattle.pages.proofs.Choice.{pick-yes, pick-no, and-left, and-right}
-use Rattle.machine.specs.Words.{registerOf}
+use Rattle.capabilities.proofs.Choice.{pick-yes, pick-no, and-left, and-right}
+use Rattle.words.specs.Words.{registerOf}
 use Rattle.machine.proofs.State.register.Statement.{statement}
 use Rattle.machine.proofs.State.register.Tie as tie
 

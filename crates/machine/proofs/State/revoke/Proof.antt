@@ -1,7 +1,7 @@
 -- `machine::State::revoke` meets its contract. Refused by `ruled-down`; granted, the core's own revoke and `done-core`.
 use borrow.Author.Needs.{needs}
-use Rattle.reservations.specs.Revocation.{revokeOf}
-use Rattle.pages.specs.Refusals.{first}
+use Rattle.revocation.specs.Revocation.{revokeOf}
+use Rattle.capabilities.specs.Refusals.{first}
 use Rattle.machine.specs.Effects.{effect}
 use Rattle.machine.specs.Reasons.{reasons}
 use Rattle.machine.proofs.Ruled.{ruled-down, ruled-done, done-core}

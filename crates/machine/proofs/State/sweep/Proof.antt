@@ -2,12 +2,13 @@
 use borrow.Author.Needs.{needs}
 use mathlib.Core.Path.{sym, _∙_, ap}
 use mathlib.Core.Bool.{false}
-use Rattle.machine.specs.Reasons.{unnamed, notManager, reasons}
-use Rattle.machine.specs.Words.{slot}
+use Rattle.machine.specs.Reasons.{reasons}
+use Rattle.words.specs.WordReasons.{unnamed, notManager}
+use Rattle.words.specs.Words.{slot}
 use Rattle.machine.specs.Step.{left, withCore}
 use Rattle.machine.specs.Formed.{answered}
-use Rattle.reservations.specs.Revocation.{Passing}
-use Rattle.pages.specs.Refusals.{first}
+use Rattle.revocation.specs.Revocation.{Passing}
+use Rattle.capabilities.specs.Refusals.{first}
 use Rattle.machine.specs.Effects.{effect}
 use Rattle.machine.proofs.Ruled.{ruled-down, ruled-done, manager-clear, runs, sweep-done, done-sweep}
 use Rattle.calls.specs.declared.Call.the-variants.{Sweep}

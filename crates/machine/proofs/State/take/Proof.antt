@@ -1,12 +1,14 @@
--- `machine::State::take` meets its contract. Refused by `ruled-down`; granted, the table's own take and one register: `done-register`.
+-- `machine::State::take` meets its contract. Refused by `ruled-down`; granted, the table changes and one register is put: `done-register`.
 use borrow.Author.Needs.{needs}
-use mathlib.Core.Path.{_∙_}
-use Rattle.pages.specs.Refusals.{first}
-use Rattle.reservations.specs.Operations.{takeOf}
-use Rattle.machine.specs.Effects.{effect}
-use Rattle.machine.specs.Reasons.{reasons}
 use Rattle.machine.proofs.Ruled.{ruled-down, ruled-done, done-register}
+use Rattle.machine.specs.Step.{withCore}
+use Rattle.machine.specs.Reasons.{reasons}
+use Rattle.machine.specs.Effects.{effect}
+use Rattle.words.proofs.Named.{two-named, index-below}
 use Rattle.calls.specs.declared.Call.the-variants.{Take}
+use Rattle.reservations.specs.Operations.{takeOf}
+use Rattle.capabilities.specs.Refusals.{first}
+use mathlib.Core.Path.{_∙_}
 use Rattle.machine.proofs.State.take.Statement.{statement}
 use Rattle.machine.proofs.State.take.Tie as tie
 
@@ -27,7 +29,7 @@ returns c =
     let first = c .before .before .first in
     let take = c .before .before .before .take in
     let if1 = c .before .if1 in
-    rw (refused .ensures) (ruled-down (a .self) (Take (a .party) (a .base) (a .reg)) _ (first .ensures ∙ rw (take .ensures)) (if1 .taken))
+    rw (refused .ensures) (ruled-down (a .self) (Take (a .party) (a .base) (a .reg)) (first .result) (first .ensures ∙ rw (take .ensures)) (if1 .taken))
 
 capability-requires : tie.Need-capability-requires
 capability-requires c κs = search needs
@@ -35,27 +37,35 @@ capability-requires c κs = search needs
 with-table-requires : tie.Need-with-table-requires
 with-table-requires c κs = search needs
 
-with-register-requires : tie.Need-with-register-requires
-with-register-requires c κs = search needs
+mul-i : tie.Need-mul-i
+mul-i c = search needs
 
-cast-granted : tie.Need-cast-granted
-cast-granted c = search needs
+add-i : tie.Need-add-i
+add-i c = search needs
 
-granted-requires : tie.Need-granted-requires
-granted-requires c κs = search needs
+mul-word : tie.Need-mul-word
+mul-word c = search needs
+
+element-set-from-word : tie.Need-element-set-from-word
+element-set-from-word c =
+    let a = c .before .before .before .before .before .before .before .before .args in
+    let first = c .before .before .before .before .first in
+    let if1 = c .before .before .before .if1 in
+    index-below (a .party) (a .reg) (two-named (a .party) (a .reg) (first .result) _ (first .ensures) (if1 .left))
+
+cast-t19 : tie.Need-cast-t19
+cast-t19 c = search needs
 
 returns-2 : tie.Need-returns-2
-unfolding first reasons effect takeOf
+unfolding first reasons effect takeOf withCore
 returns-2 c =
-    let a = c .before .before .before .before .before .before .before .before .before .before .args in
-    let first = c .before .before .before .before .before .before .first in
-    let take = c .before .before .before .before .before .before .before .take in
-    let if1 = c .before .before .before .before .before .if1 in
-    let granted = c .granted in
-    let with-register = c .before .with-register in
-    let with-table = c .before .before .with-table in
-    let capability = c .before .before .before .capability in
-    λ cells tags. ruled-done (a .self) (Take (a .party) (a .base) (a .reg)) _ (first .ensures ∙ rw (take .ensures)) (if1 .left) cells tags _ (rw (granted .ensures, with-register .ensures, with-table .ensures, capability .ensures, take .ensures) (done-register _ _ _ _ _ _ _ _))
+    let a = c .before .before .before .before .before .before .before .before .args in
+    let first = c .before .before .before .before .first in
+    let take = c .before .before .before .before .before .take in
+    let if1 = c .before .before .before .if1 in
+    let with-table = c .with-table in
+    let capability = c .before .capability in
+    λ cells tags. ruled-done (a .self) (Take (a .party) (a .base) (a .reg)) (first .result) (first .ensures ∙ rw (take .ensures)) (if1 .left) cells tags _ (rw (with-table .ensures, capability .ensures, take .ensures) (done-register (a .self) _ _ cells tags (a .party) (a .reg) _))
 
 pub take-spec : {M : Type 1} → statement M
 take-spec =
@@ -67,7 +77,9 @@ take-spec =
     returns
     capability-requires
     with-table-requires
-    with-register-requires
-    cast-granted
-    granted-requires
+    mul-i
+    add-i
+    mul-word
+    element-set-from-word
+    cast-t19
     returns-2)

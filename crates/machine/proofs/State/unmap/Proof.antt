@@ -1,7 +1,7 @@
 -- `machine::State::unmap` meets its contract. Refused by `ruled-down`; granted, the page layer's own unmap and `done-core`.
 use borrow.Author.Needs.{needs}
 use Rattle.pages.specs.Mapping.{unmapOf}
-use Rattle.pages.specs.Refusals.{first}
+use Rattle.capabilities.specs.Refusals.{first}
 use Rattle.machine.specs.Effects.{effect}
 use Rattle.machine.specs.Reasons.{reasons}
 use Rattle.machine.proofs.Ruled.{ruled-down, ruled-done, done-core}

@@ -3,7 +3,7 @@ use borrow.Author.Needs.{needs}
 use lib.ListN.{length}
 use mathlib.Core.Bool.{and-true}
 use mathlib.Core.Path.{_≡_}
-use Rattle.pages.proofs.Arrays.{length-under}
+use Rattle.capabilities.proofs.Arrays.{length-under}
 use Rattle.machine.specs.Formed.{wellFormed, mailboxesSound}
 use Rattle.machine.proofs.State.well_formed.Statement.{statement}
 use Rattle.machine.proofs.State.well_formed.Tie as tie

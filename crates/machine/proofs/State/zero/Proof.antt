@@ -1,14 +1,15 @@
 -- `machine::State::zero` meets its contract. Refused by `ruled-down`; granted, memory is of the right size and the frame Dirty, so the page layer's zero is `zero-done`.
 use borrow.Author.Needs.{needs}
 use mathlib.Core.Path.{sym, _∙_, ap}
-use Rattle.machine.specs.Reasons.{unnamed, notManager, reasons}
-use Rattle.machine.specs.Words.{empty}
+use Rattle.machine.specs.Reasons.{reasons}
+use Rattle.words.specs.WordReasons.{unnamed, notManager}
+use Rattle.words.specs.Words.{empty}
 use Rattle.machine.specs.Step.{left, withCore}
 use Rattle.machine.specs.Formed.{answered}
 use Rattle.machine.specs.Effects.{withPages, effect}
 use Rattle.pages.specs.Mapping.{Zeroed}
 use Rattle.pages.proofs.Memory.{zero-done}
-use Rattle.pages.specs.Refusals.{first}
+use Rattle.capabilities.specs.Refusals.{first}
 use Rattle.machine.proofs.Ruled.{ruled-down, ruled-done, manager-clear, done-clear}
 use Rattle.calls.specs.declared.Call.the-variants.{Zero}
 use Rattle.machine.proofs.State.zero.Statement.{statement}

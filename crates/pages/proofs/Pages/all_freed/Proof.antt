@@ -6,9 +6,9 @@ use lib.ListN.{length, take}
 use Rattle.pages.specs.declared.PageState.the-variants.{Unmapped}
 use Rattle.pages.specs.Entries.{pageEntry}
 use Rattle.pages.specs.Freed.{freedIn, allFreed}
-use Rattle.pages.specs.Lists.{each}
-use Rattle.pages.proofs.Lists.{each-more}
-use Rattle.pages.proofs.Arrays.{length-under}
+use Rattle.capabilities.specs.Lists.{each}
+use Rattle.capabilities.proofs.Lists.{each-more}
+use Rattle.capabilities.proofs.Arrays.{length-under}
 use lib.Seq.{take-all}
 use Rattle.pages.proofs.Pages.all_freed.Statement.{statement}
 use Rattle.pages.proofs.Pages.all_freed.Tie as tie
@@ -39,7 +39,7 @@ loop-less : tie.Need-loop-less Inv-loop μ-loop
 loop-less c = omega arith
 
 loop-again : tie.Need-loop-again Inv-loop μ-loop
-loop-again c = (omega arith, c .before .before .before .loop .inv .1, rw (each-more (freedIn (c .before .before .before .before .before .args .range)) (c .before .before .before .before .before .args .self .pages) (c .before .before .before .loop .p) (pageEntry Unmapped) (omega arith)) (cc))
+loop-again c = (omega arith, c .before .before .before .loop .inv .1, rw (each-more (freedIn (c .before .before .before .before .before .args .range)) (c .before .before .before .before .before .args .self .pages) (c .before .before .before .loop .p) (pageEntry Unmapped) (omega arith)) (rw (c .freed-in .ensures, c .before .before .before .loop .inv .2)))
 
 returns : tie.Need-returns Inv-loop μ-loop
 unfolding allFreed

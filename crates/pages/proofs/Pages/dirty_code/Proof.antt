@@ -1,6 +1,6 @@
 -- `pages::Pages::dirty_code` meets its contract. The nested calls of `first` are the list of reasons.
 use borrow.Author.Needs.{needs}
-use Rattle.pages.specs.Refusals.{first}
+use Rattle.capabilities.specs.Refusals.{first}
 use Rattle.pages.specs.Mapping.{dirtyReasons}
 use Rattle.pages.proofs.Pages.dirty_code.Statement.{statement}
 use Rattle.pages.proofs.Pages.dirty_code.Tie as tie
@@ -22,7 +22,12 @@ first-requires-2 c κs = search needs
 
 returns : tie.Need-returns
 unfolding first dirtyReasons
-returns c = cc
+returns c =
+    let first2 = c .first2 in
+    let first = c .before .first in
+    let is-dirty = c .before .before .before .before .is-dirty in
+    let frame-at = c .before .before .before .before .before .frame-at in
+    rw (first2 .ensures, first .ensures, is-dirty .ensures, frame-at .ensures)
 
 pub dirty-code-spec : {M : Type 1} → statement M
 dirty-code-spec =

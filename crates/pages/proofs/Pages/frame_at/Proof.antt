@@ -3,7 +3,7 @@ use borrow.Author.Needs.{needs}
 use mathlib.Core.Path.{refl, sym, ap, _≡_}
 use native.Mathlib.Omega.{arith}
 use lib.ListN.{List·getD-eq-default, length}
-use Rattle.pages.proofs.Arrays.{length-under}
+use Rattle.capabilities.proofs.Arrays.{length-under}
 use Rattle.pages.specs.Layer.{frameAt}
 use Rattle.pages.proofs.Pages.frame_at.Statement.{statement}
 use Rattle.pages.proofs.Pages.frame_at.Tie as tie

@@ -11,9 +11,9 @@ use Rattle.pages.specs.Entries.{frameEntry, isShown, isDirty}
 use Rattle.pages.specs.declared.FrameState.the-variants.{Dirty}
 use Rattle.pages.specs.declared.FrameEntry.{FrameEntry}
 use Rattle.pages.specs.Layer.{frameSound}
-use Rattle.pages.specs.Lists.{each, pick}
-use Rattle.pages.proofs.Lists.{each-more, each-same}
-use Rattle.pages.proofs.Arrays.{length-under}
+use Rattle.capabilities.specs.Lists.{each, pick}
+use Rattle.capabilities.proofs.Lists.{each-more, each-same}
+use Rattle.capabilities.proofs.Arrays.{length-under}
 use lib.Seq.{take-all}
 use Rattle.pages.proofs.Pages.frames_sound.Statement.{statement}
 use Rattle.pages.proofs.Pages.frames_sound.Tie as tie
@@ -62,7 +62,7 @@ loop-again c =
     let loop = c .before .before .before .loop in
     let a = c .before .before .before .before .before .before .args in
     let tally = c .before .before .before .before .before .tally in
-    (omega arith, loop .inv .1, rw (each-more (counted (a .self .f) (tally .result)) (a .self .frames) (loop .k) (frameEntry Dirty) (omega arith)) cc)
+    (omega arith, loop .inv .1, rw (each-more (counted (a .self .f) (tally .result)) (a .self .frames) (loop .k) (frameEntry Dirty) (omega arith)) (rw (c .frame-sound .ensures, c .before .before .before .loop .inv .2)))
 
 returns : tie.Need-returns Inv-loop μ-loop
 unfolding counted frameSound

@@ -1,7 +1,7 @@
 -- `pages::Pages::fresh` meets its contract. By the two outcomes of the range test.
 use borrow.Author.Needs.{needs}
 use mathlib.Core.Path.{sym, _∙_}
-use Rattle.pages.proofs.Choice.{pick-yes, pick-no}
+use Rattle.capabilities.proofs.Choice.{pick-yes, pick-no}
 use Rattle.pages.specs.Layer.{freshOf}
 use Rattle.pages.proofs.Pages.fresh.Statement.{statement}
 use Rattle.pages.proofs.Pages.fresh.Tie as tie

@@ -2,7 +2,7 @@
 use borrow.Author.Needs.{needs}
 use borrow.Author.Tests.{lt-ltb, le-ltb}
 use mathlib.Core.Path.{sym}
-use Rattle.pages.proofs.Choice.{pick-yes, pick-no}
+use Rattle.capabilities.proofs.Choice.{pick-yes, pick-no}
 use Rattle.pages.specs.Mapping.{lookupOf}
 use Rattle.pages.proofs.Pages.lookup.Statement.{statement}
 use Rattle.pages.proofs.Pages.lookup.Tie as tie

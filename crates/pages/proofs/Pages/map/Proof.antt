@@ -1,7 +1,7 @@
 -- `pages::Pages::map` meets its contract. Refused, the layer is as given; granted, the page's and the frame's entries are put.
 use borrow.Author.Needs.{needs}
 use mathlib.Core.Path.{sym, _∙_}
-use Rattle.pages.proofs.Refusals.{refused, granted}
+use Rattle.pages.proofs.Answers.{refused, granted}
 use Rattle.pages.specs.Mapping.{mapOf, mapped}
 use Rattle.pages.proofs.Pages.map.Statement.{statement}
 use Rattle.pages.proofs.Pages.map.Tie as tie

@@ -1,6 +1,6 @@
 -- `pages::Pages::map_code` meets its contract. The nested calls of `first` are the list of reasons.
 use borrow.Author.Needs.{needs}
-use Rattle.pages.specs.Refusals.{first}
+use Rattle.capabilities.specs.Refusals.{first}
 use Rattle.pages.specs.Mapping.{mapReasons}
 use Rattle.pages.proofs.Pages.map_code.Statement.{statement}
 use Rattle.pages.proofs.Pages.map_code.Tie as tie
@@ -34,7 +34,15 @@ first-requires-3 c κs = search needs
 
 returns : tie.Need-returns
 unfolding first mapReasons
-returns c = cc
+returns c =
+    let first3 = c .first3 in
+    let first2 = c .before .first2 in
+    let first = c .before .before .first in
+    let is-free = c .before .before .before .is-free in
+    let frame-at = c .before .before .before .before .frame-at in
+    let is-unmapped = c .before .before .before .before .before .is-unmapped in
+    let page-at = c .before .before .before .before .before .before .page-at in
+    rw (first3 .ensures, first2 .ensures, first .ensures, is-free .ensures, frame-at .ensures, is-unmapped .ensures, page-at .ensures)
 
 pub map-code-spec : {M : Type 1} → statement M
 map-code-spec =

@@ -8,9 +8,9 @@ use lib.Seq.{take-all}
 use Rattle.pages.specs.declared.PageState.the-variants.{Unmapped}
 use Rattle.pages.specs.Entries.{pageEntry}
 use Rattle.pages.specs.Layer.{pageSound}
-use Rattle.pages.specs.Lists.{each}
-use Rattle.pages.proofs.Lists.{each-more}
-use Rattle.pages.proofs.Arrays.{length-under}
+use Rattle.capabilities.specs.Lists.{each}
+use Rattle.capabilities.proofs.Lists.{each-more}
+use Rattle.capabilities.proofs.Arrays.{length-under}
 use Rattle.pages.proofs.Pages.pages_sound.Statement.{statement}
 use Rattle.pages.proofs.Pages.pages_sound.Tie as tie
 
@@ -44,7 +44,7 @@ loop-less c = omega arith
 
 loop-again : tie.Need-loop-again Inv-loop μ-loop
 unfolding pageSound
-loop-again c = (omega arith, c .before .before .before .loop .inv .1, rw (each-more (pageSound (c .before .before .before .before .before .args .self .v) (c .before .before .before .before .before .args .self .f)) (c .before .before .before .before .before .args .self .pages) (c .before .before .before .loop .p) (pageEntry Unmapped) (omega arith)) (cc))
+loop-again c = (omega arith, c .before .before .before .loop .inv .1, rw (each-more (pageSound (c .before .before .before .before .before .args .self .v) (c .before .before .before .before .before .args .self .f)) (c .before .before .before .before .before .args .self .pages) (c .before .before .before .loop .p) (pageEntry Unmapped) (omega arith)) (rw (c .page-sound .ensures, c .before .before .before .loop .inv .2)))
 
 returns : tie.Need-returns Inv-loop μ-loop
 returns c = c .before .loop .inv .2 ∙ ap (each (pageSound (c .before .before .before .args .self .v) (c .before .before .before .args .self .f)) 0) (take-all (c .before .loop .p) (c .before .before .before .args .self .pages) (omega arith))

@@ -7,7 +7,7 @@ use lib.ListN.{length}
 use Rattle.pages.specs.declared.PageState.the-variants.{Unmapped}
 use Rattle.pages.specs.Entries.{pageEntry}
 use Rattle.pages.specs.Mapping.{releasedEntry, releasedOf}
-use Rattle.pages.proofs.Arrays.{length-under}
+use Rattle.capabilities.proofs.Arrays.{length-under}
 use Rattle.pages.proofs.Pages.released.Statement.{statement}
 use Rattle.pages.proofs.Pages.released.Tie as tie
 

@@ -3,7 +3,7 @@ use borrow.Author.Needs.{needs}
 use mathlib.Core.Path.{_≡_, refl, sym, ap}
 use native.Mathlib.Omega.{arith}
 use lib.ListN.{length, List·getD-eq-default}
-use Rattle.pages.proofs.Arrays.{length-under}
+use Rattle.capabilities.proofs.Arrays.{length-under}
 use Rattle.pages.specs.Layer.{pageAt}
 use Rattle.pages.proofs.Pages.state_of.Statement.{statement}
 use Rattle.pages.proofs.Pages.state_of.Tie as tie

@@ -8,7 +8,7 @@ use Rattle.pages.specs.Entries.{pageEntry}
 use Rattle.pages.specs.declared.PageState.the-variants.{Unmapped}
 use Rattle.pages.specs.Layer.{Tally, mappings}
 use Rattle.pages.proofs.Mappings.{mappings-le, tally-hit, tally-miss}
-use Rattle.pages.proofs.Arrays.{length-under}
+use Rattle.capabilities.proofs.Arrays.{length-under}
 use mathlib.Core.Logic.{⊎-elim}
 use lib.Seq.{take-all, length-take-le}
 use Rattle.pages.proofs.Pages.tally.Statement.{statement}

@@ -1,7 +1,7 @@
 -- `pages::Pages::unmap` meets its contract. Refused, the layer is as given; granted, the page is Freed and its frame soiled.
 use borrow.Author.Needs.{needs}
 use mathlib.Core.Path.{sym, _∙_}
-use Rattle.pages.proofs.Refusals.{refused, granted}
+use Rattle.pages.proofs.Answers.{refused, granted}
 use Rattle.pages.specs.Mapping.{unmapOf, unmapped}
 use Rattle.pages.proofs.Pages.unmap.Statement.{statement}
 use Rattle.pages.proofs.Pages.unmap.Tie as tie

@@ -1,6 +1,6 @@
 -- `pages::Pages::unmap_code` meets its contract. The nested calls of `first` are the list of reasons.
 use borrow.Author.Needs.{needs}
-use Rattle.pages.specs.Refusals.{first}
+use Rattle.capabilities.specs.Refusals.{first}
 use Rattle.pages.specs.Mapping.{unmapReasons}
 use Rattle.pages.proofs.Pages.unmap_code.Statement.{statement}
 use Rattle.pages.proofs.Pages.unmap_code.Tie as tie
@@ -22,7 +22,12 @@ first-requires-2 c κs = search needs
 
 returns : tie.Need-returns
 unfolding first unmapReasons
-returns c = cc
+returns c =
+    let first2 = c .first2 in
+    let first = c .before .first in
+    let is-mapped = c .before .before .before .before .is-mapped in
+    let page-at = c .before .before .before .before .before .page-at in
+    rw (first2 .ensures, first .ensures, is-mapped .ensures, page-at .ensures)
 
 pub unmap-code-spec : {M : Type 1} → statement M
 unmap-code-spec =

@@ -3,7 +3,7 @@ use borrow.Author.Needs.{needs}
 use lib.ListN.{length}
 use mathlib.Core.Bool.{and-true}
 use mathlib.Core.Path.{_≡_}
-use Rattle.pages.proofs.Arrays.{length-under}
+use Rattle.capabilities.proofs.Arrays.{length-under}
 use Rattle.pages.specs.Layer.{wellFormed}
 use Rattle.pages.proofs.Pages.well_formed.Statement.{statement}
 use Rattle.pages.proofs.Pages.well_formed.Tie as tie

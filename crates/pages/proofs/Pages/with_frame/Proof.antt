@@ -4,7 +4,7 @@ use mathlib.Core.Path.{refl, _≡_, sym, ap}
 use lib.Seq.{set-out}
 use native.Mathlib.Omega.{arith}
 use lib.ListN.{length}
-use Rattle.pages.proofs.Arrays.{length-under}
+use Rattle.capabilities.proofs.Arrays.{length-under}
 use Rattle.pages.specs.Layer.{withFrame}
 use Rattle.pages.proofs.Pages.with_frame.Statement.{statement}
 use Rattle.pages.proofs.Pages.with_frame.Tie as tie

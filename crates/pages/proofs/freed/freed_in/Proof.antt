@@ -18,7 +18,10 @@ is-freed-requires c κs = search needs
 
 returns : tie.Need-returns
 unfolding freedIn
-returns c = cc
+returns c =
+    let is-freed = c .is-freed in
+    let inside = c .before .inside in
+    rw (is-freed .ensures, inside .ensures)
 
 pub freed-in-spec : {M : Type 1} → statement M
 freed-in-spec =

@@ -2,7 +2,7 @@
 use borrow.Author.Needs.{needs}
 use mathlib.Core.Path.{sym, _∙_}
 use borrow.Author.Tests.{lt-ltb, le-ltb}
-use Rattle.pages.proofs.Choice.{pick-yes, pick-no}
+use Rattle.capabilities.proofs.Choice.{pick-yes, pick-no}
 use Rattle.pages.proofs.layer.page_sound.Statement.{statement}
 use Rattle.pages.proofs.layer.page_sound.Tie as tie
 

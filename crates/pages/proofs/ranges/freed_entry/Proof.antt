@@ -1,7 +1,7 @@
 -- `pages::ranges::freed_entry` meets its contract. By the two outcomes of the test.
 use borrow.Author.Needs.{needs}
 use mathlib.Core.Path.{sym}
-use Rattle.pages.proofs.Choice.{pick-yes, pick-no}
+use Rattle.capabilities.proofs.Choice.{pick-yes, pick-no}
 use Rattle.pages.specs.Mapping.{freedEntry}
 use Rattle.pages.proofs.ranges.freed_entry.Statement.{statement}
 use Rattle.pages.proofs.ranges.freed_entry.Tie as tie

@@ -1,7 +1,7 @@
 -- `pages::ranges::released_entry` meets its contract. By the two outcomes of the test.
 use borrow.Author.Needs.{needs}
 use mathlib.Core.Path.{sym, _∙_}
-use Rattle.pages.proofs.Choice.{pick-yes, pick-no}
+use Rattle.capabilities.proofs.Choice.{pick-yes, pick-no}
 use Rattle.pages.specs.Mapping.{releasedEntry}
 use Rattle.pages.proofs.ranges.released_entry.Statement.{statement}
 use Rattle.pages.proofs.ranges.released_entry.Tie as tie

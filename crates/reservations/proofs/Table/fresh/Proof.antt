@@ -1,7 +1,7 @@
 -- `reservations::Table::fresh` meets its contract. By the two outcomes of the test for no cells.
 use mathlib.Core.Path.{sym}
 use borrow.Author.Tests.{eq-eqb, ne-eqb}
-use Rattle.pages.proofs.Choice.{pick-yes, pick-no}
+use Rattle.capabilities.proofs.Choice.{pick-yes, pick-no}
 use Rattle.reservations.specs.Tiling.{freshTable}
 use borrow.Author.Needs.{needs}
 use Rattle.reservations.proofs.Table.fresh.Statement.{statement}

@@ -4,8 +4,8 @@ use Prim.Native.Nat.{_+_}
 use mathlib.Core.Path.{_≡_, sym, ap, _∙_}
 use lib.ListN.{length}
 use borrow.Author.Tests.{lt-ltb, le-ltb}
-use Rattle.pages.proofs.Arrays.{length-under}
-use Rattle.pages.proofs.Choice.{pick-yes, pick-no}
+use Rattle.capabilities.proofs.Arrays.{length-under}
+use Rattle.capabilities.proofs.Choice.{pick-yes, pick-no}
 use Rattle.reservations.specs.Rows.{live}
 use Rattle.reservations.specs.Find.{nextOf}
 use Rattle.reservations.proofs.Moving.{live-length}

@@ -2,7 +2,7 @@
 use native.Mathlib.Omega.{arith}
 use mathlib.Core.Path.{_≡_, sym, ap, _∙_}
 use lib.ListN.{length, List·getD-eq-default}
-use Rattle.pages.proofs.Arrays.{length-under}
+use Rattle.capabilities.proofs.Arrays.{length-under}
 use Rattle.reservations.specs.Rows.{blank}
 use Rattle.reservations.specs.Find.{rowOf}
 use borrow.Author.Needs.{needs}

@@ -1,6 +1,6 @@
 -- `reservations::Table::split` meets its contract. Refused, the table is as given; granted, one row is two.
 use mathlib.Core.Path.{sym, ap, _∙_}
-use Rattle.pages.specs.Refusals.{first}
+use Rattle.capabilities.specs.Refusals.{first}
 use Rattle.reservations.specs.Find.{inUse}
 use Rattle.reservations.specs.Operations.{splitReasonsAt, splitReasons, splitAt, splitOf}
 use Rattle.reservations.proofs.Finding.{found-used}

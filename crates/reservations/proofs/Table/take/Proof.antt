@@ -2,7 +2,7 @@
 use Rattle.reservations.specs.Operations.{openReasons, takeReasons, takeOf, takenRow}
 use Rattle.reservations.proofs.Answers.{took-refused, took-granted}
 use mathlib.Core.Path.{ap, _∙_}
-use Rattle.pages.specs.Refusals.{first}
+use Rattle.capabilities.specs.Refusals.{first}
 use Rattle.reservations.specs.Find.{withRow, rowOf}
 use borrow.Author.Needs.{needs}
 use Rattle.reservations.proofs.Table.take.Statement.{statement}

@@ -2,12 +2,12 @@
 use mathlib.Core.Path.{_≡_, refl, sym, ap, _∙_}
 use native.Mathlib.Omega.{arith}
 use Prim.Native.Nat.{_+_, _-_, _<_}
-use Rattle.pages.proofs.Arrays.{length-under}
+use Rattle.capabilities.proofs.Arrays.{length-under}
 use mathlib.Core.Bool.{true, false, _&&_}
 use borrow.Author.Tests.{eqb-true, not-true, not-false}
 use lib.ListN.{length, drop, getD}
 use lib.Dec.{eqb}
-use Rattle.pages.proofs.Choice.{and-left}
+use Rattle.capabilities.proofs.Choice.{and-left}
 use Rattle.reservations.specs.Rows.{live, blank}
 use Rattle.reservations.specs.Tiling.{tiles, follows, rowSound}
 use Rattle.reservations.proofs.Moving.{live-length, live-at}

@@ -2,7 +2,7 @@
 use native.Mathlib.Omega.{arith}
 use mathlib.Core.Path.{_≡_}
 use lib.ListN.{length}
-use Rattle.pages.proofs.Arrays.{length-under}
+use Rattle.capabilities.proofs.Arrays.{length-under}
 use Rattle.reservations.proofs.Moving.{live-length}
 use Rattle.reservations.proofs.Table.used.Statement.{statement}
 use Rattle.reservations.proofs.Table.used.Tie as tie

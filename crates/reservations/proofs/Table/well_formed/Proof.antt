@@ -1,6 +1,6 @@
 -- `reservations::Table::well_formed` meets its contract. The conjunction of the parts' tests; the array has its length.
 use mathlib.Core.Path.{_≡_}
-use Rattle.pages.proofs.Arrays.{length-under}
+use Rattle.capabilities.proofs.Arrays.{length-under}
 use mathlib.Core.Bool.{true}
 use borrow.Author.Tests.{eq-eqb}
 use lib.Dec.{eqb}

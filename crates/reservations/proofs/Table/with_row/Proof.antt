@@ -3,7 +3,7 @@ use native.Mathlib.Omega.{arith}
 use mathlib.Core.Path.{_≡_, sym, ap, _∙_}
 use lib.ListN.{length}
 use lib.Seq.{set-out}
-use Rattle.pages.proofs.Arrays.{length-under}
+use Rattle.capabilities.proofs.Arrays.{length-under}
 use Rattle.reservations.specs.Rows.{table}
 use Rattle.reservations.specs.Find.{withRow}
 use borrow.Author.Needs.{needs}

@@ -16,7 +16,12 @@ is-taken-requires-2 : tie.Need-is-taken-requires-2
 is-taken-requires-2 c κs = search needs
 
 returns : tie.Need-returns
-returns c = cc
+returns c =
+    let is-taken2 = c .is-taken2 in
+    let is-taken = c .before .is-taken in
+    let is-open2 = c .before .before .is-open2 in
+    let is-open = c .before .before .before .is-open in
+    rw (is-taken2 .ensures, is-taken .ensures, is-open2 .ensures, is-open .ensures)
 
 pub alike-spec : {M : Type 1} → statement M
 alike-spec =

@@ -7,7 +7,9 @@ held-requires : tie.Need-held-requires
 held-requires c κs = search needs
 
 returns : tie.Need-returns
-returns c = cc
+returns c =
+    let held = c .held in
+    rw (held .ensures)
 
 pub begins-spec : {M : Type 1} → statement M
 begins-spec = tie.close (tie.spec held-requires returns)

@@ -7,7 +7,9 @@ is-open-requires : tie.Need-is-open-requires
 is-open-requires c κs = search needs
 
 returns : tie.Need-returns
-returns c = cc
+returns c =
+    let is-open = c .before .before .before .is-open in
+    rw (is-open .ensures)
 
 pub is-blank-spec : {M : Type 1} → statement M
 is-blank-spec = tie.close (tie.spec is-open-requires returns)

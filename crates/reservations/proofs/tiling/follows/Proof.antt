@@ -10,7 +10,9 @@ row-sound-requires : tie.Need-row-sound-requires
 row-sound-requires c κs = search needs
 
 returns : tie.Need-returns
-returns c = cc
+returns c =
+    let row-sound = c .row-sound in
+    rw (row-sound .ensures)
 
 pub follows-spec : {M : Type 1} → statement M
 follows-spec = tie.close (tie.spec cast-result row-sound-requires returns)

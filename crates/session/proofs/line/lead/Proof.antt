@@ -1,7 +1,7 @@
 -- `session::line::lead` meets its contract. One byte more stands before the text.
 use mathlib.Core.Path.{_≡_}
 use lib.ListN.{length}
-use Rattle.pages.proofs.Arrays.{length-under}
+use Rattle.capabilities.proofs.Arrays.{length-under}
 use borrow.Author.Needs.{needs}
 use Prim.Native.Nat.{_-_}
 use native.Mathlib.Omega.{arith}

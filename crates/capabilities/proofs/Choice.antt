@@ -1,0 +1,42 @@
+-- Laws of `pick`: what a choice by a test comes to, once the test is known. Assumes nothing.
+use Prim.Native.Nat.{_≤_}
+use native.Mathlib.Omega.{arith}
+use mathlib.Core.Bool.{Bool, true, false, _&&_, _||_, true≢false, false≢true}
+use mathlib.Core.Path.{_≡_, refl}
+use mir.Val.{boolByte}
+use Rattle.capabilities.specs.Lists.{pick}
+
+module _ {ℓ} {A : Type ℓ} where
+  pub pick-yes : (b : Bool) (x y : A) → b ≡ true → pick b x y ≡ x
+  pick-yes true x y e = refl
+  pick-yes false x y e = absurd (false≢true e)
+
+  pub pick-no : (b : Bool) (x y : A) → b ≡ false → pick b x y ≡ y
+  pick-no true x y e = absurd (true≢false e)
+  pick-no false x y e = refl
+
+  pub pick-twice : (b : Bool) (x : A) → pick b x x ≡ x
+  pick-twice true x = refl
+  pick-twice false x = refl
+
+pub and-left : (a b : Bool) → a && b ≡ true → a ≡ true
+and-left true b e = refl
+and-left false b e = e
+
+pub and-right : (a b : Bool) → a && b ≡ true → b ≡ true
+and-right true b e = e
+and-right false b e = absurd (false≢true e)
+
+-- A flag as a number.
+pub byte-pick : (b : Bool) → boolByte b ≡ pick b 1 0
+byte-pick true = refl
+byte-pick false = refl
+
+pub or-false : (a b : Bool) → a || b ≡ false → (a ≡ false) × (b ≡ false)
+or-false true b e = absurd (true≢false e)
+or-false false b e = (refl, e)
+
+-- A flag counts for one at most.
+pub at-most : (b : Bool) → pick b 1 0 ≤ 1
+at-most true = omega arith
+at-most false = omega arith

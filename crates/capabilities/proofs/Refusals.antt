@@ -1,0 +1,12 @@
+-- The first reason of a list. Assumes nothing.
+use Prim.Native.Nat.{ℕ}
+use mathlib.Core.Bool.{Bool, true, false}
+use mathlib.Core.List.{List, _∷_}
+use mathlib.Core.Path.{_≡_, refl}
+use Rattle.capabilities.specs.Refusals.{Reason, reason, first}
+
+-- No reason applied: the first one did not, and none of the rest.
+pub first-clear : (k : ℕ) (b : Bool) (rest : List Reason) → (k ≡ 0 → ⊥) → first (reason k b ∷ rest) ≡ 0 → (b ≡ false) × (first rest ≡ 0)
+unfolding first
+first-clear k true rest h e = absurd (h e)
+first-clear k false rest h e = (refl, e)

@@ -1,0 +1,4 @@
+pub mod Lists
+pub mod Refusals
+pub mod Capability
+pub mod Range

@@ -1,0 +1,6 @@
+pub mod Answers
+pub mod CoreKept
+pub mod Revocations
+pub mod Starts
+pub mod Refused
+pub mod CoreAfter
