@@ -9,4 +9,3 @@ pub mod Lengths
 pub mod Keeps
 pub mod Commands
 pub mod EdgesMet
-pub mod Sessions

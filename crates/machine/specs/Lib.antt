@@ -5,4 +5,3 @@ pub mod Effects
 pub mod Step
 pub mod Command
 pub mod Edges
-pub mod Session

@@ -2,3 +2,4 @@
 mod Decimal
 mod Texts
 pub mod Sessions
+mod Computed

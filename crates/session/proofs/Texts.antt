@@ -33,10 +33,10 @@ pub record Spelt (n rest : ℕ) (before now : Text) : Type 0 where
 pub spelt-none : (n : ℕ) (t : Text) → Spelt n n t t
 spelt-none n t = record { last = []; is = sym (append-nil (decimal n)); led = record { is = refl; place = omega arith } }
 
-pub spelt-more : (n rest b : ℕ) (t u v : Text) → 10 ≤ rest → b ≡ 48 + rest % 10 → Spelt n rest t u → Led (b ∷ []) u v → Spelt n (rest / 10) t v
-spelt-more n rest b t u v more e s l = record {
+pub spelt-more : (n rest b : ℕ) (t u v : Text) → rest < 100000000000000000000 → 10 ≤ rest → b ≡ 48 + rest % 10 → Spelt n rest t u → Led (b ∷ []) u v → Spelt n (rest / 10) t v
+spelt-more n rest b t u v word more e s l = record {
   last = b ∷ s .last;
-  is = s .is ∙ ap (λ (d : List ℕ). d ++ s .last) (decimal-more rest more) ∙ append-assoc (decimal (rest / 10)) ((48 + rest % 10) ∷ []) (s .last) ∙ rw e;
+  is = s .is ∙ ap (λ (d : List ℕ). d ++ s .last) (decimal-more rest word more) ∙ append-assoc (decimal (rest / 10)) ((48 + rest % 10) ∷ []) (s .last) ∙ rw e;
   led = led-both (b ∷ []) (s .last) t u v (s .led) l;
 }
 

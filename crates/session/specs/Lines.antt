@@ -11,9 +11,9 @@ unfoldable pub digits : ℕ → ℕ → List ℕ
 digits zero n = []
 digits (suc most) n = pick (ltb n 10) ((48 + n) ∷ []) (digits most (n / 10) ++ ((48 + n % 10) ∷ []))
 
--- A number in decimal. It has no more digits than itself and one.
+-- A number in decimal. A code, a word or a tag is below 2 to the 64, so that twenty digits are enough.
 unfoldable pub decimal : ℕ → List ℕ
-decimal n = digits (suc n) n
+decimal n = digits 20 n
 
 -- A line: three numbers with a space (32) between, and a newline (10).
 unfoldable pub lineOf : ℕ → ℕ → Bool → List ℕ

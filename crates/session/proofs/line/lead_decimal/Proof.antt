@@ -1,5 +1,5 @@
 -- `session::line::lead_decimal` meets its contract. After each turn the digits made so far stand before the text, and the rest of the number is still to be written.
-use Prim.Native.Nat.{_≤_}
+use Prim.Native.Nat.{_≤_, _<_}
 use native.Mathlib.Omega.{arith}
 use Rattle.session.proofs.Texts.{Spelt, spelt-none, spelt-more, spelt-all, spelt-room, spelt-within}
 use Rattle.session.proofs.line.lead_decimal.Statement.{statement}
@@ -24,7 +24,9 @@ loop-less : tie.Need-loop-less Inv-loop μ-loop
 loop-less c = omega arith
 
 loop-again : tie.Need-loop-again Inv-loop μ-loop
-loop-again c = (omega arith, spelt-more _ _ _ _ _ _ (c .before .before .loop-test .taken) (c .before .digit .ensures) (c .before .before .before .loop .inv .1) (c .lead .ensures))
+loop-again c =
+    let word : c .before .before .before .loop .rest < 100000000000000000000 = omega arith in
+    (omega arith, spelt-more _ _ _ _ _ _ word (c .before .before .loop-test .taken) (c .before .digit .ensures) (c .before .before .before .loop .inv .1) (c .lead .ensures))
 
 digit-requires-2 : tie.Need-digit-requires-2 Inv-loop μ-loop
 digit-requires-2 c κs = omega arith
