@@ -7,8 +7,8 @@ use lib.ListN.{length, getD, take, drop, replicate, length-append}
 use lib.Seq.{take-at, take-length}
 use native.Mathlib.Omega.{arith}
 use borrow.Author.Tests.{le-leb, lt-leb}
-use Rattle.calls.specs.Commands.{lengthOf, bytesOf, padded}
 use Rattle.capabilities.specs.Lists.{pick}
+use Rattle.calls.specs.Commands.{lengthOf, bytesOf, padded}
 use Rattle.calls.specs.Writer.{Outcome, outcome, writeOf}
 use Rattle.calls.specs.declared.Call.{Call}
 use Rattle.calls.proofs.RoundTrip.{lengths-agree}

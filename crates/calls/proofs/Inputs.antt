@@ -7,8 +7,8 @@ use lib.Dec.{ltb, leb}
 use lib.ListN.{length}
 use native.Mathlib.Omega.{arith}
 use borrow.Author.Tests.{lt-ltb, le-leb, lt-leb}
-use Rattle.calls.specs.Commands.{lengthOf, callAt}
 use Rattle.capabilities.specs.Lists.{pick}
+use Rattle.calls.specs.Commands.{lengthOf, callAt}
 use Rattle.calls.specs.Reader.{first, whole, readOf, granted, refused, Reads}
 use Rattle.calls.specs.declared.Call.{Call}
 use Rattle.calls.specs.declared.Reading.{Reading}

@@ -3,8 +3,8 @@ use Prim.Native.Nat.{ℕ}
 use mathlib.Core.List.{List, _++_}
 use lib.ListN.{length, drop}
 use lib.Dec.{leb}
-use Rattle.calls.specs.Commands.{bytesOf}
 use Rattle.capabilities.specs.Lists.{pick}
+use Rattle.calls.specs.Commands.{bytesOf}
 use Rattle.calls.specs.declared.Call.{Call}
 use Rattle.calls.specs.declared.Written.{Written}
 use Rattle.calls.specs.declared.Written.the-variants.{Wrote, TooShort}

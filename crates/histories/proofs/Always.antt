@@ -8,17 +8,17 @@ use mathlib.Core.Path.{_≡_, refl, sym, ap, subst, _∙_}
 use borrow.Author.Tests.{ltb-true, ltb-false}
 use lib.Dec.{ltb}
 use lib.ListN.{getD, replicate, getD-replicate, length-replicate, List·getD-eq-default}
-use Rattle.calls.specs.declared.Call.{Call}
+use Rattle.capabilities.specs.Lists.{pick}
 use Rattle.pages.specs.declared.FrameState.the-variants.{Dirty, Free}
 use Rattle.pages.specs.declared.PageState.the-variants.{Unmapped, Mapped}
 use Rattle.pages.specs.declared.Place.the-variants.{At}
 use Rattle.pages.specs.Entries.{pageEntry, frameEntry}
 use Rattle.pages.specs.Layer.{pageAt, frameAt, freshOf, inRange, blank}
-use Rattle.capabilities.specs.Lists.{pick}
 use Rattle.pages.specs.Mapping.{lookupOf}
 use Rattle.revocation.specs.Revocation.{freshCore}
-use Rattle.machine.specs.Formed.{fresh, startOf}
+use Rattle.calls.specs.declared.Call.{Call}
 use Rattle.words.specs.Words.{empty}
+use Rattle.machine.specs.Formed.{fresh, startOf}
 use Rattle.histories.specs.Runs.{Machine, next, run, begun, Reached}
 use Rattle.histories.specs.Inv.{Sound, Inv}
 use Rattle.histories.proofs.View.{seen, shown-by}

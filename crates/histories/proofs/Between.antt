@@ -6,8 +6,6 @@ use mathlib.Core.List.{List, [], _∷_}
 use mathlib.Core.Logic.{_⊎_, inl, inr, ⊎-elim}
 use mathlib.Core.Path.{_≡_, refl, sym, ap, subst, _∙_}
 use lib.ListN.{length}
-use Rattle.calls.specs.declared.Call.{Call}
-use Rattle.calls.specs.declared.Call.the-variants.{Take, Split, Merge, Give, Revoke, Sweep, Collect, Map, Unmap, Zero, Load, Store, Narrow, Number, Grant, Receive}
 use Rattle.capabilities.specs.declared.Range.{Range}
 use Rattle.capabilities.specs.Range.{inside}
 use Rattle.capabilities.specs.Refusals.{first}
@@ -17,20 +15,22 @@ use Rattle.reservations.specs.declared.ReservationState.the-variants.{Taken}
 use Rattle.reservations.specs.declared.Table.{Table}
 use Rattle.reservations.specs.Find.{rowOf, findOf}
 use Rattle.reservations.specs.Operations.{takeReasons, takeOf, takenRow, splitReasons, splitOf, mergeReasons, mergeOf, giveReasons, giveOf}
-use Rattle.revocation.specs.Revocation.{revoked, revokeReasons, revokeOf, coreSound}
 use Rattle.reservations.specs.Rows.{isOpen, live, rangeOf, reservation}
 use Rattle.reservations.proofs.After.{take-after, split-after, merge-after, give-after}
 use Rattle.reservations.proofs.Answers.{split-clear, split-fits}
 use Rattle.reservations.proofs.Cells.{inside-made, no-shared-cell}
-use Rattle.revocation.proofs.CoreAfter.{revoke-after}
-use Rattle.revocation.proofs.CoreKept.{CoreFacts, core-facts}
 use Rattle.reservations.proofs.Kept.{row-live}
 use Rattle.reservations.proofs.Sound.{sound}
 use Rattle.reservations.proofs.Tiled.{tiled-row, tiled-next, tiled-fits, row-some}
+use Rattle.revocation.specs.Revocation.{revoked, revokeReasons, revokeOf, coreSound}
+use Rattle.revocation.proofs.CoreAfter.{revoke-after}
+use Rattle.revocation.proofs.CoreKept.{CoreFacts, core-facts}
+use Rattle.calls.specs.declared.Call.{Call}
+use Rattle.calls.specs.declared.Call.the-variants.{Take, Split, Merge, Give, Revoke, Sweep, Collect, Map, Unmap, Zero, Load, Store, Narrow, Number, Grant, Receive}
+use Rattle.words.specs.WordReasons.{unnamed, notManager}
 use Rattle.machine.specs.declared.State.{State}
 use Rattle.machine.specs.Effects.{effect}
 use Rattle.machine.specs.Reasons.{reasons}
-use Rattle.words.specs.WordReasons.{unnamed, notManager}
 use Rattle.machine.specs.Step.{done, reasonsOn, effectOn}
 use Rattle.histories.specs.Runs.{Machine, Granted, next, run}
 use Rattle.histories.specs.Inv.{rowAt}

@@ -9,58 +9,58 @@ use borrow.Author.Tests.{eqb-true, eqb-false, eq-eqb, ltb-false, leb-false, not-
 use lib.Bits.{bitAnd, and-le-l}
 use lib.Dec.{eqb, ltb}
 use lib.ListN.{length, getD, set, take, drop}
-use Rattle.calls.specs.declared.Call.{Call}
-use Rattle.calls.specs.declared.Call.the-variants.{Take, Split, Merge, Give, Revoke, Sweep, Collect, Map, Unmap, Zero, Load, Store, Narrow, Number, Grant, Receive}
+use Rattle.capabilities.specs.Capability.{baseOf, lengthOf, permissionsOf, capability, narrowed, permits}
+use Rattle.capabilities.specs.Lists.{pick}
+use Rattle.capabilities.specs.Range.{inside}
+use Rattle.capabilities.specs.Refusals.{first}
+use Rattle.capabilities.proofs.Capabilities.{made-base, made-length, made-permissions, made-small}
+use Rattle.capabilities.proofs.Choice.{pick-yes, and-left, and-right, or-false}
+use Rattle.capabilities.proofs.Refusals.{first-clear}
 use Rattle.pages.specs.declared.Frame.{Frame}
 use Rattle.pages.specs.declared.Pages.{Pages}
 use Rattle.pages.specs.declared.Place.{Place}
 use Rattle.pages.specs.declared.Place.the-variants.{At, Nowhere}
 use Rattle.pages.specs.declared.VirtualPage.{VirtualPage}
-use Rattle.capabilities.specs.Capability.{baseOf, lengthOf, permissionsOf, capability, narrowed, permits}
-use Rattle.capabilities.specs.Lists.{pick}
 use Rattle.pages.specs.Mapping.{lookupOf, freedOf, releasedOf, mapReasons, unmapReasons, dirtyReasons, mapped, unmapped, mapOf, unmapOf, noFrame, anyMapped}
 use Rattle.pages.specs.Entries.{isDirty}
 use Rattle.pages.specs.Layer.{frameAt}
 use Rattle.pages.specs.Freed.{allFreed}
-use Rattle.capabilities.specs.Range.{inside}
-use Rattle.capabilities.specs.Refusals.{first}
 use Rattle.pages.proofs.AllFreed.{freed-none-mapped}
-use Rattle.capabilities.proofs.Capabilities.{made-base, made-length, made-permissions, made-small}
-use Rattle.capabilities.proofs.Choice.{pick-yes, and-left, and-right, or-false}
 use Rattle.pages.proofs.Formed.{Sound as Layered, sound as layered}
 use Rattle.pages.proofs.Kept.{mappable, unmappable}
-use Rattle.capabilities.proofs.Refusals.{first-clear}
 use Rattle.pages.proofs.States.{is-dirty}
-use Rattle.revocation.specs.declared.Core.{Core}
 use Rattle.reservations.specs.declared.Found.{Found}
 use Rattle.reservations.specs.declared.Found.the-variants.{At as Row, Nowhere as NoRow}
 use Rattle.reservations.specs.declared.Reservation.{Reservation}
 use Rattle.reservations.specs.declared.Table.{Table}
 use Rattle.reservations.specs.Find.{findOf, rowOf, withRow, revokingOf, missing}
 use Rattle.reservations.specs.Operations.{takeReasons, takeOf, takenRow, splitReasons, splitOf, lowerPart, upperPart, mergeReasons, mergeOf, joined, giveReasons, giveOf, givenRow}
-use Rattle.revocation.specs.Revocation.{core, running, revoked, dying, wholePages, revokeReasons, revokeAt, revokeOf, collectReasons, collectedRow, collected, collectOf, coreSound, revocationSound}
 use Rattle.reservations.specs.Rows.{isOpen, isRevoking, held, blank, live, rangeOf}
 use Rattle.reservations.proofs.After.{Replaced, take-after, give-after, split-after, merge-after}
 use Rattle.reservations.proofs.Answers.{split-clear, split-fits}
 use Rattle.reservations.proofs.Cells.{inside-made, no-shared-cell}
-use Rattle.revocation.proofs.CoreAfter.{revoke-after, dying-inside}
-use Rattle.revocation.proofs.CoreKept.{CoreFacts, core-facts}
 use Rattle.reservations.proofs.Unrevoked.{with-live}
 use Rattle.reservations.proofs.Dying.{dyings}
 use Rattle.reservations.proofs.Finding.{found-at}
 use Rattle.reservations.proofs.Kept.{row-live, open-still}
-use Rattle.revocation.proofs.Revocations.{collected-at, collect-clear, freed-while}
 use Rattle.reservations.proofs.Sound.{sound}
 use Rattle.reservations.proofs.Tiled.{tiled-row, tiled-next, tiled-fits, row-some}
 use Rattle.reservations.proofs.Truth.{and-yes}
+use Rattle.revocation.specs.declared.Core.{Core}
+use Rattle.revocation.specs.Revocation.{core, running, revoked, dying, wholePages, revokeReasons, revokeAt, revokeOf, collectReasons, collectedRow, collected, collectOf, coreSound, revocationSound}
+use Rattle.revocation.proofs.CoreAfter.{revoke-after, dying-inside}
+use Rattle.revocation.proofs.CoreKept.{CoreFacts, core-facts}
+use Rattle.revocation.proofs.Revocations.{collected-at, collect-clear, freed-while}
+use Rattle.calls.specs.declared.Call.{Call}
+use Rattle.calls.specs.declared.Call.the-variants.{Take, Split, Merge, Give, Revoke, Sweep, Collect, Map, Unmap, Zero, Load, Store, Narrow, Number, Grant, Receive}
 use Rattle.words.specs.declared.Slot.{Slot}
-use Rattle.machine.specs.declared.State.{State}
 use Rattle.words.specs.Words.{slot, empty, named, registerOf, mailboxOf, keepTag, wordAt, stored, collectedRegister, collectedMailbox}
-use Rattle.machine.specs.Reasons.{reasons, addressed}
 use Rattle.words.specs.Words.{nowhere}
 use Rattle.words.specs.WordReasons.{unnamed, notManager, mayNotLoad, mayNotStore, pastEnd, badNarrow}
-use Rattle.machine.specs.Effects.{effect, sweptTo}
 use Rattle.words.specs.Words.{placeNumber}
+use Rattle.machine.specs.declared.State.{State}
+use Rattle.machine.specs.Reasons.{reasons, addressed}
+use Rattle.machine.specs.Effects.{effect, sweptTo}
 use Rattle.machine.specs.Step.{done, reasonsOn, effectOn, registersAfter, mailboxesAfter, cellsAfter, tagsAfter}
 use Rattle.histories.specs.Runs.{Machine, machine}
 use Rattle.histories.specs.Inv.{rowAt, Confined, Sound, Memory, Inv}

@@ -10,8 +10,8 @@ use Rattle.capabilities.specs.Capability.{baseOf, lengthOf}
 use Rattle.capabilities.specs.Range.{inside}
 use Rattle.reservations.specs.declared.Table.{Table}
 use Rattle.reservations.specs.Rows.{isOpen, live, rangeOf}
-use Rattle.revocation.specs.Revocation.{coreSound}
 use Rattle.reservations.proofs.Cells.{inside-made, no-shared-cell}
+use Rattle.revocation.specs.Revocation.{coreSound}
 use Rattle.revocation.proofs.CoreKept.{core-facts}
 use Rattle.words.specs.Words.{empty, tagOf, wordAt}
 use Rattle.histories.specs.Runs.{Machine}

@@ -2,19 +2,19 @@
 use Prim.Native.Nat.{ℕ, _+_, _*_, _<_}
 use native.Mathlib.Omega.{arith}
 use mathlib.Core.Path.{_≡_, sym, ap, subst, _∙_}
-use Rattle.calls.specs.declared.Call.the-variants.{Map}
+use Rattle.capabilities.specs.Refusals.{first}
+use Rattle.capabilities.proofs.Refusals.{first-clear}
 use Rattle.pages.specs.declared.Frame.{Frame}
 use Rattle.pages.specs.declared.VirtualPage.{VirtualPage}
 use Rattle.pages.specs.Mapping.{lookupOf, mapReasons}
-use Rattle.capabilities.specs.Refusals.{first}
 use Rattle.pages.proofs.Formed.{sound as layered}
 use Rattle.pages.proofs.Kept.{mappable}
-use Rattle.capabilities.proofs.Refusals.{first-clear}
 use Rattle.pages.proofs.Shows.{map-shows}
 use Rattle.revocation.proofs.CoreKept.{core-facts}
+use Rattle.calls.specs.declared.Call.the-variants.{Map}
+use Rattle.words.specs.WordReasons.{unnamed, notManager}
 use Rattle.machine.specs.Effects.{effect}
 use Rattle.machine.specs.Reasons.{reasons}
-use Rattle.words.specs.WordReasons.{unnamed, notManager}
 use Rattle.machine.specs.Step.{done, effectOn, registersAfter, mailboxesAfter, cellsAfter, tagsAfter}
 use Rattle.histories.specs.Runs.{Machine, Reached}
 use Rattle.histories.specs.Crossing.{ShowsZero, MappedIsZero, FreeIsZero}

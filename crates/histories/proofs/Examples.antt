@@ -3,28 +3,28 @@ use Prim.Native.Nat.{ℕ}
 use mathlib.Core.List.{List, [], _∷_, map}
 use mathlib.Core.Path.{_≡_, refl}
 use lib.ListN.{length, getD, replicate}
+use Rattle.capabilities.specs.Lists.{each, mapEach}
+use Rattle.capabilities.specs.Range.{inside}
+use Rattle.capabilities.specs.Refusals.{first}
+use Rattle.pages.specs.Freed.{freedIn, allFreed}
+use Rattle.pages.specs.Layer.{pageAt, frameAt, withPage, withFrame, freshOf, mappings, pageSound, frameSound, wellFormed as pages-wellFormed}
+use Rattle.pages.specs.Mapping.{mapReasons, mapped, mapOf, unmapReasons, soiled, unmapped, unmapOf, dirtyReasons, cleared, lookupOf, notMappedIn, anyMapped, freedEntry, freedOf, releasedEntry, releasedOf}
+use Rattle.sweep.specs.Sweep.{passed, sweptTag, sweptTags}
+use Rattle.reservations.specs.Find.{seek, findOf, nextOf, revokingOf, rowOf, withRow}
+use Rattle.reservations.specs.Operations.{openReasons, takeReasons, takeOf, splitReasonsAt, splitReasons, splitAt, splitOf, mergeable, mergeReasonsAt, mergeReasons, mergeAt, mergeOf, giveReasons, giveOf}
+use Rattle.reservations.specs.Rows.{live, splice, spread, gather}
+use Rattle.reservations.specs.Tiling.{tiles, allBlank, revokings, sized, tableSound, freshTable}
+use Rattle.revocation.specs.Revocation.{freshCore, running, revoked, dying, revokeReasonsAt, revokeReasons, revokeAt, revokeOf, collectReasons, collected, collectOf, revocationSound, coreSound}
 use Rattle.calls.specs.declared.Call.{Call}
 use Rattle.calls.specs.declared.Call.the-variants.{Take, Split, Merge, Revoke, Sweep, Collect, Map, Unmap, Zero, Store, Grant, Receive}
 use Rattle.calls.specs.Commands.{page, frame}
+use Rattle.words.specs.Words.{empty, byteOf, registerOf, mailboxOf, wordAt}
 use Rattle.machine.specs.declared.Answered.{Answered}
-use Rattle.histories.specs.Runs.{outcome, next, run, answers, begun}
 use Rattle.machine.specs.Effects.{effect}
 use Rattle.machine.specs.Formed.{mailboxesSound, wellFormed, fresh, startOf}
 use Rattle.machine.specs.Reasons.{addressed, reasons}
 use Rattle.machine.specs.Step.{registersAfter, mailboxesAfter, cellsAfter, tagsAfter, wordAfter, done, ruled, judged, stepOf}
-use Rattle.words.specs.Words.{empty, byteOf, registerOf, mailboxOf, wordAt}
-use Rattle.reservations.specs.Find.{seek, findOf, nextOf, revokingOf, rowOf, withRow}
-use Rattle.reservations.specs.Operations.{openReasons, takeReasons, takeOf, splitReasonsAt, splitReasons, splitAt, splitOf, mergeable, mergeReasonsAt, mergeReasons, mergeAt, mergeOf, giveReasons, giveOf}
-use Rattle.revocation.specs.Revocation.{freshCore, running, revoked, dying, revokeReasonsAt, revokeReasons, revokeAt, revokeOf, collectReasons, collected, collectOf, revocationSound, coreSound}
-use Rattle.reservations.specs.Rows.{live, splice, spread, gather}
-use Rattle.reservations.specs.Tiling.{tiles, allBlank, revokings, sized, tableSound, freshTable}
-use Rattle.pages.specs.Freed.{freedIn, allFreed}
-use Rattle.pages.specs.Layer.{pageAt, frameAt, withPage, withFrame, freshOf, mappings, pageSound, frameSound, wellFormed as pages-wellFormed}
-use Rattle.capabilities.specs.Lists.{each, mapEach}
-use Rattle.pages.specs.Mapping.{mapReasons, mapped, mapOf, unmapReasons, soiled, unmapped, unmapOf, dirtyReasons, cleared, lookupOf, notMappedIn, anyMapped, freedEntry, freedOf, releasedEntry, releasedOf}
-use Rattle.capabilities.specs.Range.{inside}
-use Rattle.capabilities.specs.Refusals.{first}
-use Rattle.sweep.specs.Sweep.{passed, sweptTag, sweptTags}
+use Rattle.histories.specs.Runs.{outcome, next, run, answers, begun}
 use Rattle.histories.specs.Runs.{Machine, Begins}
 
 -- Two virtual pages and one frame, whose memory is not 0 and all tagged.

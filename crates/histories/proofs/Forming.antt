@@ -8,22 +8,22 @@ use mathlib.Core.Path.{_≡_, refl, sym, ap, subst, _∙_}
 use borrow.Author.Tests.{eq-eqb}
 use lib.Dec.{eqb}
 use lib.ListN.{length}
-use Rattle.calls.specs.declared.Call.{Call}
-use Rattle.calls.specs.declared.Call.the-variants.{Take, Split, Merge, Give, Revoke, Sweep, Collect, Map, Unmap, Zero, Load, Store, Narrow, Number, Grant, Receive}
+use Rattle.capabilities.specs.Lists.{pick}
+use Rattle.capabilities.specs.Refusals.{first}
+use Rattle.capabilities.proofs.Choice.{pick-yes}
 use Rattle.pages.specs.declared.Frame.{Frame}
 use Rattle.pages.specs.declared.PageState.{PageState}
 use Rattle.pages.specs.declared.PageState.the-variants.{Unmapped, Freed, Mapped}
 use Rattle.pages.specs.declared.Pages.{Pages}
 use Rattle.pages.specs.declared.VirtualPage.{VirtualPage}
 use Rattle.pages.specs.Layer.{serves, pageAt, withPage, withFrame, inRange, freshOf, blank}
-use Rattle.capabilities.specs.Lists.{pick}
 use Rattle.pages.specs.Mapping.{mapOf, mapped, unmapOf, unmapped, soiled, mapReasons, unmapReasons, freedOf, releasedOf}
-use Rattle.capabilities.specs.Refusals.{first}
-use Rattle.capabilities.proofs.Choice.{pick-yes}
-use Rattle.revocation.specs.declared.Core.{Core}
 use Rattle.reservations.specs.Find.{findOf}
-use Rattle.revocation.specs.Revocation.{revokeOf, revokeAt, revokeReasons, collectOf, collected, collectReasons, freshCore}
 use Rattle.reservations.proofs.Truth.{both}
+use Rattle.revocation.specs.declared.Core.{Core}
+use Rattle.revocation.specs.Revocation.{revokeOf, revokeAt, revokeReasons, collectOf, collected, collectReasons, freshCore}
+use Rattle.calls.specs.declared.Call.{Call}
+use Rattle.calls.specs.declared.Call.the-variants.{Take, Split, Merge, Give, Revoke, Sweep, Collect, Map, Unmap, Zero, Load, Store, Narrow, Number, Grant, Receive}
 use Rattle.machine.specs.declared.State.{State}
 use Rattle.machine.specs.Effects.{effect}
 use Rattle.machine.specs.Formed.{startOf, fresh}

@@ -7,6 +7,8 @@ use mathlib.Core.Path.{_≡_, refl, sym, ap, _∙_}
 use borrow.Author.Tests.{eqb-true, ltb-true, ltb-false}
 use lib.Dec.{ltb}
 use lib.ListN.{length, getD, List·getD-eq-default}
+use Rattle.capabilities.specs.Lists.{pick}
+use Rattle.capabilities.proofs.Choice.{pick-no}
 use Rattle.pages.specs.declared.Frame.{Frame}
 use Rattle.pages.specs.declared.FrameState.the-variants.{Dirty, Mapped as Shown}
 use Rattle.pages.specs.declared.PageEntry.{PageEntry}
@@ -16,9 +18,7 @@ use Rattle.pages.specs.declared.Pages.{Pages}
 use Rattle.pages.specs.declared.Place.the-variants.{At}
 use Rattle.pages.specs.Entries.{isShown, isDirty, isUnmapped, maps, pageEntry, frameEntry}
 use Rattle.pages.specs.Layer.{pageAt, frameAt, mappings, pageSound, frameSound}
-use Rattle.capabilities.specs.Lists.{pick}
 use Rattle.pages.specs.Mapping.{lookupOf}
-use Rattle.capabilities.proofs.Choice.{pick-no}
 use Rattle.pages.proofs.Formed.{Sound as Layered, sound as layered, mapped-once}
 use Rattle.revocation.proofs.CoreKept.{core-facts}
 use Rattle.machine.proofs.Keeps.{facts}

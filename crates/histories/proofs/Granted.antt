@@ -7,12 +7,12 @@ use mathlib.Core.Path.{_≡_, refl, ap}
 use borrow.Author.Tests.{eqb-true, eqb-false}
 use lib.Dec.{eqb}
 use lib.ListN.{length}
-use Rattle.calls.specs.declared.Call.{Call}
-use Rattle.pages.specs.Layer.{serves}
 use Rattle.capabilities.specs.Refusals.{first}
 use Rattle.capabilities.proofs.Choice.{and-left}
+use Rattle.pages.specs.Layer.{serves}
 use Rattle.pages.proofs.Memory.{served}
 use Rattle.revocation.specs.Revocation.{coreSound}
+use Rattle.calls.specs.declared.Call.{Call}
 use Rattle.machine.specs.Formed.{wellFormed, mailboxesSound, sized}
 use Rattle.machine.specs.Step.{Outcome, done, reasonsOn, effectOn, ruled, judged, stepOf}
 use Rattle.histories.specs.Runs.{Machine, machine, outcome, next, Granted}

@@ -10,27 +10,27 @@ use borrow.Author.Tests.{eqb-true, eqb-false, ltb-true, ltb-false}
 use lib.Dec.{eqb, ltb}
 use lib.ListN.{length, getD, set, take, drop, List·getD-eq-default}
 use lib.Seq.{getD-set-same, getD-set-other}
+use Rattle.capabilities.specs.Capability.{baseOf}
+use Rattle.capabilities.specs.Range.{inside}
+use Rattle.capabilities.proofs.Choice.{at-most}
 use Rattle.pages.specs.declared.Frame.{Frame}
 use Rattle.pages.specs.declared.FrameState.{FrameState}
 use Rattle.pages.specs.declared.FrameState.the-variants.{Dirty, Free, Mapped as Shown}
 use Rattle.pages.specs.declared.Pages.{Pages}
 use Rattle.pages.specs.declared.Place.the-variants.{At, Nowhere}
-use Rattle.capabilities.specs.Capability.{baseOf}
 use Rattle.pages.specs.Entries.{isShown}
 use Rattle.pages.specs.Layer.{frameAt, withFrame}
 use Rattle.pages.specs.Mapping.{cleared, lookupOf}
-use Rattle.capabilities.specs.Range.{inside}
-use Rattle.sweep.specs.Sweep.{sweptTags, shownAt}
-use Rattle.capabilities.proofs.Choice.{at-most}
 use Rattle.pages.proofs.Formed.{Sound as Layered}
+use Rattle.pages.proofs.View.{frame-kept, page-of-frame}
+use Rattle.sweep.specs.Sweep.{sweptTags, shownAt}
 use Rattle.sweep.proofs.Sweeping.{length-swept}
 use Rattle.sweep.proofs.Sweeps.{swept-less, swept-clean}
-use Rattle.pages.proofs.View.{frame-kept, page-of-frame}
-use Rattle.revocation.specs.declared.Core.{Core}
 use Rattle.reservations.specs.declared.Table.{Table}
 use Rattle.reservations.specs.Rows.{isOpen, live, rangeOf}
-use Rattle.revocation.specs.Revocation.{core, running, revoked, dying, collectedRow}
 use Rattle.reservations.proofs.Cells.{inside-made}
+use Rattle.revocation.specs.declared.Core.{Core}
+use Rattle.revocation.specs.Revocation.{core, running, revoked, dying, collectedRow}
 use Rattle.revocation.proofs.CoreAfter.{dying-inside}
 use Rattle.words.specs.declared.Slot.{Slot}
 use Rattle.words.specs.Words.{slot, empty, byteOf, tagOf, wordAt}

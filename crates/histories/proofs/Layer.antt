@@ -7,6 +7,11 @@ use mathlib.Core.Path.{_≡_, refl, sym, ap, _∙_}
 use borrow.Author.Tests.{eqb-true, eqb-false, eq-eqb, ltb-true}
 use lib.Dec.{eqb}
 use lib.ListN.{length}
+use Rattle.capabilities.specs.declared.Range.{Range}
+use Rattle.capabilities.specs.Lists.{pick}
+use Rattle.capabilities.specs.Range.{inside, pageInside}
+use Rattle.capabilities.specs.Refusals.{first}
+use Rattle.capabilities.proofs.Choice.{pick-yes}
 use Rattle.pages.specs.declared.Frame.{Frame}
 use Rattle.pages.specs.declared.FrameState.{FrameState}
 use Rattle.pages.specs.declared.FrameState.the-variants.{Dirty, Free, Mapped as Shown}
@@ -15,15 +20,10 @@ use Rattle.pages.specs.declared.PageState.the-variants.{Unmapped, Freed, Mapped
 use Rattle.pages.specs.declared.Pages.{Pages}
 use Rattle.pages.specs.declared.Place.{Place}
 use Rattle.pages.specs.declared.Place.the-variants.{At, Nowhere}
-use Rattle.capabilities.specs.declared.Range.{Range}
 use Rattle.pages.specs.declared.VirtualPage.{VirtualPage}
 use Rattle.pages.specs.Entries.{isUnmapped, isMapped, mapsBelow}
 use Rattle.pages.specs.Layer.{pageAt, frameAt, withPage, withFrame}
-use Rattle.capabilities.specs.Lists.{pick}
 use Rattle.pages.specs.Mapping.{lookupOf, placeIn, mapped, mapOf, mapReasons, unmapped, unmapOf, unmapReasons, soiled, freedOf, releasedOf, anyMapped}
-use Rattle.capabilities.specs.Range.{inside, pageInside}
-use Rattle.capabilities.specs.Refusals.{first}
-use Rattle.capabilities.proofs.Choice.{pick-yes}
 use Rattle.pages.proofs.Formed.{Sound as Layered, maps-low}
 use Rattle.pages.proofs.Freeing.{freed-at, released-at, none-mapped-at}
 use Rattle.pages.proofs.Kept.{Mappable, Unmappable}

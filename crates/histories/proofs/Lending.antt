@@ -7,7 +7,6 @@ use mathlib.Core.Path.{_≡_, sym, ap, subst, _∙_}
 use borrow.Author.Tests.{eqb-true}
 use lib.Dec.{eqb}
 use lib.ListN.{length}
-use Rattle.calls.specs.declared.Call.the-variants.{Take}
 use Rattle.capabilities.specs.declared.Range.{Range}
 use Rattle.capabilities.proofs.Choice.{and-left}
 use Rattle.capabilities.proofs.Refusals.{first-clear}
@@ -16,11 +15,12 @@ use Rattle.reservations.specs.Find.{rowOf}
 use Rattle.reservations.specs.Operations.{takeReasons, takeOf, takenRow}
 use Rattle.reservations.specs.Rows.{isOpen, held, live, rangeOf}
 use Rattle.reservations.proofs.After.{Replaced, take-after}
-use Rattle.revocation.proofs.CoreKept.{core-facts}
 use Rattle.reservations.proofs.Kept.{row-live}
+use Rattle.revocation.proofs.CoreKept.{core-facts}
+use Rattle.calls.specs.declared.Call.the-variants.{Take}
+use Rattle.words.specs.WordReasons.{unnamed}
 use Rattle.machine.specs.Effects.{effect}
 use Rattle.machine.specs.Reasons.{reasons}
-use Rattle.words.specs.WordReasons.{unnamed}
 use Rattle.machine.specs.Step.{done, wordAfter}
 use Rattle.histories.specs.Runs.{Machine, outcome, next}
 use Rattle.histories.specs.Live.{NoneInto}

@@ -8,7 +8,6 @@ use mathlib.Core.Path.{_≡_, refl, sym, ap, subst, _∙_}
 use borrow.Author.Tests.{eq-eqb, eqb-true, eqb-false, ltb-true, ltb-false, lt-ltb, leb-true}
 use lib.Dec.{eqb, ltb}
 use lib.ListN.{length, getD}
-use Rattle.calls.specs.declared.Call.the-variants.{Merge}
 use Rattle.capabilities.specs.Refusals.{first}
 use Rattle.capabilities.proofs.Choice.{pick-yes}
 use Rattle.capabilities.proofs.Refusals.{first-clear}
@@ -22,15 +21,16 @@ use Rattle.reservations.specs.Operations.{alike, joined, mergeable, mergeReason
 use Rattle.reservations.specs.Rows.{isOpen, held, blank, live, reservation}
 use Rattle.reservations.specs.Tiling.{tiles}
 use Rattle.reservations.proofs.After.{Replaced, merge-after}
-use Rattle.revocation.proofs.CoreKept.{core-facts}
 use Rattle.reservations.proofs.Finding.{next-at}
 use Rattle.reservations.proofs.Kept.{row-live}
 use Rattle.reservations.proofs.Sound.{sound}
 use Rattle.reservations.proofs.Tiled.{tiles-begin, tiles-none, tiled-row, row-holder}
 use Rattle.reservations.proofs.Truth.{both}
+use Rattle.revocation.proofs.CoreKept.{core-facts}
+use Rattle.calls.specs.declared.Call.the-variants.{Merge}
+use Rattle.words.specs.WordReasons.{unnamed}
 use Rattle.machine.specs.Effects.{effect}
 use Rattle.machine.specs.Reasons.{reasons}
-use Rattle.words.specs.WordReasons.{unnamed}
 use Rattle.machine.specs.Step.{reasonsOn}
 use Rattle.machine.proofs.Keeps.{facts}
 use Rattle.histories.specs.Runs.{Machine, Granted, next, run}

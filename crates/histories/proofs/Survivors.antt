@@ -3,14 +3,14 @@ use Prim.Native.Nat.{ℕ}
 use native.Mathlib.Omega.{arith}
 use mathlib.Core.Bool.{true}
 use mathlib.Core.Path.{_≡_, sym, ap, subst, _∙_}
-use Rattle.calls.specs.declared.Call.the-variants.{Collect}
 use Rattle.capabilities.proofs.Refusals.{first-clear}
-use Rattle.revocation.specs.Revocation.{coreSound, collectReasons, collectOf}
 use Rattle.reservations.specs.Rows.{live}
+use Rattle.revocation.specs.Revocation.{coreSound, collectReasons, collectOf}
 use Rattle.revocation.proofs.Revocations.{core-collect}
+use Rattle.calls.specs.declared.Call.the-variants.{Collect}
+use Rattle.words.specs.WordReasons.{unnamed, notManager}
 use Rattle.machine.specs.Effects.{effect}
 use Rattle.machine.specs.Reasons.{reasons}
-use Rattle.words.specs.WordReasons.{unnamed, notManager}
 use Rattle.machine.specs.Step.{done}
 use Rattle.histories.specs.Runs.{Machine, next}
 use Rattle.histories.specs.Live.{NoneInto}

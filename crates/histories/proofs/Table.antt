@@ -11,20 +11,20 @@ use lib.ListN.{length, getD, take, drop, length-append, length-drop, List·getD-
 use lib.Seq.{getD-take, getD-drop, getD-append-add, length-take-le}
 use Rattle.capabilities.specs.declared.Range.{Range}
 use Rattle.capabilities.specs.Range.{inside}
+use Rattle.capabilities.specs.Capability.{baseOf}
 use Rattle.reservations.specs.declared.Reservation.{Reservation}
 use Rattle.reservations.specs.declared.ReservationState.{ReservationState}
 use Rattle.reservations.specs.declared.ReservationState.the-variants.{Open, Taken, Revoking}
-use Rattle.revocation.specs.declared.Core.{Core}
 use Rattle.reservations.specs.declared.Table.{Table}
 use Rattle.reservations.specs.Find.{rowOf, revokingOf}
-use Rattle.capabilities.specs.Capability.{baseOf}
 use Rattle.reservations.specs.Rows.{isOpen, isRevoking, blank, live, rangeOf}
 use Rattle.reservations.specs.Operations.{alike, joined, lowerPart, upperPart, takenRow, givenRow}
-use Rattle.revocation.specs.Revocation.{revokingRow, collectedRow, running, revoked, dying}
 use Rattle.reservations.proofs.Cells.{inside-bounds, inside-made}
 use Rattle.reservations.proofs.After.{Replaced}
 use Rattle.reservations.proofs.Kept.{cut-one, cut-two}
 use Rattle.reservations.proofs.Dying.{dyings, none, firstOf, revoking-row, revoking-none, dyings-append, dyings-not}
+use Rattle.revocation.specs.declared.Core.{Core}
+use Rattle.revocation.specs.Revocation.{revokingRow, collectedRow, running, revoked, dying}
 use Rattle.histories.specs.Inv.{rowAt}
 
 -- A lent range has a lent reservation around it; a cell of an Open one was in an Open one.

@@ -8,6 +8,8 @@ use borrow.Author.Tests.{eqb-true, eqb-false, ltb-true, lt-ltb, eq-eqb, ltb-fals
 use lib.Dec.{eqb, ltb}
 use lib.ListN.{length, getD, set, List·getD-map, length-set}
 use lib.Seq.{getD-set-same, getD-set-other, set-out}
+use Rattle.capabilities.specs.Lists.{pick}
+use Rattle.capabilities.proofs.Choice.{pick-yes, at-most}
 use Rattle.pages.specs.declared.Frame.{Frame}
 use Rattle.pages.specs.declared.FrameState.{FrameState}
 use Rattle.pages.specs.declared.FrameState.the-variants.{Dirty, Free, Mapped as Shown}
@@ -19,15 +21,13 @@ use Rattle.pages.specs.declared.Place.{Place}
 use Rattle.pages.specs.declared.Place.the-variants.{At, Nowhere}
 use Rattle.pages.specs.Entries.{isShown, maps, mapsBelow, pageEntry}
 use Rattle.pages.specs.Layer.{pageAt, frameAt, mappings}
-use Rattle.capabilities.specs.Lists.{pick}
 use Rattle.pages.specs.Mapping.{cleared, lookupOf, placeIn}
-use Rattle.capabilities.proofs.Choice.{pick-yes, at-most}
 use Rattle.pages.proofs.Formed.{Sound, mapped-once, maps-low}
 use Rattle.pages.proofs.Mappings.{mappings-set}
 use Rattle.pages.proofs.Shows.{cleared-here, cleared-below, cleared-above}
+use Rattle.revocation.specs.declared.Core.{Core}
 use Rattle.words.specs.declared.Slot.{Slot}
 use Rattle.words.specs.Words.{slot, empty, tagOf, byteOf, wordAt, collectedRegister, collectedMailbox}
-use Rattle.revocation.specs.declared.Core.{Core}
 use Rattle.histories.specs.Live.{wordOf, shown}
 
 -- What holds of the word that is put and of every old one holds of every new one.

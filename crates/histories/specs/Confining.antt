@@ -5,11 +5,11 @@ use Prim.Native.Nat.{ℕ, _+_, _*_, _≤_, _<_}
 use mathlib.Core.Bool.{true}
 use mathlib.Core.Path.{_≡_}
 use lib.ListN.{length, getD}
+use Rattle.capabilities.specs.Range.{inside}
 use Rattle.pages.specs.declared.Place.the-variants.{At}
 use Rattle.pages.specs.declared.FrameState.the-variants.{Mapped as Shown}
 use Rattle.pages.specs.Layer.{frameAt}
 use Rattle.pages.specs.Mapping.{lookupOf}
-use Rattle.capabilities.specs.Range.{inside}
 use Rattle.reservations.specs.Rows.{isOpen, live, rangeOf}
 use Rattle.histories.specs.Runs.{Machine, Reached}
 use Rattle.histories.specs.Live.{Spot, Live, wordIn}

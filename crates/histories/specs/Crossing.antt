@@ -3,13 +3,13 @@
 use Prim.Native.Nat.{ℕ, _+_, _*_, _<_}
 use mathlib.Core.Path.{_≡_}
 use lib.ListN.{getD}
-use Rattle.calls.specs.declared.Call.the-variants.{Map}
 use Rattle.pages.specs.declared.Frame.{Frame}
 use Rattle.pages.specs.declared.FrameState.the-variants.{Free}
 use Rattle.pages.specs.declared.Place.the-variants.{At}
 use Rattle.pages.specs.declared.VirtualPage.{VirtualPage}
 use Rattle.pages.specs.Layer.{frameAt}
 use Rattle.pages.specs.Mapping.{lookupOf}
+use Rattle.calls.specs.declared.Call.the-variants.{Map}
 use Rattle.histories.specs.Runs.{Machine, Granted, next, Reached}
 
 -- A place of lent memory holds 0, and its tag byte is 0.

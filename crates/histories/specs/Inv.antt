@@ -4,16 +4,16 @@ use mathlib.Core.Bool.{true, false}
 use mathlib.Core.List.{List}
 use mathlib.Core.Path.{_≡_}
 use lib.ListN.{length, getD}
+use Rattle.capabilities.specs.Capability.{lengthOf, permissionsOf}
+use Rattle.capabilities.specs.Range.{inside}
 use Rattle.pages.specs.declared.FrameState.the-variants.{Free}
 use Rattle.pages.specs.declared.Place.the-variants.{At}
-use Rattle.capabilities.specs.Capability.{lengthOf, permissionsOf}
 use Rattle.pages.specs.Layer.{frameAt}
 use Rattle.pages.specs.Mapping.{lookupOf}
-use Rattle.capabilities.specs.Range.{inside}
-use Rattle.revocation.specs.declared.Core.{Core}
 use Rattle.reservations.specs.declared.Reservation.{Reservation}
 use Rattle.reservations.specs.declared.Table.{Table}
 use Rattle.reservations.specs.Rows.{isOpen, blank, rangeOf, live}
+use Rattle.revocation.specs.declared.Core.{Core}
 use Rattle.revocation.specs.Revocation.{dying}
 use Rattle.words.specs.declared.Slot.{Slot}
 use Rattle.words.specs.Words.{empty, wordAt}

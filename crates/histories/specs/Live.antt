@@ -5,13 +5,13 @@ use mathlib.Core.Bool.{true}
 use mathlib.Core.List.{List}
 use mathlib.Core.Path.{_≡_}
 use lib.ListN.{getD}
+use Rattle.capabilities.specs.declared.Range.{Range}
+use Rattle.capabilities.specs.Capability.{baseOf, lengthOf}
+use Rattle.capabilities.specs.Range.{inside}
 use Rattle.pages.specs.declared.Place.{Place}
 use Rattle.pages.specs.declared.Place.the-variants.{At, Nowhere}
 use Rattle.pages.specs.declared.Pages.{Pages}
-use Rattle.capabilities.specs.declared.Range.{Range}
-use Rattle.capabilities.specs.Capability.{baseOf, lengthOf}
 use Rattle.pages.specs.Mapping.{lookupOf}
-use Rattle.capabilities.specs.Range.{inside}
 use Rattle.words.specs.declared.Slot.{Slot}
 use Rattle.words.specs.Words.{empty, wordAt}
 use Rattle.histories.specs.Runs.{Machine}

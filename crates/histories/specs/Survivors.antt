@@ -1,8 +1,8 @@
 -- No survivor. After every history, once a collect is granted no live capability has a cell in the revoked range, whatever was stored,
 -- granted, loaded or mapped while the sweep ran, before or behind it. Assumes nothing.
 use Prim.Native.Nat.{ℕ}
-use Rattle.calls.specs.declared.Call.the-variants.{Collect}
 use Rattle.revocation.specs.Revocation.{revoked}
+use Rattle.calls.specs.declared.Call.the-variants.{Collect}
 use Rattle.histories.specs.Runs.{Machine, Granted, next, Reached}
 use Rattle.histories.specs.Live.{NoneInto}
 

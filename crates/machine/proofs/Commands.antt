@@ -5,11 +5,11 @@ use mathlib.Core.Bool.{true}
 use mathlib.Core.List.{List}
 use mathlib.Core.Path.{_≡_, refl, sym, subst}
 use lib.ListN.{length, drop}
+use Rattle.pages.specs.Layer.{serves}
 use Rattle.calls.specs.declared.Call.{Call}
 use Rattle.calls.specs.declared.Reading.{Reading}
 use Rattle.calls.specs.declared.Reading.the-variants.{Read, Refused}
 use Rattle.calls.specs.Reader.{readOf}
-use Rattle.pages.specs.Layer.{serves}
 use Rattle.machine.specs.declared.State.{State}
 use Rattle.machine.specs.Formed.{wellFormed}
 use Rattle.machine.specs.Step.{Outcome, left, refused, stepOf}

@@ -5,10 +5,10 @@ use mathlib.Core.Bool.{true, not}
 use mathlib.Core.List.{List, _∷_}
 use mathlib.Core.Path.{_≡_, sym, ap, _∙_}
 use lib.ListN.{length}
-use Rattle.calls.specs.declared.Call.{Call}
-use Rattle.pages.specs.Layer.{serves}
 use Rattle.capabilities.specs.Refusals.{first, reason}
+use Rattle.pages.specs.Layer.{serves}
 use Rattle.pages.proofs.Memory.{served}
+use Rattle.calls.specs.declared.Call.{Call}
 use Rattle.machine.specs.declared.State.{State}
 use Rattle.machine.specs.Formed.{wellFormed}
 use Rattle.machine.specs.Reasons.{reads, reasons}

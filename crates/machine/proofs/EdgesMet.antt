@@ -1,18 +1,18 @@
 -- Document 01's K cases: the rules give the codes that it names, by one computation over the list.
 use mathlib.Core.Bool.{true}
 use mathlib.Core.Path.{_≡_, refl}
-use Rattle.pages.specs.Freed.{freedIn, allFreed}
-use Rattle.pages.specs.Layer.{pageAt, frameAt, withPage, withFrame, freshOf, mappings, pageSound, frameSound, wellFormed as pagesFormed}
 use Rattle.capabilities.specs.Lists.{each, mapEach}
-use Rattle.pages.specs.Mapping.{mapReasons, mapped, mapOf, dirtyReasons, cleared, lookupOf, notMappedIn, anyMapped, freedEntry, freedOf, releasedEntry, releasedOf}
 use Rattle.capabilities.specs.Range.{inside}
 use Rattle.capabilities.specs.Refusals.{first}
+use Rattle.pages.specs.Freed.{freedIn, allFreed}
+use Rattle.pages.specs.Layer.{pageAt, frameAt, withPage, withFrame, freshOf, mappings, pageSound, frameSound, wellFormed as pagesFormed}
+use Rattle.pages.specs.Mapping.{mapReasons, mapped, mapOf, dirtyReasons, cleared, lookupOf, notMappedIn, anyMapped, freedEntry, freedOf, releasedEntry, releasedOf}
 use Rattle.sweep.specs.Sweep.{passed, sweptTag, sweptTags}
 use Rattle.reservations.specs.Find.{seek, findOf, revokingOf, rowOf, withRow}
 use Rattle.reservations.specs.Operations.{openReasons, takeReasons, takeOf, splitReasonsAt, splitReasons, splitAt, splitOf, giveReasons, giveOf}
-use Rattle.revocation.specs.Revocation.{freshCore, running, revoked, dying, revokeReasonsAt, revokeReasons, revokeAt, revokeOf, collectReasons, collected, collectOf, revocationSound, coreSound}
 use Rattle.reservations.specs.Rows.{live, splice, spread}
 use Rattle.reservations.specs.Tiling.{tiles, allBlank, revokings, sized, tableSound, freshTable}
+use Rattle.revocation.specs.Revocation.{freshCore, running, revoked, dying, revokeReasonsAt, revokeReasons, revokeAt, revokeOf, collectReasons, collected, collectOf, revocationSound, coreSound}
 use Rattle.words.specs.Words.{registerOf, mailboxOf, wordAt}
 use Rattle.machine.specs.Formed.{mailboxesSound, wellFormed, fresh, startOf}
 use Rattle.machine.specs.Reasons.{addressed, reasons}

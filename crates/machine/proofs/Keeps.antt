@@ -8,27 +8,27 @@ use mathlib.Core.Path.{_≡_, refl, subst, _∙_}
 use lib.ListN.{length}
 use lib.Dec.{ltb, eqb}
 use borrow.Author.Tests.{ltb-true, eqb-true, eq-eqb, not-false}
-use Rattle.calls.specs.declared.Call.{Call}
-use Rattle.calls.specs.declared.Call.the-variants.{Take, Split, Merge, Give, Revoke, Sweep, Collect, Map, Unmap, Zero, Load, Store, Narrow, Number, Grant, Receive}
-use Rattle.pages.specs.Layer.{inRange, serves}
 use Rattle.capabilities.specs.Lists.{pick, each}
 use Rattle.capabilities.specs.Refusals.{first}
 use Rattle.capabilities.proofs.Choice.{and-left, and-right, or-false}
-use Rattle.pages.proofs.Formed as layer
 use Rattle.capabilities.proofs.Refusals.{first-clear}
+use Rattle.pages.specs.Layer.{inRange, serves}
+use Rattle.pages.proofs.Formed as layer
+use Rattle.reservations.proofs.Sound as table
+use Rattle.reservations.proofs.Truth.{both}
 use Rattle.revocation.specs.declared.Core.{Core}
 use Rattle.revocation.specs.Revocation.{core, running, dying, coreSound}
 use Rattle.revocation.proofs.CoreKept.{core-facts, core-take, core-split, core-merge, core-give}
 use Rattle.revocation.proofs.Revocations.{core-revoke, core-collect, core-sweep}
-use Rattle.reservations.proofs.Sound as table
 use Rattle.revocation.proofs.Starts.{core-fresh}
-use Rattle.reservations.proofs.Truth.{both}
+use Rattle.calls.specs.declared.Call.{Call}
+use Rattle.calls.specs.declared.Call.the-variants.{Take, Split, Merge, Give, Revoke, Sweep, Collect, Map, Unmap, Zero, Load, Store, Narrow, Number, Grant, Receive}
 use Rattle.words.specs.declared.Slot.{Slot}
-use Rattle.machine.specs.declared.State.{State}
 use Rattle.words.specs.Words.{empty, collectedMailbox}
+use Rattle.words.specs.WordReasons.{unnamed, notManager}
+use Rattle.machine.specs.declared.State.{State}
 use Rattle.machine.specs.Formed.{mailboxSound, mailboxesSound, sized, wellFormed, fresh, startOf}
 use Rattle.machine.specs.Reasons.{Reads, reads, reasons}
-use Rattle.words.specs.WordReasons.{unnamed, notManager}
 use Rattle.machine.specs.Effects.{MailboxChange, keepMailboxes, putMailbox, collectMailboxes, effect, sweptTo}
 use Rattle.machine.specs.Step.{mailboxesAfter, done, reasonsOn, effectOn, judged, stepOf}
 use Rattle.machine.proofs.Judging.{judged-by, step-by}

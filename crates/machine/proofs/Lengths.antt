@@ -8,21 +8,21 @@ use mathlib.Core.Path.{_≡_, refl}
 use lib.ListN.{length, length-set, length-map}
 use lib.Dec.{ltb}
 use borrow.Author.Tests.{ltb-true, lt-ltb}
+use Rattle.capabilities.specs.Refusals.{first}
+use Rattle.capabilities.proofs.Lists.{length-mapEach}
+use Rattle.capabilities.proofs.Refusals.{first-clear}
+use Rattle.pages.specs.Layer.{serves}
+use Rattle.pages.proofs.Memory.{served}
+use Rattle.pages.proofs.Shows.{length-cleared}
+use Rattle.sweep.specs.Sweep.{sweptTag, sweptTags}
+use Rattle.revocation.specs.declared.Core.{Core}
 use Rattle.calls.specs.declared.Call.{Call}
 use Rattle.calls.specs.declared.Call.the-variants.{Take, Split, Merge, Give, Revoke, Sweep, Collect, Map, Unmap, Zero, Load, Store, Narrow, Number, Grant, Receive}
-use Rattle.pages.specs.Layer.{serves}
-use Rattle.capabilities.specs.Refusals.{first}
-use Rattle.sweep.specs.Sweep.{sweptTag, sweptTags}
-use Rattle.capabilities.proofs.Lists.{length-mapEach}
-use Rattle.pages.proofs.Memory.{served}
-use Rattle.capabilities.proofs.Refusals.{first-clear}
-use Rattle.pages.proofs.Shows.{length-cleared}
-use Rattle.revocation.specs.declared.Core.{Core}
 use Rattle.words.specs.declared.Slot.{Slot}
-use Rattle.machine.specs.declared.State.{State}
 use Rattle.words.specs.Words.{byteOf, collectedRegister, collectedMailbox}
-use Rattle.machine.specs.Reasons.{Reads, reads, reasons}
 use Rattle.words.specs.WordReasons.{unnamed, notManager}
+use Rattle.machine.specs.declared.State.{State}
+use Rattle.machine.specs.Reasons.{Reads, reads, reasons}
 use Rattle.machine.specs.Effects.{RegisterChange, keepRegisters, putRegister, fetchInto, collectRegisters, MailboxChange, keepMailboxes, putMailbox, collectMailboxes, MemoryChange, keepMemory, writeWord, clearFrame, sweepCells, effect}
 use Rattle.machine.specs.Step.{Outcome, refused, fetched, registersAfter, mailboxesAfter, cellsAfter, tagsAfter, done, reasonsOn, effectOn, judged, stepOf}
 use Rattle.machine.proofs.Judging.{judged-by, step-by}

@@ -9,15 +9,15 @@ use mathlib.Core.Path.{_≡_, refl, sym, subst}
 use lib.ListN.{length}
 use lib.Dec.{leb, ltb, eqb}
 use borrow.Author.Tests.{ltb-true, leb-true, eqb-true, eq-eqb, ne-eqb, lt-ltb, le-leb}
-use Rattle.calls.specs.declared.Call.{Call}
-use Rattle.calls.specs.declared.Call.the-variants.{Take, Split, Merge, Give, Revoke, Sweep, Collect, Map, Unmap, Zero, Load, Store, Narrow, Number, Grant, Receive}
-use Rattle.pages.specs.Layer.{serves}
 use Rattle.capabilities.specs.Lists.{pick}
-use Rattle.pages.specs.Mapping.{mapReasons, unmapReasons, dirtyReasons}
 use Rattle.capabilities.specs.Refusals.{Reason, reason, first}
 use Rattle.capabilities.proofs.Choice.{and-left, and-right}
+use Rattle.pages.specs.Layer.{serves}
+use Rattle.pages.specs.Mapping.{mapReasons, unmapReasons, dirtyReasons}
 use Rattle.reservations.specs.Operations.{openReasons, takeReasons, splitReasonsAt, splitReasons, mergeReasonsAt, mergeReasons, giveReasons}
 use Rattle.revocation.specs.Revocation.{revokeReasonsAt, revokeReasons, collectReasons}
+use Rattle.calls.specs.declared.Call.{Call}
+use Rattle.calls.specs.declared.Call.the-variants.{Take, Split, Merge, Give, Revoke, Sweep, Collect, Map, Unmap, Zero, Load, Store, Narrow, Number, Grant, Receive}
 use Rattle.machine.specs.declared.State.{State}
 use Rattle.machine.specs.Formed.{wellFormed}
 use Rattle.machine.specs.Reasons.{reasons}

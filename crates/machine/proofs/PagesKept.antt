@@ -8,8 +8,14 @@ use mathlib.Core.Path.{_≡_, refl, sym, subst, _∙_}
 use lib.ListN.{length}
 use lib.Dec.{eqb}
 use borrow.Author.Tests.{eqb-true, leb-false, not-false}
-use Rattle.pages.specs.declared.Pages.{Pages}
 use Rattle.capabilities.specs.declared.Range.{Range}
+use Rattle.capabilities.specs.Lists.{pick}
+use Rattle.capabilities.specs.Range.{pageInside}
+use Rattle.capabilities.specs.Refusals.{first}
+use Rattle.capabilities.proofs.Choice.{and-left, and-right}
+use Rattle.capabilities.proofs.Lists.{each-at}
+use Rattle.capabilities.proofs.Refusals.{first-clear}
+use Rattle.pages.specs.declared.Pages.{Pages}
 use Rattle.pages.specs.declared.Frame.{Frame}
 use Rattle.pages.specs.declared.VirtualPage.{VirtualPage}
 use Rattle.pages.specs.declared.PageState.{PageState}
@@ -19,22 +25,16 @@ use Rattle.pages.specs.declared.FrameState.the-variants.{Dirty, Free, Mapped as
 use Rattle.pages.specs.Entries.{isDirty, pageEntry}
 use Rattle.pages.specs.Freed.{isFreed, freedIn, allFreed}
 use Rattle.pages.specs.Layer.{pageAt, frameAt, withPage, withFrame, wellFormed}
-use Rattle.capabilities.specs.Lists.{pick}
 use Rattle.pages.specs.Mapping.{noFrame, mapReasons, mapped, mapOf, unmapReasons, soiled, unmapped, unmapOf, dirtyReasons}
-use Rattle.capabilities.specs.Range.{pageInside}
-use Rattle.capabilities.specs.Refusals.{first}
-use Rattle.capabilities.proofs.Choice.{and-left, and-right}
 use Rattle.pages.proofs.Formed.{sound, formed, frame-changed}
 use Rattle.pages.proofs.Kept.{Mappable, mappable, map-keeps, unmap-keeps}
-use Rattle.capabilities.proofs.Lists.{each-at}
-use Rattle.capabilities.proofs.Refusals.{first-clear}
 use Rattle.pages.proofs.States.{is-dirty}
-use Rattle.revocation.specs.declared.Core.{Core}
 use Rattle.reservations.specs.Find.{revokingOf, rowOf}
 use Rattle.reservations.specs.Tiling.{tableSound}
+use Rattle.reservations.proofs.Truth.{both}
+use Rattle.revocation.specs.declared.Core.{Core}
 use Rattle.revocation.specs.Revocation.{running, revoked, wholePages, revocationSound, coreSound}
 use Rattle.revocation.proofs.CoreKept.{core-facts, core-made}
-use Rattle.reservations.proofs.Truth.{both}
 use Rattle.machine.specs.Effects.{withPages}
 use Rattle.machine.proofs.Judging.{pick-by}
 use Rattle.machine.proofs.Lists.{each-set}

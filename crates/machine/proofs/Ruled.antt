@@ -3,23 +3,26 @@ use Prim.Native.Nat.{ℕ, _+_, _-_, _*_}
 use native.Mathlib.Omega.{arith}
 use mathlib.Core.Bool.{Bool, true, false, not}
 use mathlib.Core.List.{List, map}
-use mathlib.Core.Path.{_≡_, refl, sym, _∙_}
+use mathlib.Core.Path.{_≡_, refl, sym, ap, _∙_}
 use lib.ListN.{length, set}
-use borrow.Author.Tests.{ne-eqb}
-use Rattle.calls.specs.declared.Call.{Call}
-use Rattle.pages.specs.declared.Frame.{Frame}
+use borrow.Author.Tests.{ne-eqb, eqb-true, eqb-false}
+use lib.Dec.{eqb}
 use Rattle.capabilities.specs.declared.Range.{Range}
-use Rattle.pages.specs.Layer.{serves}
 use Rattle.capabilities.specs.Lists.{pick}
-use Rattle.pages.specs.Mapping.{cleared}
 use Rattle.capabilities.specs.Refusals.{first}
+use Rattle.capabilities.proofs.Choice.{pick-yes, pick-no}
+use Rattle.pages.specs.declared.Frame.{Frame}
+use Rattle.pages.specs.Layer.{serves}
+use Rattle.pages.specs.Mapping.{cleared}
 use Rattle.sweep.specs.Sweep.{sweptTags, sweepOf}
 use Rattle.revocation.specs.declared.Core.{Core}
 use Rattle.revocation.specs.Revocation.{core, running, revoked, sweepReasons, coreSwept, passing, sweptCore, sweepCoreOf}
-use Rattle.machine.specs.declared.State.{State}
-use Rattle.machine.specs.Formed.{answered}
+use Rattle.calls.specs.declared.Call.{Call}
 use Rattle.words.specs.declared.Slot.{Slot}
 use Rattle.words.specs.Words.{empty, byteOf, collectedRegister, collectedMailbox}
+use Rattle.machine.specs.declared.State.{State}
+use Rattle.machine.specs.declared.Answered.{Answered}
+use Rattle.machine.specs.Formed.{answered}
 use Rattle.machine.specs.Effects.{effectOf, keepRegisters, putRegister, fetchInto, collectRegisters, keepMailboxes, putMailbox, collectMailboxes, keepMemory, writeWord, clearFrame, sweepCells, sweptTo}
 use Rattle.machine.specs.Step.{Outcome, left, fetched, done, registersAfter, mailboxesAfter, cellsAfter, tagsAfter, wordAfter, reasonsOn, effectOn, ruled, judged, refused, withCore}
 
@@ -79,6 +82,19 @@ module _ (s : State) (c : Core) (w : Slot) (cells tags : List ℕ) where
       ≡ done s (effectOf c keepRegisters keepMailboxes (sweepCells r from upto) w) cells tags
   unfolding done registersAfter mailboxesAfter cellsAfter tagsAfter wordAfter withCore
   done-sweep r from upto = refl
+
+-- A call whose effect is a new core: that one where nothing refuses it, or else all as it was.
+pub ruled-core :
+    (s : State) (c : Call) (k : ℕ) (x : Core) → k ≡ first (reasonsOn s c)
+    → effectOn s c ≡ effectOf x keepRegisters keepMailboxes keepMemory empty → (r : Answered)
+    → r ≡ pick (eqb k 0) (answered 0 empty (withCore s x)) (answered k empty s) → (cells tags : List ℕ) → left r cells tags ≡ ruled s c cells tags
+ruled-core s c k x e f r d cells tags = go (eqb k 0) refl
+  where
+    go : (b : Bool) → eqb k 0 ≡ b → left r cells tags ≡ ruled s c cells tags
+    go true z =
+        ruled-done s c k e (eqb-true k 0 z) cells tags (left r cells tags)
+        (ap (λ a. left a cells tags) (d ∙ pick-yes _ _ _ z) ∙ done-core s x empty cells tags ∙ sym (ap (λ y. done s y cells tags) f))
+    go false z = ap (λ a. left a cells tags) (d ∙ pick-no _ _ _ z) ∙ ruled-down s c k e (eqb-false k 0 z) cells tags
 
 -- A call that leaves the core alone.
 pub same-core : (s : State) → withCore s (s .core) ≡ s

@@ -9,14 +9,14 @@ use lib.ListN.{length, drop}
 use lib.Seq.{drop-at}
 use lib.Dec.{eqb}
 use borrow.Author.Tests.{ne-eqb}
+use Rattle.capabilities.specs.Lists.{pick}
+use Rattle.capabilities.specs.Refusals.{first}
+use Rattle.pages.specs.Layer.{serves}
 use Rattle.calls.specs.declared.Call.{Call}
 use Rattle.calls.specs.Commands.{bytesOf}
 use Rattle.calls.specs.Reader.{readOf}
 use Rattle.calls.specs.declared.Reading.the-variants.{Read}
 use Rattle.calls.proofs.RoundTrip.{round-trip}
-use Rattle.pages.specs.Layer.{serves}
-use Rattle.capabilities.specs.Lists.{pick}
-use Rattle.capabilities.specs.Refusals.{first}
 use Rattle.machine.specs.declared.State.{State}
 use Rattle.machine.specs.Formed.{wellFormed}
 use Rattle.machine.specs.Step.{refused, reasonsOn, ruled, judged, stepOf}

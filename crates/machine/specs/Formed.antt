@@ -4,13 +4,13 @@ use Prim.Native.Nat.{ℕ}
 use mathlib.Core.Bool.{Bool, _&&_, _||_}
 use lib.ListN.{length, replicate}
 use lib.Dec.{eqb}
-use Rattle.pages.specs.Layer.{inRange}
 use Rattle.capabilities.specs.Lists.{pick, each}
+use Rattle.pages.specs.Layer.{inRange}
 use Rattle.revocation.specs.Revocation.{freshCore, coreSound}
 use Rattle.words.specs.declared.Slot.{Slot}
+use Rattle.words.specs.Words.{empty}
 use Rattle.machine.specs.declared.State.{State}
 use Rattle.machine.specs.declared.Answered.{Answered}
-use Rattle.words.specs.Words.{empty}
 
 -- "One mailbox for one capability, empty and its cell 0 when untagged".
 abbrev pub mailboxSound : ℕ → Slot → Bool

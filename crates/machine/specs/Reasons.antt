@@ -3,15 +3,15 @@
 use Prim.Native.Nat.{ℕ, _+_}
 use mathlib.Core.Bool.{not, _||_}
 use mathlib.Core.List.{List, [], _∷_}
+use Rattle.capabilities.specs.Capability.{baseOf}
+use Rattle.capabilities.specs.Refusals.{Reason, reason}
+use Rattle.pages.specs.declared.Place.{Place}
+use Rattle.pages.specs.Mapping.{lookupOf, mapReasons, unmapReasons, dirtyReasons}
+use Rattle.reservations.specs.Operations.{takeReasons, splitReasons, mergeReasons, giveReasons}
+use Rattle.revocation.specs.declared.Core.{Core}
+use Rattle.revocation.specs.Revocation.{running, revokeReasons, collectReasons}
 use Rattle.calls.specs.declared.Call.{Call}
 use Rattle.calls.specs.declared.Call.the-variants.{Take, Split, Merge, Give, Revoke, Sweep, Collect, Map, Unmap, Zero, Load, Store, Narrow, Number, Grant, Receive}
-use Rattle.pages.specs.declared.Place.{Place}
-use Rattle.capabilities.specs.Capability.{baseOf}
-use Rattle.pages.specs.Mapping.{lookupOf, mapReasons, unmapReasons, dirtyReasons}
-use Rattle.capabilities.specs.Refusals.{Reason, reason}
-use Rattle.revocation.specs.declared.Core.{Core}
-use Rattle.reservations.specs.Operations.{takeReasons, splitReasons, mergeReasons, giveReasons}
-use Rattle.revocation.specs.Revocation.{running, revokeReasons, collectReasons}
 use Rattle.words.specs.declared.Slot.{Slot}
 use Rattle.words.specs.WordReasons.{unnamed, notManager, loadReasons, storeReasons, narrowReasons, grantReasons, receiveReasons}
 use Rattle.words.specs.Words.{empty, registerOf, mailboxOf}

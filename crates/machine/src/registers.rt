@@ -4,10 +4,12 @@ use crate::State;
 use revocation::Core;
 use words::Slot;
 use words::empty;
+ghost use lib.Dec.{eqb};
 ghost use mathlib.Core.Path.{_≡_};
+ghost use Rattle.capabilities.specs.Lists.{pick};
+ghost use Rattle.words.specs.Words.{slot, empty, registerOf, mailboxOf};
 ghost use Rattle.machine.specs.Formed.{answered};
 ghost use Rattle.machine.specs.Step.{withCore};
-ghost use Rattle.words.specs.Words.{slot, empty, registerOf, mailboxOf};
 
 impl State {
     // A refusal: number 0, tag 0, and the state as given.
@@ -59,5 +61,15 @@ impl State {
     {
         self.core = core;
         self
+    }
+
+    // A call that changes the core alone: the new one where nothing refuses it.
+    pub(crate) fn cored(self, code: u8, core: Core) -> Answered
+        ensures { λ r. ⌜ r ≡ pick (eqb code 0) (answered 0 empty (withCore self core)) (answered code empty self) ⌝ }
+    {
+        if code != 0 {
+            return self.refused(code);
+        }
+        self.with_core(core).granted(0, false)
     }
 }

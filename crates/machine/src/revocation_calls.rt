@@ -13,12 +13,8 @@ impl State {
     {
         let core = self.core;
         let done = core.revoke(party, base);
-        let code = manager_code(party, done.code);
-        if code != 0 {
-            return self.refused(code);
-        }
         let after = done.core;
-        self.with_core(after).granted(0, false)
+        self.cored(manager_code(party, done.code), after)
     }
 
     pub(crate) fn collect(self, party: u8) -> Answered

@@ -15,9 +15,9 @@ use words::empty;
 ghost use lib.ListN.{length};
 ghost use mathlib.Core.Bool.{true};
 ghost use mathlib.Core.Path.{_≡_};
-ghost use Rattle.calls.specs.declared.Call.the-variants.{Sweep, Zero};
-ghost use Rattle.pages.specs.Layer.{serves};
 ghost use Rattle.capabilities.specs.Lists.{each};
+ghost use Rattle.pages.specs.Layer.{serves};
+ghost use Rattle.calls.specs.declared.Call.the-variants.{Sweep, Zero};
 ghost use Rattle.machine.specs.Command.{ran, commandJudged, commandOf};
 ghost use Rattle.machine.specs.Formed.{mailboxSound, wellFormed, startOf};
 ghost use Rattle.machine.specs.Step.{left, ruled, judged, stepOf};
@@ -93,7 +93,7 @@ impl State {
         requires { ⌜ serves (self .core .pages) (length (now cells)) (length (now tags)) ≡ true ⌝ }
         ensures { λ r. ⌜ left r (now (cells .exit)) (now (tags .exit)) ≡ ruled self (Zero party frame) (now (cells .entry)) (now (tags .entry)) ⌝ }
     {
-        let core = self.core;
+        let mut core = self.core;
         let pages = core.pages;
         let code = manager_code(party, pages.dirty_code(frame));
         if code != 0 {
@@ -101,7 +101,8 @@ impl State {
         }
         let done = pages.zero(frame, cells, tags);
         let after = done.pages;
-        self.with_pages(after).granted(0, false)
+        core.pages = after;
+        self.with_core(core).granted(0, false)
     }
 
     // One call by refusals 2 and 4 to 19: what is left of `call` once the state is known to be well formed.

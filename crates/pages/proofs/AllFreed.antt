@@ -4,16 +4,16 @@ use native.Mathlib.Nat.{zero-add}
 use mathlib.Core.Bool.{Bool, true, false, not, _&&_, _||_}
 use mathlib.Core.Path.{_≡_, refl, ap}
 use lib.ListN.{length, getD}
-use Rattle.pages.specs.declared.Pages.{Pages}
 use Rattle.capabilities.specs.declared.Range.{Range}
+use Rattle.capabilities.specs.Range.{pageInside}
+use Rattle.capabilities.proofs.Lists.{each-at, each-all, length-mapEach}
+use Rattle.pages.specs.declared.Pages.{Pages}
 use Rattle.pages.specs.declared.PageState.{PageState}
 use Rattle.pages.specs.declared.PageState.the-variants.{Unmapped, Freed, Mapped}
 use Rattle.pages.specs.Entries.{isMapped, pageEntry}
 use Rattle.pages.specs.Freed.{isFreed, freedIn, allFreed}
 use Rattle.pages.specs.Layer.{pageAt}
 use Rattle.pages.specs.Mapping.{notMappedIn, anyMapped, freedOf, freedEntry}
-use Rattle.capabilities.specs.Range.{pageInside}
-use Rattle.capabilities.proofs.Lists.{each-at, each-all, length-mapEach}
 use Rattle.pages.proofs.Freeing.{all-freed}
 
 freed-if : (b : Bool) (x : PageState) → (b ≡ true → x ≡ Freed) → not b || isFreed x ≡ true

@@ -9,6 +9,9 @@ use lib.ListN.{length, getD, set, length-set, replicate, getD-replicate}
 use lib.Seq.{getD-set-same, getD-set-other, set-getD}
 use lib.Dec.{leb, ltb, eqb}
 use borrow.Author.Tests.{ltb-true, leb-true, eqb-true, eqb-false, lt-ltb, le-leb, eq-eqb}
+use Rattle.capabilities.specs.Lists.{pick, each}
+use Rattle.capabilities.proofs.Choice.{pick-yes, pick-twice, and-left, and-right}
+use Rattle.capabilities.proofs.Lists.{each-at, each-all}
 use Rattle.pages.specs.declared.Pages.{Pages}
 use Rattle.pages.specs.declared.PageEntry.{PageEntry}
 use Rattle.pages.specs.declared.FrameEntry.{FrameEntry}
@@ -18,10 +21,7 @@ use Rattle.pages.specs.declared.FrameState.{FrameState}
 use Rattle.pages.specs.declared.FrameState.the-variants.{Dirty}
 use Rattle.pages.specs.Entries.{mapsBelow, isShown, pageEntry, frameEntry}
 use Rattle.pages.specs.Layer.{pageAt, frameAt, withPage, withFrame, inRange, blank, shaped, mappings, pageSound, frameSound, wellFormed}
-use Rattle.capabilities.specs.Lists.{pick, each}
 use Rattle.pages.specs.Mapping.{withPages}
-use Rattle.capabilities.proofs.Choice.{pick-yes, pick-twice, and-left, and-right}
-use Rattle.capabilities.proofs.Lists.{each-at, each-all}
 
 abbrev page₀ : PageEntry
 page₀ = pageEntry Unmapped

@@ -7,19 +7,19 @@ use mathlib.Core.Path.{_≡_, refl, sym, ap, _∙_}
 use lib.ListN.{length, getD}
 use lib.Dec.{leb, ltb}
 use borrow.Author.Tests.{ltb-true, lt-ltb, not-true, not-false}
+use Rattle.capabilities.specs.declared.Range.{Range}
+use Rattle.capabilities.specs.Lists.{pick, mapEach}
+use Rattle.capabilities.specs.Range.{inside, pageInside}
+use Rattle.capabilities.proofs.Choice.{pick-yes, pick-twice, and-left, and-right}
+use Rattle.capabilities.proofs.Lists.{each-at, length-mapEach, getD-mapEach}
 use Rattle.pages.specs.declared.Pages.{Pages}
 use Rattle.pages.specs.declared.PageEntry.{PageEntry}
 use Rattle.pages.specs.declared.PageState.{PageState}
 use Rattle.pages.specs.declared.PageState.the-variants.{Unmapped, Freed, Mapped}
-use Rattle.capabilities.specs.declared.Range.{Range}
 use Rattle.pages.specs.Entries.{isUnmapped, isMapped, maps, pageEntry}
 use Rattle.pages.specs.Layer.{pageAt, pageSound, wellFormed}
-use Rattle.capabilities.specs.Lists.{pick, mapEach}
 use Rattle.pages.specs.Mapping.{notMappedIn, anyMapped, freedEntry, freedOf, releasedEntry, releasedOf}
-use Rattle.capabilities.specs.Range.{inside, pageInside}
-use Rattle.capabilities.proofs.Choice.{pick-yes, pick-twice, and-left, and-right}
 use Rattle.pages.proofs.Formed.{sound, formed, pages-changed}
-use Rattle.capabilities.proofs.Lists.{each-at, length-mapEach, getD-mapEach}
 use Rattle.pages.proofs.Mappings.{mappings-mapEach}
 
 pick-state : (b : Bool) (x y : PageEntry) → pick b x y .state ≡ pick b (x .state) (y .state)

@@ -7,6 +7,10 @@ use mathlib.Core.Path.{_≡_, refl, sym}
 use lib.ListN.{length, set}
 use lib.Dec.{eqb}
 use borrow.Author.Tests.{ltb-true, leb-false, eqb-true, lt-ltb, ne-eqb, eq-eqb, not-false}
+use Rattle.capabilities.specs.Lists.{pick}
+use Rattle.capabilities.specs.Refusals.{first}
+use Rattle.capabilities.proofs.Choice.{pick-yes, or-false, at-most}
+use Rattle.capabilities.proofs.Refusals.{first-clear}
 use Rattle.pages.specs.declared.Pages.{Pages}
 use Rattle.pages.specs.declared.Frame.{Frame}
 use Rattle.pages.specs.declared.VirtualPage.{VirtualPage}
@@ -15,14 +19,10 @@ use Rattle.pages.specs.declared.PageState.the-variants.{Unmapped, Freed,
 use Rattle.pages.specs.declared.FrameState.the-variants.{Dirty, Free, Mapped as Shown}
 use Rattle.pages.specs.Entries.{isUnmapped, isMapped, maps, isFree, isShown, pageEntry}
 use Rattle.pages.specs.Layer.{pageAt, frameAt, withPage, withFrame, mappings, wellFormed, inRange, freshOf, blank}
-use Rattle.capabilities.specs.Lists.{pick}
 use Rattle.pages.specs.Mapping.{paged, noPage, noFrame, mapReasons, mapped, mapOf, unmapReasons, unmapped, unmapOf, soiled, zeroReasons, zeroOf}
-use Rattle.capabilities.specs.Refusals.{first}
-use Rattle.capabilities.proofs.Choice.{pick-yes, or-false, at-most}
 use Rattle.pages.proofs.Formed.{Sound, sound, formed, mapped-once, maps-low, changed, frame-changed, blank-sound}
 use Rattle.pages.proofs.Mappings.{mappings-set}
 use Rattle.pages.proofs.Memory.{zero-served}
-use Rattle.capabilities.proofs.Refusals.{first-clear}
 use Rattle.pages.proofs.States.{is-unmapped, is-free}
 
 -- What a granted map, unmap or zero has found.

@@ -10,13 +10,13 @@ use lib.ListN.{length, getD, take, set}
 use lib.Seq.{take-suc, getD-set-same, getD-set-other}
 use lib.Dec.{eqb}
 use borrow.Author.Tests.{eqb-true, eqb-false, ne-eqb}
+use Rattle.capabilities.specs.Lists.{pick, mapEach}
+use Rattle.capabilities.proofs.Choice.{pick-yes, pick-no, at-most}
 use Rattle.pages.specs.declared.PageEntry.{PageEntry}
 use Rattle.pages.specs.declared.PageState.{PageState}
 use Rattle.pages.specs.declared.PageState.the-variants.{Unmapped, Freed, Mapped}
 use Rattle.pages.specs.Entries.{maps, frameNumber}
 use Rattle.pages.specs.Layer.{mappings, Tally}
-use Rattle.capabilities.specs.Lists.{pick, mapEach}
-use Rattle.capabilities.proofs.Choice.{pick-yes, pick-no, at-most}
 
 -- One if the page maps the frame, else none.
 abbrev pub one : PageEntry → ℕ → ℕ

@@ -8,15 +8,15 @@ use lib.ListN.{length, take, drop, replicate, length-drop}
 use lib.Seq.{length-take-le, drop-drop}
 use lib.Dec.{eqb}
 use borrow.Author.Tests.{eqb-true, leb-false, not-false, ne-eqb}
+use Rattle.capabilities.specs.Refusals.{first}
+use Rattle.capabilities.proofs.Choice.{and-left, and-right}
+use Rattle.capabilities.proofs.Refusals.{first-clear}
 use Rattle.pages.specs.declared.Frame.{Frame}
 use Rattle.pages.specs.declared.Pages.{Pages}
 use Rattle.pages.specs.declared.FrameState.the-variants.{Dirty, Free}
 use Rattle.pages.specs.Entries.{isDirty}
 use Rattle.pages.specs.Layer.{frameAt, serves, withFrame}
 use Rattle.pages.specs.Mapping.{zeroReasons, dirtyReasons, noFrame, cleared, zeroed, zeroOf}
-use Rattle.capabilities.specs.Refusals.{first}
-use Rattle.capabilities.proofs.Choice.{and-left, and-right}
-use Rattle.capabilities.proofs.Refusals.{first-clear}
 use Rattle.pages.proofs.States.{is-dirty}
 
 -- The part comes back cleared, between what stood before it and what stood after it.

@@ -3,11 +3,11 @@ use Prim.Native.Nat.{ℕ, _+_, _<_, _≤_}
 use mathlib.Core.List.{_++_}
 use mathlib.Core.Path.{_≡_, refl, ap, _∙_}
 use lib.ListN.{length, getD, take, drop, set}
+use Rattle.capabilities.specs.Lists.{mapEach}
+use Rattle.capabilities.proofs.Lists.{mapEach-turn, mapEach-whole}
 use Rattle.pages.specs.declared.Pages.{Pages}
 use Rattle.pages.specs.declared.PageEntry.{PageEntry}
-use Rattle.capabilities.specs.Lists.{mapEach}
 use Rattle.pages.specs.Mapping.{withPages}
-use Rattle.capabilities.proofs.Lists.{mapEach-turn, mapEach-whole}
 
 module _ (f : ℕ → PageEntry → PageEntry) where
   -- The layer after p turns.

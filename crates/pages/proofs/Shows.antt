@@ -8,6 +8,7 @@ use lib.ListN.{length, getD, take, drop, replicate, length-append, getD-replicat
 use lib.Seq.{getD-take, getD-drop, getD-append-add, length-take-le}
 use lib.Dec.{ltb}
 use borrow.Author.Tests.{lt-ltb}
+use Rattle.capabilities.proofs.Choice.{pick-yes}
 use Rattle.pages.specs.declared.Pages.{Pages}
 use Rattle.pages.specs.declared.Frame.{Frame}
 use Rattle.pages.specs.declared.VirtualPage.{VirtualPage}
@@ -16,7 +17,6 @@ use Rattle.pages.specs.declared.FrameState.the-variants.{Mapped as Shown
 use Rattle.pages.specs.declared.Place.the-variants.{At, Nowhere}
 use Rattle.pages.specs.Layer.{pageAt, withPage, withFrame}
 use Rattle.pages.specs.Mapping.{mapped, cleared, zeroOf, lookupOf, placeIn}
-use Rattle.capabilities.proofs.Choice.{pick-yes}
 use Rattle.pages.proofs.Formed.{Sound}
 use Rattle.pages.proofs.Kept.{Mappable}
 use Rattle.pages.proofs.Memory.{zero-served}

@@ -1,13 +1,13 @@
 -- Document 01, 'Things and their sizes': the Revoking reservation "is made of whole pages, all Freed". Assumes nothing.
 use Prim.Native.Nat.{ℕ}
 use mathlib.Core.Bool.{Bool, true, false, not, _||_}
-use Rattle.pages.specs.declared.Pages.{Pages}
 use Rattle.capabilities.specs.declared.Range.{Range}
+use Rattle.capabilities.specs.Lists.{each}
+use Rattle.capabilities.specs.Range.{pageInside}
+use Rattle.pages.specs.declared.Pages.{Pages}
 use Rattle.pages.specs.declared.PageState.{PageState}
 use Rattle.pages.specs.declared.PageState.the-variants.{Unmapped, Freed, Mapped}
 use Rattle.pages.specs.declared.PageEntry.{PageEntry}
-use Rattle.capabilities.specs.Lists.{each}
-use Rattle.capabilities.specs.Range.{pageInside}
 
 abbrev pub isFreed : PageState → Bool
 isFreed Unmapped = false

@@ -5,6 +5,7 @@ use mathlib.Core.Bool.{Bool, _&&_}
 use mathlib.Core.List.{List, [], _∷_}
 use lib.ListN.{length, getD, set, replicate}
 use lib.Dec.{leb, ltb, eqb}
+use Rattle.capabilities.specs.Lists.{pick, each}
 use Rattle.pages.specs.declared.Pages.{Pages}
 use Rattle.pages.specs.declared.PageEntry.{PageEntry}
 use Rattle.pages.specs.declared.FrameEntry.{FrameEntry}
@@ -13,7 +14,6 @@ use Rattle.pages.specs.declared.PageState.the-variants.{Unmapped}
 use Rattle.pages.specs.declared.FrameState.{FrameState}
 use Rattle.pages.specs.declared.FrameState.the-variants.{Dirty}
 use Rattle.pages.specs.Entries.{isUnmapped, maps, mapsBelow, isDirty, isShown, pageEntry, frameEntry}
-use Rattle.capabilities.specs.Lists.{pick, each}
 
 -- The state of a page and of a frame; past the table's end, an unused entry's.
 unfoldable pub pageAt : Pages → ℕ → PageState

@@ -4,9 +4,12 @@ use mathlib.Core.Bool.{Bool, not, _&&_, _||_}
 use mathlib.Core.List.{List, [], _∷_, _++_}
 use lib.ListN.{length, take, drop, replicate}
 use lib.Dec.{leb, ltb, eqb}
+use Rattle.capabilities.specs.declared.Range.{Range}
+use Rattle.capabilities.specs.Lists.{pick, each, mapEach}
+use Rattle.capabilities.specs.Range.{pageInside}
+use Rattle.capabilities.specs.Refusals.{Reason, reason, first}
 use Rattle.pages.specs.declared.Pages.{Pages}
 use Rattle.pages.specs.declared.Paged.{Paged}
-use Rattle.capabilities.specs.declared.Range.{Range}
 use Rattle.pages.specs.declared.Frame.{Frame}
 use Rattle.pages.specs.declared.VirtualPage.{VirtualPage}
 use Rattle.pages.specs.declared.PageEntry.{PageEntry}
@@ -17,9 +20,6 @@ use Rattle.pages.specs.declared.Place.{Place}
 use Rattle.pages.specs.declared.Place.the-variants.{At, Nowhere}
 use Rattle.pages.specs.Entries.{isUnmapped, isMapped, isDirty, isFree, pageEntry}
 use Rattle.pages.specs.Layer.{pageAt, frameAt, withPage, withFrame, serves}
-use Rattle.capabilities.specs.Lists.{pick, each, mapEach}
-use Rattle.capabilities.specs.Range.{pageInside}
-use Rattle.capabilities.specs.Refusals.{Reason, reason, first}
 
 -- A refused operation keeps the layer as it was.
 abbrev pub paged : ℕ → Pages → Pages → Paged

@@ -13,10 +13,10 @@ use crate::entry::is_unmapped;
 use crate::entry::maps_below;
 ghost use mathlib.Core.Path.{_≡_};
 ghost use lib.Dec.{ltb, eqb};
+ghost use Rattle.capabilities.specs.Lists.{pick, each};
 ghost use Rattle.pages.specs.Layer.{pageAt, frameAt, withPage, withFrame, inRange, freshOf, blank, wellFormed, serves};
 ghost use Rattle.pages.specs.Layer.{pageSound, frameSound, Tally};
 ghost use Rattle.pages.specs.Entries.{isUnmapped, mapsBelow, isDirty, isShown};
-ghost use Rattle.capabilities.specs.Lists.{pick, each};
 
 pub fn in_range(v: u16, f: u16) -> bool
     ensures { λ r. ⌜ r ≡ inRange v f ⌝ }

@@ -14,9 +14,9 @@ use capabilities::refusal::first;
 ghost use mathlib.Core.Path.{_≡_};
 ghost use lib.ListN.{length, replicate};
 ghost use Prim.Native.Nat.{_<_, _≤_, _+_, _*_};
+ghost use Rattle.capabilities.specs.Refusals.{first};
 ghost use Rattle.pages.specs.Mapping.{mapReasons, mapped, mapOf, unmapReasons, unmapped, unmapOf, soiled};
 ghost use Rattle.pages.specs.Mapping.{dirtyReasons, zeroReasons, zeroed, zeroOf, cleared, placeIn, lookupOf};
-ghost use Rattle.capabilities.specs.Refusals.{first};
 
 impl Pages {
     fn map_code(self, page: VirtualPage, frame: Frame) -> u8

@@ -8,8 +8,8 @@ use capabilities::Range;
 use capabilities::ranges::inside;
 ghost use mathlib.Core.Path.{_≡_};
 ghost use Prim.Native.Nat.{_<_};
-ghost use Rattle.pages.specs.Mapping.{notMappedIn, anyMapped, freedEntry, freedOf, releasedEntry, releasedOf};
 ghost use Rattle.capabilities.specs.Range.{pageInside};
+ghost use Rattle.pages.specs.Mapping.{notMappedIn, anyMapped, freedEntry, freedOf, releasedEntry, releasedOf};
 
 fn page_inside(range: Range, page: usize) -> bool
     requires { ⌜ page < 256 ⌝ }

@@ -2,21 +2,21 @@
 use mathlib.Core.List.{List, [], _∷_}
 use mathlib.Core.Path.{_≡_, refl, sym, _∙_}
 use lib.ListN.{getD, replicate}
-use Rattle.calls.specs.Commands.{page, frame}
-use Rattle.calls.specs.declared.Call.{Call}
-use Rattle.calls.specs.declared.Call.the-variants.{Take, Split, Give, Revoke, Sweep, Collect, Map, Unmap, Zero, Load, Store, Narrow, Number}
 use Rattle.capabilities.specs.Lists.{each, mapEach}
 use Rattle.capabilities.specs.Range.{inside}
 use Rattle.capabilities.specs.Refusals.{first}
-use Rattle.sweep.specs.Sweep.{passed, sweptTag, sweptTags}
 use Rattle.pages.specs.Freed.{freedIn, allFreed}
 use Rattle.pages.specs.Layer.{pageAt, frameAt, withPage, withFrame, freshOf, mappings, pageSound, frameSound, wellFormed as pagesSound}
 use Rattle.pages.specs.Mapping.{mapReasons, mapped, mapOf, unmapReasons, soiled, unmapped, unmapOf, dirtyReasons, cleared, lookupOf, notMappedIn, anyMapped, freedEntry, freedOf, releasedEntry, releasedOf}
+use Rattle.sweep.specs.Sweep.{passed, sweptTag, sweptTags}
 use Rattle.reservations.specs.Find.{seek, findOf, nextOf, revokingOf, rowOf, withRow}
 use Rattle.reservations.specs.Operations.{openReasons, takeReasons, takeOf, splitReasonsAt, splitReasons, splitAt, splitOf, giveReasons, giveOf}
-use Rattle.revocation.specs.Revocation.{freshCore, running, revoked, dying, revokeReasonsAt, revokeReasons, revokeAt, revokeOf, collectReasons, collected, collectOf, revocationSound, coreSound}
 use Rattle.reservations.specs.Rows.{live, splice, spread}
 use Rattle.reservations.specs.Tiling.{tiles, allBlank, revokings, sized, tableSound, freshTable}
+use Rattle.revocation.specs.Revocation.{freshCore, running, revoked, dying, revokeReasonsAt, revokeReasons, revokeAt, revokeOf, collectReasons, collected, collectOf, revocationSound, coreSound}
+use Rattle.calls.specs.Commands.{page, frame}
+use Rattle.calls.specs.declared.Call.{Call}
+use Rattle.calls.specs.declared.Call.the-variants.{Take, Split, Give, Revoke, Sweep, Collect, Map, Unmap, Zero, Load, Store, Narrow, Number}
 use Rattle.words.specs.Words.{empty, registerOf, mailboxOf, wordAt}
 use Rattle.machine.specs.Formed.{mailboxesSound, wellFormed, fresh, startOf}
 use Rattle.machine.specs.Reasons.{reading, addressed, reasons}

@@ -6,10 +6,10 @@ use mathlib.Core.Path.{_≡_, refl, sym, ap, _∙_}
 use borrow.Author.Tests.{eqb-true, eqb-false}
 use lib.Dec.{eqb}
 use lib.ListN.{length}
-use Rattle.calls.specs.declared.Call.{Call}
-use Rattle.pages.specs.Layer.{serves}
 use Rattle.capabilities.specs.Lists.{pick}
 use Rattle.capabilities.specs.Refusals.{first}
+use Rattle.pages.specs.Layer.{serves}
+use Rattle.calls.specs.declared.Call.{Call}
 use Rattle.machine.specs.Formed.{wellFormed}
 use Rattle.machine.specs.Effects.{Effect}
 use Rattle.machine.specs.Step.{refused, registersAfter, mailboxesAfter, cellsAfter, tagsAfter, wordAfter, done, reasonsOn, effectOn, ruled, judged, stepOf}

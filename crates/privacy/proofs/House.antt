@@ -7,22 +7,22 @@ use mathlib.Core.Path.{_≡_, refl, sym, ap, subst, _∙_}
 use borrow.Author.Tests.{eqb-true, ltb-true, ltb-false, lt-ltb}
 use lib.Dec.{eqb, ltb, leb}
 use lib.ListN.{length, getD}
-use Rattle.pages.specs.declared.FrameEntry.{FrameEntry}
-use Rattle.pages.specs.declared.Place.the-variants.{At}
 use Rattle.capabilities.specs.declared.Range.{Range}
 use Rattle.capabilities.specs.Capability.{baseOf, lengthOf}
 use Rattle.capabilities.specs.Lists.{pick}
-use Rattle.pages.specs.Mapping.{lookupOf}
 use Rattle.capabilities.specs.Range.{inside}
-use Rattle.sweep.specs.Sweep.{shownAt}
 use Rattle.capabilities.proofs.Choice.{and-left, and-right}
+use Rattle.pages.specs.declared.FrameEntry.{FrameEntry}
+use Rattle.pages.specs.declared.Place.the-variants.{At}
+use Rattle.pages.specs.Mapping.{lookupOf}
 use Rattle.pages.proofs.Formed.{Sound}
-use Rattle.revocation.specs.declared.Core.{Core}
+use Rattle.sweep.specs.Sweep.{shownAt}
 use Rattle.reservations.specs.declared.ReservationState.the-variants.{Taken}
-use Rattle.revocation.specs.Revocation.{dying}
 use Rattle.reservations.specs.Rows.{reservation}
 use Rattle.reservations.proofs.Cells.{inside-bounds, inside-made}
 use Rattle.reservations.proofs.Truth.{both}
+use Rattle.revocation.specs.declared.Core.{Core}
+use Rattle.revocation.specs.Revocation.{dying}
 use Rattle.words.specs.declared.Slot.{Slot}
 use Rattle.words.specs.Words.{slot, empty, registerOf, mailboxOf, wordAt, keepTag, collectedMailbox}
 use Rattle.machine.specs.Effects.{RegisterChange, keepRegisters, putRegister, fetchInto, collectRegisters, MailboxChange, keepMailboxes, putMailbox, collectMailboxes, MemoryChange, keepMemory, writeWord, clearFrame, sweepCells, Effect}

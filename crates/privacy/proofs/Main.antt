@@ -11,23 +11,23 @@ use mathlib.Core.Path.{_≡_, refl, sym, ap, subst, _∙_}
 use borrow.Author.Tests.{eq-eqb}
 use lib.Dec.{eqb}
 use lib.ListN.{length, getD}
-use Rattle.calls.specs.declared.Call.{Call}
-use Rattle.calls.specs.declared.Call.the-variants.{Take}
 use Rattle.capabilities.specs.declared.Range.{Range}
 use Rattle.capabilities.specs.Capability.{capability}
 use Rattle.capabilities.specs.Lists.{pick}
 use Rattle.capabilities.specs.Range.{inside}
 use Rattle.capabilities.specs.Refusals.{first, reason}
 use Rattle.capabilities.proofs.Refusals.{first-clear}
-use Rattle.revocation.specs.declared.Core.{Core}
 use Rattle.reservations.specs.Operations.{takeReasons, takeOf, takenRow}
-use Rattle.revocation.specs.Revocation.{coreSound}
 use Rattle.reservations.specs.Rows.{isOpen, live, rangeOf}
 use Rattle.reservations.proofs.Cells.{inside-made}
+use Rattle.revocation.specs.declared.Core.{Core}
+use Rattle.revocation.specs.Revocation.{coreSound}
+use Rattle.calls.specs.declared.Call.{Call}
+use Rattle.calls.specs.declared.Call.the-variants.{Take}
 use Rattle.words.specs.declared.Slot.{Slot}
 use Rattle.words.specs.Words.{slot, empty, named, registerOf, mailboxOf, wordAt}
-use Rattle.machine.specs.Reasons.{reasons}
 use Rattle.words.specs.WordReasons.{unnamed}
+use Rattle.machine.specs.Reasons.{reasons}
 use Rattle.machine.specs.Effects.{effect}
 use Rattle.machine.specs.Step.{effectOn, registersAfter, mailboxesAfter, cellsAfter, tagsAfter}
 use Rattle.histories.specs.Inv.{rowAt, Confined, Inv}

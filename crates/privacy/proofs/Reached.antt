@@ -6,20 +6,20 @@ use mathlib.Core.List.{List, [], _∷_}
 use mathlib.Core.Path.{_≡_, refl}
 use borrow.Author.Tests.{ltb-true, leb-false, ltb-false, eqb-false, not-false}
 use lib.Dec.{eqb, ltb}
-use Rattle.pages.specs.declared.Place.{Place}
-use Rattle.pages.specs.declared.Place.the-variants.{At, Nowhere}
 use Rattle.capabilities.specs.Capability.{baseOf, lengthOf}
-use Rattle.pages.specs.Mapping.{lookupOf}
 use Rattle.capabilities.specs.Refusals.{Reason, first, reason}
 use Rattle.capabilities.proofs.Choice.{or-false}
 use Rattle.capabilities.proofs.Refusals.{first-clear}
+use Rattle.pages.specs.declared.Place.{Place}
+use Rattle.pages.specs.declared.Place.the-variants.{At, Nowhere}
+use Rattle.pages.specs.Mapping.{lookupOf}
 use Rattle.revocation.specs.declared.Core.{Core}
 use Rattle.words.specs.declared.Slot.{Slot}
 use Rattle.words.specs.Words.{named}
-use Rattle.machine.specs.Reasons.{addressed}
 use Rattle.words.specs.Words.{nowhere}
 use Rattle.words.specs.WordReasons.{unnamed, pastEnd, badNarrow}
 use Rattle.words.specs.Words.{placeNumber}
+use Rattle.machine.specs.Reasons.{addressed}
 
 pub named-low : (n : ℕ) → unnamed n ≡ false → n < 8
 named-low n e = ltb-true n 8 (not-false (named n) e)

@@ -7,36 +7,36 @@ use mathlib.Core.Path.{_≡_, refl, sym, ap, subst, _∙_}
 use borrow.Author.Tests.{eqb-true, eqb-false, eq-eqb}
 use lib.Dec.{eqb}
 use lib.ListN.{length}
-use Rattle.calls.specs.declared.Call.{Call}
-use Rattle.calls.specs.declared.Call.the-variants.{Take, Split, Merge, Give, Revoke, Sweep, Collect, Map, Unmap, Zero, Load, Store, Narrow, Number, Grant, Receive}
+use Rattle.capabilities.specs.declared.Range.{Range}
+use Rattle.capabilities.specs.Lists.{pick}
+use Rattle.capabilities.specs.Range.{pageInside}
+use Rattle.capabilities.specs.Refusals.{Reason, first, reason}
+use Rattle.capabilities.proofs.Choice.{pick-yes, pick-no}
+use Rattle.capabilities.proofs.Refusals.{first-clear}
 use Rattle.pages.specs.declared.Frame.{Frame}
 use Rattle.pages.specs.declared.FrameState.the-variants.{Dirty, Free, Mapped as Shown}
 use Rattle.pages.specs.declared.PageState.{PageState}
 use Rattle.pages.specs.declared.PageState.the-variants.{Unmapped, Freed, Mapped}
 use Rattle.pages.specs.declared.Pages.{Pages}
 use Rattle.pages.specs.declared.Place.the-variants.{At}
-use Rattle.capabilities.specs.declared.Range.{Range}
 use Rattle.pages.specs.declared.VirtualPage.{VirtualPage}
 use Rattle.pages.specs.Entries.{isUnmapped}
 use Rattle.pages.specs.Layer.{pageAt, frameAt, withPage, withFrame}
-use Rattle.capabilities.specs.Lists.{pick}
 use Rattle.pages.specs.Mapping.{lookupOf, mapReasons, mapped, mapOf, unmapReasons, soiled, unmapped, unmapOf, freedOf, releasedOf}
-use Rattle.capabilities.specs.Range.{pageInside}
-use Rattle.capabilities.specs.Refusals.{Reason, first, reason}
-use Rattle.capabilities.proofs.Choice.{pick-yes, pick-no}
 use Rattle.pages.proofs.Formed.{Sound, sound}
 use Rattle.pages.proofs.Freeing.{freed-at, released-at}
 use Rattle.pages.proofs.Kept.{Mappable, mappable, unmappable}
-use Rattle.capabilities.proofs.Refusals.{first-clear}
 use Rattle.pages.proofs.View.{page-put, page-kept, page-of-frame}
-use Rattle.revocation.specs.declared.Core.{Core}
 use Rattle.reservations.specs.Find.{findOf, rowOf}
-use Rattle.revocation.specs.Revocation.{revoked, revokeReasons, revokeAt, revokeOf, collectReasons, collected, collectOf, coreSound}
 use Rattle.reservations.specs.Rows.{rangeOf}
+use Rattle.revocation.specs.declared.Core.{Core}
+use Rattle.revocation.specs.Revocation.{revoked, revokeReasons, revokeAt, revokeOf, collectReasons, collected, collectOf, coreSound}
 use Rattle.revocation.proofs.CoreKept.{core-facts}
+use Rattle.calls.specs.declared.Call.{Call}
+use Rattle.calls.specs.declared.Call.the-variants.{Take, Split, Merge, Give, Revoke, Sweep, Collect, Map, Unmap, Zero, Load, Store, Narrow, Number, Grant, Receive}
 use Rattle.words.specs.declared.Slot.{Slot}
-use Rattle.machine.specs.Reasons.{Reads, reasons}
 use Rattle.words.specs.WordReasons.{unnamed, notManager}
+use Rattle.machine.specs.Reasons.{Reads, reasons}
 use Rattle.machine.specs.Effects.{effect, MemoryChange, keepMemory}
 use Rattle.histories.proofs.View.{Seen, seen, looked}
 

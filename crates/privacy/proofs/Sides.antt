@@ -7,31 +7,31 @@ use mathlib.Core.Path.{_≡_, refl, sym, ap, subst, _∙_}
 use borrow.Author.Tests.{eqb-true, eqb-false, eq-eqb, ne-eqb, lt-ltb, leb-false}
 use lib.Dec.{eqb}
 use lib.Bits.{bitAnd, and-le-l}
-use Rattle.calls.specs.declared.Call.{Call}
-use Rattle.calls.specs.declared.Call.the-variants.{Take, Split, Merge, Give, Revoke, Sweep, Collect, Map, Unmap, Zero, Load, Store, Narrow, Number, Grant, Receive}
-use Rattle.pages.specs.declared.Place.the-variants.{At}
 use Rattle.capabilities.specs.declared.Range.{Range}
 use Rattle.capabilities.specs.Capability.{baseOf, lengthOf, permissionsOf, narrowed}
-use Rattle.pages.specs.Entries.{isDirty}
-use Rattle.pages.specs.Layer.{frameAt}
-use Rattle.pages.specs.Mapping.{lookupOf, dirtyReasons, noFrame}
 use Rattle.capabilities.specs.Range.{inside}
 use Rattle.capabilities.specs.Refusals.{first, reason}
 use Rattle.capabilities.proofs.Capabilities.{made-base, made-length}
 use Rattle.capabilities.proofs.Choice.{and-right}
-use Rattle.pages.proofs.Formed.{Sound}
 use Rattle.capabilities.proofs.Refusals.{first-clear}
-use Rattle.revocation.specs.declared.Core.{Core}
-use Rattle.revocation.specs.Revocation.{dying}
+use Rattle.pages.specs.declared.Place.the-variants.{At}
+use Rattle.pages.specs.Entries.{isDirty}
+use Rattle.pages.specs.Layer.{frameAt}
+use Rattle.pages.specs.Mapping.{lookupOf, dirtyReasons, noFrame}
+use Rattle.pages.proofs.Formed.{Sound}
 use Rattle.reservations.proofs.Cells.{inside-made}
 use Rattle.reservations.proofs.Truth.{both, and-yes, or-right}
+use Rattle.revocation.specs.declared.Core.{Core}
+use Rattle.revocation.specs.Revocation.{dying}
+use Rattle.calls.specs.declared.Call.{Call}
+use Rattle.calls.specs.declared.Call.the-variants.{Take, Split, Merge, Give, Revoke, Sweep, Collect, Map, Unmap, Zero, Load, Store, Narrow, Number, Grant, Receive}
 use Rattle.words.specs.declared.Slot.{Slot}
-use Rattle.machine.specs.declared.State.{State}
 use Rattle.words.specs.Words.{slot, named, registerOf, mailboxOf, wordAt, stored}
-use Rattle.machine.specs.Reasons.{Reads, reasons, addressed}
 use Rattle.words.specs.WordReasons.{unnamed, notManager, mayNotLoad, mayNotStore}
-use Rattle.machine.specs.Effects.{effect}
 use Rattle.words.specs.Words.{placeNumber}
+use Rattle.machine.specs.declared.State.{State}
+use Rattle.machine.specs.Reasons.{Reads, reasons, addressed}
+use Rattle.machine.specs.Effects.{effect}
 use Rattle.machine.specs.Step.{reasonsOn, effectOn}
 use Rattle.histories.specs.Runs.{Machine}
 use Rattle.histories.specs.Live.{Within}

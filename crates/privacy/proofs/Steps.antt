@@ -7,31 +7,31 @@ use mathlib.Core.Path.{_≡_, refl, sym, ap, subst, _∙_}
 use borrow.Author.Tests.{eqb-true, eqb-false, eq-eqb, ne-eqb}
 use lib.Dec.{eqb}
 use lib.ListN.{length, set, length-set}
-use Rattle.calls.specs.declared.Call.{Call}
-use Rattle.calls.specs.declared.Call.the-variants.{Take, Split, Merge, Give, Revoke, Sweep, Collect, Map, Unmap, Zero, Load, Store, Narrow, Number, Grant, Receive}
-use Rattle.pages.specs.declared.Place.the-variants.{At}
 use Rattle.capabilities.specs.declared.Range.{Range}
 use Rattle.capabilities.specs.Capability.{permits, narrowed}
 use Rattle.capabilities.specs.Lists.{pick}
-use Rattle.pages.specs.Mapping.{lookupOf}
 use Rattle.capabilities.specs.Range.{inside}
 use Rattle.capabilities.specs.Refusals.{first, reason}
 use Rattle.capabilities.proofs.Choice.{and-left, and-right}
+use Rattle.capabilities.proofs.Refusals.{first-clear}
+use Rattle.pages.specs.declared.Place.the-variants.{At}
+use Rattle.pages.specs.Mapping.{lookupOf}
 use Rattle.pages.proofs.Formed.{Sound, sound}
 use Rattle.pages.proofs.Memory.{served}
-use Rattle.capabilities.proofs.Refusals.{first-clear}
 use Rattle.reservations.specs.Operations.{takeReasons}
+use Rattle.reservations.proofs.Truth.{both}
 use Rattle.revocation.specs.Revocation.{revoked, coreSound}
 use Rattle.revocation.proofs.CoreKept.{core-facts}
-use Rattle.reservations.proofs.Truth.{both}
+use Rattle.calls.specs.declared.Call.{Call}
+use Rattle.calls.specs.declared.Call.the-variants.{Take, Split, Merge, Give, Revoke, Sweep, Collect, Map, Unmap, Zero, Load, Store, Narrow, Number, Grant, Receive}
 use Rattle.words.specs.declared.Slot.{Slot}
-use Rattle.machine.specs.declared.State.{State}
 use Rattle.words.specs.Words.{slot, registerOf, wordAt, byteOf, stored}
+use Rattle.words.specs.WordReasons.{unnamed}
+use Rattle.words.specs.Words.{placeNumber}
+use Rattle.machine.specs.declared.State.{State}
 use Rattle.machine.specs.Formed.{wellFormed, mailboxesSound, sized}
 use Rattle.machine.specs.Reasons.{reads, reasons, addressed}
-use Rattle.words.specs.WordReasons.{unnamed}
 use Rattle.machine.specs.Effects.{effect}
-use Rattle.words.specs.Words.{placeNumber}
 use Rattle.machine.specs.Step.{reasonsOn, effectOn, registersAfter, mailboxesAfter, cellsAfter, tagsAfter, fetched}
 use Rattle.histories.specs.Inv.{Inv}
 use Rattle.histories.specs.Runs.{Machine, machine, outcome, next}

@@ -7,38 +7,38 @@ use mathlib.Core.Path.{_≡_, refl, sym, ap, subst, _∙_}
 use borrow.Author.Tests.{eqb-true, eq-eqb, le-leb, leb-true}
 use lib.Dec.{eqb, leb}
 use lib.ListN.{length}
-use Rattle.calls.specs.declared.Call.{Call}
-use Rattle.calls.specs.declared.Call.the-variants.{Take, Split, Merge, Give, Revoke, Sweep, Collect, Map, Unmap, Zero, Load, Store, Narrow, Number, Grant, Receive}
-use Rattle.pages.specs.declared.Place.the-variants.{At}
 use Rattle.capabilities.specs.declared.Range.{Range}
 use Rattle.capabilities.specs.Capability.{baseOf, lengthOf, capability}
-use Rattle.pages.specs.Mapping.{lookupOf}
 use Rattle.capabilities.specs.Range.{inside, pageInside}
 use Rattle.capabilities.specs.Refusals.{first}
 use Rattle.capabilities.proofs.Capabilities.{made-base, made-length}
 use Rattle.capabilities.proofs.Choice.{pick-yes, and-left, and-right}
-use Rattle.pages.proofs.Formed.{sound}
 use Rattle.capabilities.proofs.Refusals.{first-clear}
-use Rattle.revocation.specs.declared.Core.{Core}
+use Rattle.pages.specs.declared.Place.the-variants.{At}
+use Rattle.pages.specs.Mapping.{lookupOf}
+use Rattle.pages.proofs.Formed.{sound}
 use Rattle.reservations.specs.declared.ReservationState.the-variants.{Taken}
 use Rattle.reservations.specs.declared.Table.{Table}
 use Rattle.reservations.specs.Find.{findOf, rowOf}
 use Rattle.reservations.specs.Operations.{takeReasons, takeOf, takenRow, splitReasons, splitOf, mergeReasons, mergeOf, giveReasons, giveOf}
-use Rattle.revocation.specs.Revocation.{revoked, revokeReasons, revokeOf, collectReasons, collectOf, coreSound}
 use Rattle.reservations.specs.Rows.{isOpen, held, live, rangeOf, reservation}
 use Rattle.reservations.proofs.After.{Replaced, take-after, split-after, merge-after, give-after}
 use Rattle.reservations.proofs.Answers.{split-fits, split-clear}
 use Rattle.reservations.proofs.Cells.{inside-bounds, inside-made, no-shared-cell}
-use Rattle.revocation.proofs.CoreAfter.{revoke-after}
-use Rattle.revocation.proofs.CoreKept.{core-facts}
 use Rattle.reservations.proofs.Kept.{row-live}
 use Rattle.reservations.proofs.Sound.{sound as tableFacts}
 use Rattle.reservations.proofs.Tiled.{tiled-next, tiled-fits, tiled-row, row-some}
 use Rattle.reservations.proofs.Truth.{both}
+use Rattle.revocation.specs.declared.Core.{Core}
+use Rattle.revocation.specs.Revocation.{revoked, revokeReasons, revokeOf, collectReasons, collectOf, coreSound}
+use Rattle.revocation.proofs.CoreAfter.{revoke-after}
+use Rattle.revocation.proofs.CoreKept.{core-facts}
+use Rattle.calls.specs.declared.Call.{Call}
+use Rattle.calls.specs.declared.Call.the-variants.{Take, Split, Merge, Give, Revoke, Sweep, Collect, Map, Unmap, Zero, Load, Store, Narrow, Number, Grant, Receive}
 use Rattle.words.specs.declared.Slot.{Slot}
 use Rattle.words.specs.Words.{slot}
-use Rattle.machine.specs.Reasons.{Reads, reasons}
 use Rattle.words.specs.WordReasons.{unnamed, notManager}
+use Rattle.machine.specs.Reasons.{Reads, reasons}
 use Rattle.machine.specs.Effects.{effect}
 use Rattle.histories.specs.Inv.{rowAt}
 use Rattle.histories.proofs.Calls.{Ends, ends}

@@ -6,26 +6,26 @@ use mathlib.Core.Path.{_≡_, refl, sym, ap, subst, _∙_}
 use borrow.Author.Tests.{eqb-false, eq-eqb}
 use lib.Dec.{eqb}
 use lib.ListN.{length}
-use Rattle.calls.specs.declared.Call.{Call}
-use Rattle.calls.specs.declared.Call.the-variants.{Take, Split, Merge, Give, Revoke, Sweep, Collect, Map, Unmap, Zero, Load, Store, Narrow, Number, Grant, Receive}
-use Rattle.pages.specs.declared.Place.the-variants.{At}
 use Rattle.capabilities.specs.declared.Range.{Range}
 use Rattle.capabilities.specs.Capability.{baseOf}
-use Rattle.pages.specs.Layer.{serves}
 use Rattle.capabilities.specs.Lists.{pick, each}
-use Rattle.pages.specs.Mapping.{lookupOf}
 use Rattle.capabilities.specs.Range.{inside}
 use Rattle.capabilities.specs.Refusals.{first}
 use Rattle.capabilities.proofs.Choice.{pick-yes, and-left, and-right}
+use Rattle.pages.specs.declared.Place.the-variants.{At}
+use Rattle.pages.specs.Layer.{serves}
+use Rattle.pages.specs.Mapping.{lookupOf}
 use Rattle.revocation.specs.declared.Core.{Core}
 use Rattle.revocation.specs.Revocation.{revoked, coreSound}
+use Rattle.calls.specs.declared.Call.{Call}
+use Rattle.calls.specs.declared.Call.the-variants.{Take, Split, Merge, Give, Revoke, Sweep, Collect, Map, Unmap, Zero, Load, Store, Narrow, Number, Grant, Receive}
 use Rattle.words.specs.declared.Slot.{Slot}
 use Rattle.words.specs.Words.{empty, registerOf}
+use Rattle.words.specs.WordReasons.{unnamed, mayNotLoad}
+use Rattle.words.specs.Words.{placeNumber}
 use Rattle.machine.specs.Formed.{wellFormed, mailboxesSound, mailboxSound}
 use Rattle.machine.specs.Reasons.{Reads, reading, reads, reasons, addressed}
-use Rattle.words.specs.WordReasons.{unnamed, mayNotLoad}
 use Rattle.machine.specs.Effects.{effect}
-use Rattle.words.specs.Words.{placeNumber}
 use Rattle.machine.specs.Step.{reasonsOn, effectOn, wordAfter}
 use Rattle.histories.specs.Runs.{Machine, next}
 use Rattle.privacy.specs.Rule.{callerOf, housed, granted, isCollect, contains, Time, lasting, over, ending, until, struck, remaining, hidden}

@@ -8,15 +8,15 @@ use borrow.Author.Tests.{eqb-true, eqb-false, ltb-true, ltb-false}
 use lib.Dec.{eqb, ltb, leb}
 use lib.ListN.{length, getD, set, List·getD-map, length-set}
 use lib.Seq.{getD-set-same, getD-set-other, set-out}
-use Rattle.pages.specs.declared.FrameEntry.{FrameEntry}
 use Rattle.capabilities.specs.declared.Range.{Range}
 use Rattle.capabilities.specs.Capability.{baseOf}
 use Rattle.capabilities.specs.Lists.{pick}
 use Rattle.capabilities.specs.Range.{inside}
-use Rattle.pages.specs.Mapping.{cleared}
-use Rattle.sweep.specs.Sweep.{shownAt, sweptTags}
 use Rattle.capabilities.proofs.Choice.{pick-yes, pick-no, and-right}
+use Rattle.pages.specs.declared.FrameEntry.{FrameEntry}
+use Rattle.pages.specs.Mapping.{cleared}
 use Rattle.pages.proofs.Shows.{length-cleared}
+use Rattle.sweep.specs.Sweep.{shownAt, sweptTags}
 use Rattle.sweep.proofs.Sweeping.{doomed, getD-swept, length-swept}
 use Rattle.revocation.specs.declared.Core.{Core}
 use Rattle.words.specs.declared.Slot.{Slot}

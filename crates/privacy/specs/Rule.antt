@@ -4,23 +4,23 @@ use mathlib.Core.Bool.{Bool, true, false, not, _&&_, _||_}
 use mathlib.Core.List.{List, [], _∷_}
 use mathlib.Core.Path.{_≡_}
 use lib.Dec.{eqb, ltb, leb}
-use Rattle.calls.specs.declared.Call.{Call}
-use Rattle.calls.specs.declared.Call.the-variants.{Take, Split, Merge, Give, Revoke, Sweep, Collect, Map, Unmap, Zero, Load, Store, Narrow, Number, Grant, Receive}
-use Rattle.pages.specs.declared.Place.{Place}
-use Rattle.pages.specs.declared.Place.the-variants.{At, Nowhere}
 use Rattle.capabilities.specs.declared.Range.{Range}
 use Rattle.capabilities.specs.Capability.{baseOf, lengthOf}
 use Rattle.capabilities.specs.Lists.{pick}
-use Rattle.pages.specs.Mapping.{lookupOf}
 use Rattle.capabilities.specs.Range.{inside}
+use Rattle.pages.specs.declared.Place.{Place}
+use Rattle.pages.specs.declared.Place.the-variants.{At, Nowhere}
+use Rattle.pages.specs.Mapping.{lookupOf}
 use Rattle.reservations.specs.declared.Table.{Table}
 use Rattle.reservations.specs.Find.{findOf, rowOf}
-use Rattle.revocation.specs.Revocation.{revoked}
 use Rattle.reservations.specs.Rows.{rangeOf}
-use Rattle.machine.specs.declared.Answered.{Answered}
+use Rattle.revocation.specs.Revocation.{revoked}
+use Rattle.calls.specs.declared.Call.{Call}
+use Rattle.calls.specs.declared.Call.the-variants.{Take, Split, Merge, Give, Revoke, Sweep, Collect, Map, Unmap, Zero, Load, Store, Narrow, Number, Grant, Receive}
 use Rattle.words.specs.declared.Slot.{Slot}
-use Rattle.machine.specs.declared.State.{State}
 use Rattle.words.specs.Words.{empty, named, registerOf, mailboxOf, wordAt, stored}
+use Rattle.machine.specs.declared.Answered.{Answered}
+use Rattle.machine.specs.declared.State.{State}
 use Rattle.machine.specs.Reasons.{Reads, reading, reads}
 use Rattle.histories.specs.Runs.{Machine, outcome, next}
 

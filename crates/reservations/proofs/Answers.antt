@@ -16,10 +16,10 @@ use Rattle.reservations.specs.declared.Tabled.{Tabled}
 use Rattle.reservations.specs.declared.Taken.{Taken}
 use Rattle.reservations.specs.declared.Reservation.{Reservation}
 use Rattle.reservations.specs.declared.Found.{Found}
-use Rattle.reservations.proofs.Truth.{or-right}
 use Rattle.reservations.specs.Rows.{isOpen}
 use Rattle.reservations.specs.Find.{missing, nextOf, rowOf}
 use Rattle.reservations.specs.Operations.{tabled, openReasons, badSplit, full, mergeable, splitReasonsAt, mergeReasonsAt}
+use Rattle.reservations.proofs.Truth.{or-right}
 
 module _ {A : Type 0} (code told : ℕ) (e : code ≡ told) (x y : A) where
   pub granted : code ≡ 0 → pick (eqb told 0) x y ≡ x

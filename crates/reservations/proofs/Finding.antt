@@ -9,6 +9,7 @@ use mathlib.Core.List.{List, [], _∷_, _++_}
 use mathlib.Core.Path.{_≡_, refl, sym, ap, subst, _∙_}
 use lib.ListN.{length, getD, drop, drop-of-length-le}
 use lib.Seq.{drop-cons}
+use borrow.Author.Tests.{ltb-true, lt-ltb}
 use Rattle.capabilities.specs.Lists.{pick}
 use Rattle.capabilities.proofs.Choice.{pick-yes, pick-no}
 use Rattle.reservations.specs.declared.Reservation.{Reservation}
@@ -17,7 +18,6 @@ use Rattle.reservations.specs.declared.Found.the-variants.{At, Nowhere}
 use Rattle.reservations.specs.declared.Table.{Table}
 use Rattle.reservations.specs.Rows.{live, blank}
 use Rattle.reservations.specs.Find.{seek, missing, nextOf, findOf, begins, inUse}
-use borrow.Author.Tests.{ltb-true, lt-ltb}
 
 at-same : {i j : ℕ} → At i ≡ At j → i ≡ j
 at-same e = cc

@@ -10,6 +10,7 @@ use lib.Dec.{eqb, leb, ltb}
 use lib.ListN.{length, getD, take, drop, set, length-append, length-take, length-drop, length-set}
 use lib.Seq.{split-at, drop-cons, set-split}
 use Rattle.capabilities.specs.Lists.{pick}
+use Rattle.capabilities.specs.Refusals.{first}
 use Rattle.capabilities.proofs.Choice.{and-right, pick-yes, pick-no}
 use Rattle.reservations.specs.declared.Reservation.{Reservation}
 use Rattle.reservations.specs.declared.ReservationState.{ReservationState}
@@ -23,7 +24,6 @@ use Rattle.reservations.specs.Tiling.{rowSound, tiles, allBlank, revokin
 use Rattle.reservations.specs.Operations.{openReasons, takeReasons, takenRow, takeOf, giveReasons, givenRow, giveOf}
 use Rattle.reservations.specs.Operations.{badSplit, lowerPart, upperPart, splitReasonsAt, splitReasons, splitAt, splitOf}
 use Rattle.reservations.specs.Operations.{joined, mergeable, mergeReasonsAt, mergeReasons, mergeAt, mergeOf}
-use Rattle.capabilities.specs.Refusals.{first}
 use Rattle.reservations.proofs.Truth.{both, or-left, or-right, or-first}
 use Rattle.reservations.proofs.Moving.{live-at}
 use Rattle.reservations.proofs.Finding.{found-at, next-below, next-at}

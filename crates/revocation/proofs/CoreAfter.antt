@@ -10,25 +10,25 @@ use lib.Dec.{eqb}
 use lib.ListN.{length, getD, take, drop}
 use Rattle.capabilities.specs.Capability.{baseOf}
 use Rattle.capabilities.specs.Lists.{pick}
-use Rattle.pages.specs.Mapping.{freedOf, releasedOf}
 use Rattle.capabilities.specs.Range.{inside}
 use Rattle.capabilities.specs.Refusals.{first}
 use Rattle.capabilities.proofs.Choice.{pick-yes}
-use Rattle.revocation.specs.declared.Core.{Core}
+use Rattle.pages.specs.Mapping.{freedOf, releasedOf}
 use Rattle.reservations.specs.declared.Found.{Found}
 use Rattle.reservations.specs.declared.Found.the-variants.{At, Nowhere}
 use Rattle.reservations.specs.Rows.{isRevoking, live, blank, rangeOf}
 use Rattle.reservations.specs.Find.{findOf, begins, missing, revokingOf, rowOf, withRow}
 use Rattle.reservations.specs.Tiling.{tableSound, covers}
-use Rattle.revocation.specs.Revocation.{core, running, revoked, dying, revokeReasonsAt, revokeReasons, revokingRow, revokeAt, revokeOf, collectReasons, collectedRow, collected, collectOf, coreSound}
 use Rattle.reservations.proofs.Finding.{found-at}
 use Rattle.reservations.proofs.Sound.{sound}
 use Rattle.reservations.proofs.Kept.{row-live}
 use Rattle.reservations.proofs.Cells.{inside-bounds, none-lost}
-use Rattle.revocation.proofs.CoreKept.{core-facts}
 use Rattle.reservations.proofs.Unrevoked.{with-live}
-use Rattle.revocation.proofs.Revocations.{Revokes, revoke-clear, collect-clear, collected-at, core-revoke, core-collect}
 use Rattle.reservations.proofs.After.{Replaced}
+use Rattle.revocation.specs.declared.Core.{Core}
+use Rattle.revocation.specs.Revocation.{core, running, revoked, dying, revokeReasonsAt, revokeReasons, revokingRow, revokeAt, revokeOf, collectReasons, collectedRow, collected, collectOf, coreSound}
+use Rattle.revocation.proofs.CoreKept.{core-facts}
+use Rattle.revocation.proofs.Revocations.{Revokes, revoke-clear, collect-clear, collected-at, core-revoke, core-collect}
 
 module _ (c : Core) (ok : coreSound c ≡ true) where
   abbrev cells : ℕ

@@ -6,29 +6,29 @@ use mathlib.Core.List.{List}
 use mathlib.Core.Path.{_≡_, refl, sym, ap, _∙_}
 use borrow.Author.Tests.{leb-true, le-leb}
 use lib.Dec.{eqb, leb}
-use Rattle.pages.specs.declared.Pages.{Pages}
-use Rattle.pages.specs.Freed.{allFreed}
-use Rattle.pages.specs.Layer.{wellFormed}
 use Rattle.capabilities.specs.Lists.{pick}
 use Rattle.capabilities.specs.Refusals.{first}
 use Rattle.capabilities.proofs.Choice.{and-left, and-right}
+use Rattle.pages.specs.declared.Pages.{Pages}
+use Rattle.pages.specs.Freed.{allFreed}
+use Rattle.pages.specs.Layer.{wellFormed}
 use Rattle.pages.proofs.Formed as formed
 use Rattle.reservations.specs.declared.Reservation.{Reservation}
 use Rattle.reservations.specs.declared.Table.{Table}
-use Rattle.revocation.specs.declared.Core.{Core}
 use Rattle.reservations.specs.Rows.{live, rangeOf}
 use Rattle.reservations.specs.Find.{findOf, revokingOf, rowOf, withRow}
 use Rattle.reservations.specs.Operations.{openReasons, takeReasons, takenRow, takeOf, giveReasons, givenRow, giveOf}
 use Rattle.reservations.specs.Operations.{splitReasonsAt, splitReasons, splitAt, splitOf}
 use Rattle.reservations.specs.Operations.{mergeReasonsAt, mergeReasons, mergeAt, mergeOf}
 use Rattle.reservations.specs.Tiling.{tableSound}
-use Rattle.revocation.specs.Revocation.{core, running, revoked, wholePages, revocationSound, coreSound}
 use Rattle.reservations.proofs.Unrevoked.{pick-same, with-same, split-same, merge-same}
 use Rattle.reservations.proofs.Truth.{both}
 use Rattle.reservations.proofs.Answers.{open-clear, split-clear, merge-clear}
 use Rattle.reservations.proofs.Dying.{dyings, none, firstOf, revoking-row, revoking-none}
 use Rattle.reservations.proofs.Sound.{sound}
 use Rattle.reservations.proofs.Kept.{open-still, take-kept, give-kept, split-kept, merge-kept}
+use Rattle.revocation.specs.declared.Core.{Core}
+use Rattle.revocation.specs.Revocation.{core, running, revoked, wholePages, revocationSound, coreSound}
 
 -- A well-formed core as plain facts.
 pub record CoreFacts (c : Core) : Type 0 where

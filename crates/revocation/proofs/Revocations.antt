@@ -7,34 +7,34 @@ use mathlib.Core.Path.{_≡_, refl, sym, ap, subst, _∙_}
 use borrow.Author.Tests.{eqb-true, eq-eqb, leb-true, le-leb, not-true, not-false, lt-ltb}
 use lib.Dec.{eqb, leb, ltb}
 use lib.ListN.{length, getD, take, drop}
+use Rattle.capabilities.specs.Lists.{pick}
+use Rattle.capabilities.specs.Refusals.{first}
+use Rattle.capabilities.proofs.Choice.{and-right, pick-yes, pick-no}
+use Rattle.capabilities.proofs.Refusals.{first-clear}
 use Rattle.pages.specs.declared.Pages.{Pages}
 use Rattle.pages.specs.Freed.{allFreed}
 use Rattle.pages.specs.Layer.{serves}
-use Rattle.capabilities.specs.Lists.{pick}
 use Rattle.pages.specs.Mapping.{anyMapped, freedOf, releasedOf}
-use Rattle.capabilities.specs.Refusals.{first}
-use Rattle.sweep.specs.Sweep.{sweepOf, passed}
 use Rattle.pages.proofs.AllFreed.{freed-all, freed-none-mapped}
-use Rattle.capabilities.proofs.Choice.{and-right, pick-yes, pick-no}
 use Rattle.pages.proofs.Freeing.{freed-keeps, released-keeps}
-use Rattle.capabilities.proofs.Refusals.{first-clear}
+use Rattle.sweep.specs.Sweep.{sweepOf, passed}
 use Rattle.reservations.specs.declared.Reservation.{Reservation}
 use Rattle.reservations.specs.declared.Found.{Found}
 use Rattle.reservations.specs.declared.Found.the-variants.{At, Nowhere}
-use Rattle.revocation.specs.declared.Core.{Core}
 use Rattle.reservations.specs.Rows.{isOpen, isRevoking, blank, live, rangeOf}
 use Rattle.reservations.specs.Find.{missing, findOf, begins, revokingOf, rowOf, withRow}
 use Rattle.reservations.specs.Tiling.{rowSound, revokings, weight}
-use Rattle.revocation.specs.Revocation.{core, running, revoked, wholePages, revokeReasonsAt, revokeReasons, revokingRow, revokeAt, revokeOf}
-use Rattle.revocation.specs.Revocation.{Passing, passing, coreSwept, sweepReasons, sweptCore, sweepCoreOf, collectReasons, collectedRow, collected, collectOf, revocationSound, coreSound}
 use Rattle.reservations.proofs.Truth.{both, or-left, or-right, or-second}
 use Rattle.reservations.proofs.Finding.{found-at}
 use Rattle.reservations.proofs.Dying.{dyings, none, revoking-none, dyings-length, dyings-not, dyings-yes, no-dyings}
 use Rattle.reservations.proofs.Tiled.{row-some, tiled-row, tiled-fits, revokings-append, revokings-first}
 use Rattle.reservations.proofs.Sound.{sound}
 use Rattle.reservations.proofs.Kept.{cut-one, row-live, row-kept}
-use Rattle.revocation.proofs.CoreKept.{CoreFacts, core-facts, core-made, dyingSound, dying-sound}
 use Rattle.reservations.proofs.Unrevoked.{after-dyings}
+use Rattle.revocation.specs.declared.Core.{Core}
+use Rattle.revocation.specs.Revocation.{core, running, revoked, wholePages, revokeReasonsAt, revokeReasons, revokingRow, revokeAt, revokeOf}
+use Rattle.revocation.specs.Revocation.{Passing, passing, coreSwept, sweepReasons, sweptCore, sweepCoreOf, collectReasons, collectedRow, collected, collectOf, revocationSound, coreSound}
+use Rattle.revocation.proofs.CoreKept.{CoreFacts, core-facts, core-made, dyingSound, dying-sound}
 
 zero-row : (r n : Reservation) → rowSound r ≡ true → n .length ≡ r .length → n .holder ≡ 0 → rowSound n ≡ true
 zero-row r n e size holder =

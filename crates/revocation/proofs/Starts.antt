@@ -8,18 +8,18 @@ use mathlib.Core.Path.{_≡_, refl, ap, _∙_}
 use borrow.Author.Tests.{eq-eqb, ne-eqb, ltb-true}
 use lib.Dec.{eqb, ltb, leb}
 use lib.ListN.{replicate}
-use Rattle.pages.specs.Layer.{inRange, blank as blankPages, freshOf}
 use Rattle.capabilities.specs.Lists.{pick}
 use Rattle.capabilities.proofs.Choice.{and-left, pick-yes, pick-no}
+use Rattle.pages.specs.Layer.{inRange, blank as blankPages, freshOf}
 use Rattle.pages.proofs.Kept.{fresh-formed}
 use Rattle.reservations.specs.declared.Reservation.{Reservation}
 use Rattle.reservations.specs.declared.ReservationState.the-variants.{Open}
 use Rattle.reservations.specs.Rows.{blank, live, reservation, table}
 use Rattle.reservations.specs.Tiling.{tiles, allBlank, revokings, tableSound, freshTable}
-use Rattle.revocation.specs.Revocation.{freshCore, coreSound}
 use Rattle.reservations.proofs.Tiled.{tiles-made, row-open}
 use Rattle.reservations.proofs.Sound.{made-sound, live-made}
 use Rattle.reservations.proofs.Dying.{dyings}
+use Rattle.revocation.specs.Revocation.{freshCore, coreSound}
 use Rattle.revocation.proofs.CoreKept.{core-made, dyingSound, dying-sound}
 
 abbrev whole : ℕ → Reservation

@@ -4,26 +4,26 @@ use mathlib.Core.Bool.{Bool, not, _&&_, _||_}
 use mathlib.Core.List.{List, [], _∷_}
 use lib.ListN.{length}
 use lib.Dec.{leb, eqb}
-use Rattle.pages.specs.declared.Pages.{Pages}
 use Rattle.capabilities.specs.declared.Range.{Range}
 use Rattle.capabilities.specs.Capability.{baseOf}
-use Rattle.pages.specs.Freed.{allFreed}
-use Rattle.pages.specs.Layer.{wellFormed, inRange, freshOf, serves}
 use Rattle.capabilities.specs.Lists.{pick}
-use Rattle.pages.specs.Mapping.{anyMapped, freedOf, releasedOf}
 use Rattle.capabilities.specs.Range.{inside}
 use Rattle.capabilities.specs.Refusals.{Reason, reason, first}
+use Rattle.pages.specs.declared.Pages.{Pages}
+use Rattle.pages.specs.Freed.{allFreed}
+use Rattle.pages.specs.Layer.{wellFormed, inRange, freshOf, serves}
+use Rattle.pages.specs.Mapping.{anyMapped, freedOf, releasedOf}
 use Rattle.sweep.specs.Sweep.{Passed, sweepOf}
 use Rattle.reservations.specs.declared.Reservation.{Reservation}
 use Rattle.reservations.specs.declared.ReservationState.the-variants.{Open, Revoking}
 use Rattle.reservations.specs.declared.Table.{Table}
 use Rattle.reservations.specs.declared.Found.{Found}
-use Rattle.revocation.specs.declared.Core.{Core}
-use Rattle.revocation.specs.declared.Cored.{Cored}
-use Rattle.revocation.specs.declared.CoreSwept.{CoreSwept}
 use Rattle.reservations.specs.Rows.{isRevoking, reservation, rangeOf}
 use Rattle.reservations.specs.Find.{missing, findOf, revokingOf, rowOf, withRow}
 use Rattle.reservations.specs.Tiling.{tableSound, freshTable}
+use Rattle.revocation.specs.declared.Core.{Core}
+use Rattle.revocation.specs.declared.Cored.{Cored}
+use Rattle.revocation.specs.declared.CoreSwept.{CoreSwept}
 
 abbrev pub core : Pages → Table → ℕ → Core
 core pages table place = record { pages = pages; table = table; place = place }

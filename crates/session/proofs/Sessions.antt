@@ -7,11 +7,11 @@ use mathlib.Core.Path.{_≡_, refl, sym, _∙_, ap, subst}
 use lib.ListN.{length, getD, take, drop, replicate, length-drop, length-append}
 use lib.Dec.{ltb, leb, eqb}
 use borrow.Author.Tests.{lt-ltb, le-ltb, ltb-true, leb-true, eqb-true, le-leb, lt-leb}
+use Rattle.capabilities.specs.Lists.{pick}
+use Rattle.pages.specs.Layer.{serves, inRange}
 use Rattle.calls.specs.declared.Reading.the-variants.{Read, Refused}
 use Rattle.calls.specs.Commands.{lengths, lengthOf, callAt}
 use Rattle.calls.specs.Reader.{whole, readOf, first}
-use Rattle.pages.specs.Layer.{serves, inRange}
-use Rattle.capabilities.specs.Lists.{pick}
 use Rattle.machine.specs.declared.State.{State}
 use Rattle.machine.specs.declared.Answered.{Answered}
 use Rattle.machine.specs.Formed.{wellFormed, startOf}

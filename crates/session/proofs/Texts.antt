@@ -6,11 +6,11 @@ use mathlib.Core.List.{List, [], _∷_, _++_, append-assoc, append-nil}
 use mathlib.Core.Path.{_≡_, refl, sym, _∙_, ap, subst}
 use lib.ListN.{length, take, drop, set, length-append, length-set, length-drop, drop-of-length-le, take-append-drop}
 use lib.Seq.{drop-cons, getD-set-same, drop-set-lt, take-length, take-at, drop-at, drop-drop, take-all, length-take-le}
-use Rattle.session.specs.declared.Text.{Text}
-use Rattle.session.proofs.Decimal.{decimal-one, decimal-more, decimal-some}
 use Rattle.words.specs.Words.{byteOf}
+use Rattle.session.specs.declared.Text.{Text}
 use Rattle.session.specs.Lines.{decimal, lineOf}
 use Rattle.session.specs.Laid.{body, Led, Laid}
+use Rattle.session.proofs.Decimal.{decimal-one, decimal-more, decimal-some}
 
 drop-put : (l : List ℕ) (k b : ℕ) → k < length l → drop k (set l k b) ≡ b ∷ drop (suc k) l
 drop-put l k b h =

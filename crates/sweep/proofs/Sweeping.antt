@@ -9,14 +9,14 @@ use lib.ListN.{length, getD, set, length-set}
 use lib.Seq.{ext-getD, getD-set-same, getD-set-other, set-getD}
 use lib.Dec.{leb, ltb, eqb}
 use borrow.Author.Tests.{ltb-true, ltb-false, lt-ltb, le-ltb, le-leb, lt-leb, eqb-true, eqb-false}
-use Rattle.pages.specs.declared.FrameEntry.{FrameEntry}
 use Rattle.capabilities.specs.declared.Range.{Range}
 use Rattle.capabilities.specs.Capability.{baseOf}
 use Rattle.capabilities.specs.Lists.{pick}
 use Rattle.capabilities.specs.Range.{inside}
-use Rattle.sweep.specs.Sweep.{shownAt, sweptTag, sweptTags}
 use Rattle.capabilities.proofs.Choice.{pick-twice}
 use Rattle.capabilities.proofs.Lists.{length-mapEach, getD-mapEach, mapEach-same}
+use Rattle.pages.specs.declared.FrameEntry.{FrameEntry}
+use Rattle.sweep.specs.Sweep.{shownAt, sweptTag, sweptTags}
 
 pub ltb-next : (j i : ℕ) → (j ≡ i → ⊥) → ltb j (i + 1) ≡ ltb j i
 ltb-next j i h = go (ltb j i) refl

@@ -10,10 +10,10 @@ use lib.ListN.{length, getD}
 use lib.Seq.{ext-getD}
 use lib.Dec.{leb, ltb}
 use borrow.Author.Tests.{ltb-true, ltb-false, lt-ltb, le-leb, lt-leb, leb-false}
-use Rattle.pages.specs.declared.FrameEntry.{FrameEntry}
-use Rattle.pages.specs.declared.Pages.{Pages}
 use Rattle.capabilities.specs.declared.Range.{Range}
 use Rattle.capabilities.specs.Lists.{pick}
+use Rattle.pages.specs.declared.FrameEntry.{FrameEntry}
+use Rattle.pages.specs.declared.Pages.{Pages}
 use Rattle.pages.specs.Layer.{serves}
 use Rattle.sweep.specs.Sweep.{passed, sweptTags, swept, passing, sweepOf}
 use Rattle.sweep.proofs.Sweeping.{doomed, length-swept, getD-swept}

@@ -4,16 +4,16 @@ use mathlib.Core.Bool.{Bool, _&&_}
 use mathlib.Core.List.{List}
 use lib.ListN.{length, getD}
 use lib.Dec.{leb, ltb}
+use Rattle.capabilities.specs.declared.Range.{Range}
+use Rattle.capabilities.specs.Capability.{baseOf}
+use Rattle.capabilities.specs.Lists.{pick, mapEach}
+use Rattle.capabilities.specs.Range.{inside}
 use Rattle.pages.specs.declared.Pages.{Pages}
 use Rattle.pages.specs.declared.FrameEntry.{FrameEntry}
 use Rattle.pages.specs.declared.FrameState.the-variants.{Dirty}
-use Rattle.capabilities.specs.declared.Range.{Range}
-use Rattle.sweep.specs.declared.Swept.{Swept}
-use Rattle.capabilities.specs.Capability.{baseOf}
 use Rattle.pages.specs.Entries.{isShown, frameEntry}
 use Rattle.pages.specs.Layer.{serves}
-use Rattle.capabilities.specs.Lists.{pick, mapEach}
-use Rattle.capabilities.specs.Range.{inside}
+use Rattle.sweep.specs.declared.Swept.{Swept}
 
 -- "Passes the next n cells of lent memory, or as many as are left."
 unfoldable pub passed : Pages → ℕ → ℕ → ℕ

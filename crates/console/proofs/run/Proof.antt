@@ -18,7 +18,9 @@ array-share-prefix-input : tie.Need-array-share-prefix-input
 array-share-prefix-input c = search needs
 
 slice-aggregate-show : tie.Need-slice-aggregate-show
-slice-aggregate-show c = sym (length-take-le (c .before .before .before .take .result .len) (c .before .before .before .take .last .1 .0) (c .before .before .before .take .ensures))
+slice-aggregate-show c =
+    let take = c .before .before .before .take in
+    sym (length-take-le (take .result .len) (take .last .1 .0) (take .ensures))
 
 show-requires : tie.Need-show-requires
 show-requires c κs = search needs

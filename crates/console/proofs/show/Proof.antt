@@ -1,8 +1,8 @@
 -- `console::show` meets its contract. The session answers no more than the buffer holds; each way ends with its number.
 use lib.Seq.{length-take-le}
+use borrow.Author.Needs.{needs}
 use Rattle.session.specs.Session.{linesOf}
 use Rattle.session.proofs.Sessions.{printed-within}
-use borrow.Author.Needs.{needs}
 use Rattle.console.proofs.show.Statement.{statement}
 use Rattle.console.proofs.show.Tie as tie
 
@@ -25,10 +25,20 @@ returns : tie.Need-returns
 returns c = search needs
 
 array-share-prefix-out : tie.Need-array-share-prefix-out
-array-share-prefix-out c = let w = printed-within (linesOf (c .before .before .before .before .before .before .args .input .now)) (c .before .before .before .before .output-buffer .result) (c .before .before .cetomuhi-session .result) _ (c .before .before .cetomuhi-session .ensures) in search (needs, w)
+array-share-prefix-out c =
+    let cetomuhi-session = c .before .before .cetomuhi-session in
+    let output-buffer = c .before .before .before .before .output-buffer in
+    let a = c .before .before .before .before .before .before .args in
+    let w = printed-within (linesOf (a .input .now)) (output-buffer .result) (cetomuhi-session .result) _ (cetomuhi-session .ensures) in
+    search (needs, w)
 
 slice-aggregate-write-all : tie.Need-slice-aggregate-write-all
-slice-aggregate-write-all c = let w = printed-within (linesOf (c .before .before .before .before .before .before .before .args .input .now)) (c .before .before .before .before .before .output-buffer .result) (c .before .before .before .cetomuhi-session .result) _ (c .before .before .before .cetomuhi-session .ensures) in search (needs, w, length-take-le)
+slice-aggregate-write-all c =
+    let cetomuhi-session = c .before .before .before .cetomuhi-session in
+    let output-buffer = c .before .before .before .before .before .output-buffer in
+    let a = c .before .before .before .before .before .before .before .args in
+    let w = printed-within (linesOf (a .input .now)) (output-buffer .result) (cetomuhi-session .result) _ (cetomuhi-session .ensures) in
+    search (needs, w, length-take-le)
 
 write-all-requires : tie.Need-write-all-requires
 write-all-requires c κs = search needs

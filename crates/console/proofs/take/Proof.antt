@@ -41,7 +41,11 @@ same-length : tie.Need-same-length Inv-loop μ-loop
 same-length c = search needs ∙ c .before .before .before .before .before .before .loop .inv .1
 
 returns : tie.Need-returns Inv-loop μ-loop
-returns c = let k : length (putMid (c .before .before .before .before .before .before .loop .len) (length (c .before .before .before .before .before .before .loop .buf) - c .before .before .before .before .before .before .loop .len) (c .before .before .before .before .before .before .loop .buf) (c .before .before .before .read .last .1 .0)) ≡ length (c .before .before .before .before .before .before .loop .buf) = search needs in omega (arith, k)
+returns c =
+    let read = c .before .before .before .read in
+    let loop = c .before .before .before .before .before .before .loop in
+    let k : length (putMid (loop .len) (length (loop .buf) - loop .len) (loop .buf) (read .last .1 .0)) ≡ length (loop .buf) = search needs in
+    omega (arith, k)
 
 sub-count : tie.Need-sub-count Inv-loop μ-loop
 sub-count c = search needs
@@ -59,16 +63,38 @@ same-length-2 : tie.Need-same-length-2 Inv-loop μ-loop
 same-length-2 c = search needs ∙ c .before .before .before .before .before .before .before .before .before .before .loop .inv .1
 
 returns-2 : tie.Need-returns-2 Inv-loop μ-loop
-returns-2 c = let k : length (putMid (c .before .before .before .before .before .before .before .before .before .before .loop .len) (length (c .before .before .before .before .before .before .before .before .before .before .loop .buf) - c .before .before .before .before .before .before .before .before .before .before .loop .len) (c .before .before .before .before .before .before .before .before .before .before .loop .buf) (c .before .before .before .before .before .before .before .read .last .1 .0)) ≡ length (c .before .before .before .before .before .before .before .before .before .before .loop .buf) = search needs in omega (arith, k)
+returns-2 c =
+    let read = c .before .before .before .before .before .before .before .read in
+    let loop = c .before .before .before .before .before .before .before .before .before .before .loop in
+    let k : length (putMid (loop .len) (length (loop .buf) - loop .len) (loop .buf) (read .last .1 .0)) ≡ length (loop .buf) = search needs in
+    omega (arith, k)
 
 add-len : tie.Need-add-len Inv-loop μ-loop
-add-len c = let k : length (putMid (c .before .before .before .before .before .before .before .before .before .before .loop .len) (length (c .before .before .before .before .before .before .before .before .before .before .loop .buf) - c .before .before .before .before .before .before .before .before .before .before .loop .len) (c .before .before .before .before .before .before .before .before .before .before .loop .buf) (c .before .before .before .before .before .before .before .read .last .1 .0)) ≡ length (c .before .before .before .before .before .before .before .before .before .before .loop .buf) = search needs in let m : c .before .count .result ≤ length (putMid (c .before .before .before .before .before .before .before .before .before .before .loop .len) (length (c .before .before .before .before .before .before .before .before .before .before .loop .buf) - c .before .before .before .before .before .before .before .before .before .before .loop .len) (c .before .before .before .before .before .before .before .before .before .before .loop .buf) (c .before .before .before .before .before .before .before .read .last .1 .0)) - c .before .before .before .before .before .before .before .before .before .before .loop .len = within (putMid (c .before .before .before .before .before .before .before .before .before .before .loop .len) (length (c .before .before .before .before .before .before .before .before .before .before .loop .buf) - c .before .before .before .before .before .before .before .before .before .before .loop .len) (c .before .before .before .before .before .before .before .before .before .before .loop .buf) (c .before .before .before .before .before .before .before .read .last .1 .0)) (c .before .before .before .before .before .before .before .before .before .before .loop .len) (c .before .count .result) (c .before .count .ensures .0 .0) in omega (arith, k, m)
+add-len c =
+    let count = c .before .count in
+    let read = c .before .before .before .before .before .before .before .read in
+    let loop = c .before .before .before .before .before .before .before .before .before .before .loop in
+    let k : length (putMid (loop .len) (length (loop .buf) - loop .len) (loop .buf) (read .last .1 .0)) ≡ length (loop .buf) = search needs in
+    let m : count .result ≤ length (putMid (loop .len) (length (loop .buf) - loop .len) (loop .buf) (read .last .1 .0)) - loop .len = within (putMid (loop .len) (length (loop .buf) - loop .len) (loop .buf) (read .last .1 .0)) (loop .len) (count .result) (count .ensures .0 .0) in
+    omega (arith, k, m)
 
 loop-less : tie.Need-loop-less Inv-loop μ-loop
-loop-less c = let k : length (putMid (c .before .before .before .before .before .before .before .before .before .before .loop .len) (length (c .before .before .before .before .before .before .before .before .before .before .loop .buf) - c .before .before .before .before .before .before .before .before .before .before .loop .len) (c .before .before .before .before .before .before .before .before .before .before .loop .buf) (c .before .before .before .before .before .before .before .read .last .1 .0)) ≡ length (c .before .before .before .before .before .before .before .before .before .before .loop .buf) = search needs in let m : c .before .count .result ≤ length (putMid (c .before .before .before .before .before .before .before .before .before .before .loop .len) (length (c .before .before .before .before .before .before .before .before .before .before .loop .buf) - c .before .before .before .before .before .before .before .before .before .before .loop .len) (c .before .before .before .before .before .before .before .before .before .before .loop .buf) (c .before .before .before .before .before .before .before .read .last .1 .0)) - c .before .before .before .before .before .before .before .before .before .before .loop .len = within (putMid (c .before .before .before .before .before .before .before .before .before .before .loop .len) (length (c .before .before .before .before .before .before .before .before .before .before .loop .buf) - c .before .before .before .before .before .before .before .before .before .before .loop .len) (c .before .before .before .before .before .before .before .before .before .before .loop .buf) (c .before .before .before .before .before .before .before .read .last .1 .0)) (c .before .before .before .before .before .before .before .before .before .before .loop .len) (c .before .count .result) (c .before .count .ensures .0 .0) in omega (arith, k, m)
+loop-less c =
+    let count = c .before .count in
+    let read = c .before .before .before .before .before .before .before .read in
+    let loop = c .before .before .before .before .before .before .before .before .before .before .loop in
+    let k : length (putMid (loop .len) (length (loop .buf) - loop .len) (loop .buf) (read .last .1 .0)) ≡ length (loop .buf) = search needs in
+    let m : count .result ≤ length (putMid (loop .len) (length (loop .buf) - loop .len) (loop .buf) (read .last .1 .0)) - loop .len = within (putMid (loop .len) (length (loop .buf) - loop .len) (loop .buf) (read .last .1 .0)) (loop .len) (count .result) (count .ensures .0 .0) in
+    omega (arith, k, m)
 
 loop-again : tie.Need-loop-again Inv-loop μ-loop
-loop-again c = let k : length (putMid (c .before .before .before .before .before .before .before .before .before .before .loop .len) (length (c .before .before .before .before .before .before .before .before .before .before .loop .buf) - c .before .before .before .before .before .before .before .before .before .before .loop .len) (c .before .before .before .before .before .before .before .before .before .before .loop .buf) (c .before .before .before .before .before .before .before .read .last .1 .0)) ≡ length (c .before .before .before .before .before .before .before .before .before .before .loop .buf) = search needs in let m : c .before .count .result ≤ length (putMid (c .before .before .before .before .before .before .before .before .before .before .loop .len) (length (c .before .before .before .before .before .before .before .before .before .before .loop .buf) - c .before .before .before .before .before .before .before .before .before .before .loop .len) (c .before .before .before .before .before .before .before .before .before .before .loop .buf) (c .before .before .before .before .before .before .before .read .last .1 .0)) - c .before .before .before .before .before .before .before .before .before .before .loop .len = within (putMid (c .before .before .before .before .before .before .before .before .before .before .loop .len) (length (c .before .before .before .before .before .before .before .before .before .before .loop .buf) - c .before .before .before .before .before .before .before .before .before .before .loop .len) (c .before .before .before .before .before .before .before .before .before .before .loop .buf) (c .before .before .before .before .before .before .before .read .last .1 .0)) (c .before .before .before .before .before .before .before .before .before .before .loop .len) (c .before .count .result) (c .before .count .ensures .0 .0) in (omega (arith, k, m), k ∙ c .before .before .before .before .before .before .before .before .before .before .loop .inv .1)
+loop-again c =
+    let count = c .before .count in
+    let read = c .before .before .before .before .before .before .before .read in
+    let loop = c .before .before .before .before .before .before .before .before .before .before .loop in
+    let k : length (putMid (loop .len) (length (loop .buf) - loop .len) (loop .buf) (read .last .1 .0)) ≡ length (loop .buf) = search needs in
+    let m : count .result ≤ length (putMid (loop .len) (length (loop .buf) - loop .len) (loop .buf) (read .last .1 .0)) - loop .len = within (putMid (loop .len) (length (loop .buf) - loop .len) (loop .buf) (read .last .1 .0)) (loop .len) (count .result) (count .ensures .0 .0) in
+    (omega (arith, k, m), k ∙ loop .inv .1)
 
 same-length-3 : tie.Need-same-length-3 Inv-loop μ-loop
 same-length-3 c = c .before .loop .inv .1

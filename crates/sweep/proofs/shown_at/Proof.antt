@@ -3,8 +3,8 @@ use borrow.Author.Needs.{needs}
 use lib.ListN.{length, List·getD-eq-default}
 use mathlib.Core.Path.{_≡_, sym, ap}
 use native.Mathlib.Omega.{arith}
-use Rattle.pages.specs.Entries.{isShown}
 use Rattle.capabilities.proofs.Arrays.{length-under}
+use Rattle.pages.specs.Entries.{isShown}
 use Rattle.sweep.proofs.shown_at.Statement.{statement}
 use Rattle.sweep.proofs.shown_at.Tie as tie
 
@@ -18,7 +18,11 @@ returns : tie.Need-returns
 returns c = search needs
 
 returns-2 : tie.Need-returns-2
-returns-2 c = let l : length (c .before .args .t1) ≡ 128 = let g = c .before .good .0 in search (length-under, g) in ap (λ e. isShown (e .state)) (sym (List·getD-eq-default (c .before .args .t1) _ (omega arith)))
+returns-2 c =
+    let a = c .before .args in
+    let good = c .before .good in
+    let l : length (a .t1) ≡ 128 = let g = good .0 in search (length-under, g) in
+    ap (λ e. isShown (e .state)) (sym (List·getD-eq-default (a .t1) _ (omega arith)))
 
 pub shown-at-spec : {M : Type 1} → statement M
 shown-at-spec = tie.close (tie.spec array-copy-out-entry is-shown-requires returns returns-2)

@@ -5,8 +5,8 @@ use mathlib.Core.Path.{sym, _∙_}
 use native.Mathlib.Omega.{arith}
 use lib.ListN.{length}
 use Rattle.pages.specs.Layer.{serves}
-use Rattle.sweep.specs.Sweep.{sweepOf, passed}
 use Rattle.pages.proofs.Memory.{served}
+use Rattle.sweep.specs.Sweep.{sweepOf, passed}
 use Rattle.sweep.proofs.sweep.Statement.{statement}
 use Rattle.sweep.proofs.sweep.Tie as tie
 

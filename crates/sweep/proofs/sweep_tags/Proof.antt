@@ -4,10 +4,10 @@ use Prim.Native.Nat.{_≤_, _<_, _-_, _+_}
 use native.Mathlib.Omega.{arith}
 use mathlib.Core.Path.{_≡_, refl, sym, _∙_, ap}
 use lib.ListN.{length, getD}
+use mathlib.Core.Logic.{⊎-elim}
 use Rattle.capabilities.proofs.Choice.{pick-yes}
 use Rattle.sweep.specs.Sweep.{sweptTags}
 use Rattle.sweep.proofs.Sweeping.{doomed, length-swept, swept-none, swept-hit, swept-stay, swept-miss}
-use mathlib.Core.Logic.{⊎-elim}
 use Rattle.sweep.proofs.sweep_tags.Statement.{statement}
 use Rattle.sweep.proofs.sweep_tags.Tie as tie
 
@@ -27,10 +27,15 @@ shown-at-requires : tie.Need-shown-at-requires Inv-loop μ-loop
 shown-at-requires c κs = search needs
 
 mul-doomed : tie.Need-mul-doomed Inv-loop μ-loop
-mul-doomed c = omega (arith, c .before .before .before .before .before .before .before .pre .2 (omega arith), c .before .before .before .before .before .before .before .good)
+mul-doomed c =
+    let pre = c .before .before .before .before .before .before .before .pre in
+    let good = c .before .before .before .before .before .before .before .good in
+    omega (arith, pre .2 (omega arith), good)
 
 shared-slice-read-doomed : tie.Need-shared-slice-read-doomed Inv-loop μ-loop
-shared-slice-read-doomed c = omega (arith, c .before .before .before .before .before .before .before .before .pre .0, c .before .before .before .before .before .before .before .before .pre .2 (omega arith))
+shared-slice-read-doomed c =
+    let pre = c .before .before .before .before .before .before .before .before .pre in
+    omega (arith, pre .0, pre .2 (omega arith))
 
 doomed-requires : tie.Need-doomed-requires Inv-loop μ-loop
 doomed-requires c κs = search needs

@@ -99,7 +99,11 @@ returns-15 : tie.Need-returns-15
 returns-15 c = in-case (λ k. callAt k (c .before .before .before .args .s .now)) (c .before .match .keys15) (c .grant-at .ensures)
 
 returns-16 : tie.Need-returns-16
-returns-16 c = in-case (λ k. callAt k (c .before .before .before .args .s .now)) (last-case 15 (c .before .before .before .pre .0) (c .before .before .before .pre .1) (c .before .match .rest)) (c .receive-at .ensures)
+returns-16 c =
+    let match = c .before .match in
+    let a = c .before .before .before .args in
+    let pre = c .before .before .before .pre in
+    in-case (λ k. callAt k (a .s .now)) (last-case 15 (pre .0) (pre .1) (match .rest)) (c .receive-at .ensures)
 
 pub call-at-spec : {M : Type 1} → statement M
 call-at-spec =

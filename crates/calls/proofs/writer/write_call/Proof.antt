@@ -25,11 +25,13 @@ array-share-prefix-all c =
 
 slice-aggregate-copy : tie.Need-slice-aggregate-copy
 slice-aggregate-copy c =
-    buffers.as-long (c .before .before .before .before .before .args .call) _ _ (c .before .before .before .bytes-of .ensures) (c .before .before .length-of .ensures)
+    buffers.as-long (c .before .before .before .before .before .args .call) _ _ (c .before .before .before .bytes-of .ensures)
+    (c .before .before .length-of .ensures)
 
 copy-requires : tie.Need-copy-requires
 copy-requires c κs =
-    omega (arith, buffers.as-long (c .before .before .before .before .before .before .args .call) _ _ (c .before .before .before .before .bytes-of .ensures) (c .before .before .before .length-of .ensures))
+    omega
+    (arith, buffers.as-long (c .before .before .before .before .before .before .args .call) _ _ (c .before .before .before .before .bytes-of .ensures) (c .before .before .before .length-of .ensures))
 
 same-length : tie.Need-same-length
 same-length c = search needs

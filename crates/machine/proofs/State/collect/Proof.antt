@@ -1,11 +1,11 @@
 -- `machine::State::collect` meets its contract. Refused by `ruled-down`; granted, the two loops leave the words that `done-collect` names.
 use borrow.Author.Needs.{needs}
-use Rattle.revocation.specs.Revocation.{collectOf, dying}
 use Rattle.capabilities.specs.Refusals.{first}
+use Rattle.revocation.specs.Revocation.{collectOf, dying}
+use Rattle.calls.specs.declared.Call.the-variants.{Collect}
 use Rattle.machine.specs.Effects.{effect}
 use Rattle.machine.specs.Reasons.{reasons}
 use Rattle.machine.proofs.Ruled.{ruled-down, ruled-done, done-collect}
-use Rattle.calls.specs.declared.Call.the-variants.{Collect}
 use Rattle.machine.proofs.State.collect.Statement.{statement}
 use Rattle.machine.proofs.State.collect.Tie as tie
 
@@ -55,7 +55,8 @@ returns-2 c =
     let collected-registers = c .before .before .before .collected-registers in
     let revoked = c .before .before .before .before .before .before .revoked in
     let running = c .before .before .before .before .before .before .before .running in
-    λ cells tags. ruled-done (a .self) (Collect (a .party)) (manager-code .result) (rw (manager-code .ensures, collect .ensures)) (if1 .left) cells tags _ (rw (granted .ensures, collected-mailboxes .ensures, collected-registers .ensures, revoked .ensures, running .ensures, collect .ensures) (done-collect (a .self) _ _ _))
+    λ cells tags. ruled-done (a .self) (Collect (a .party)) (manager-code .result) (rw (manager-code .ensures, collect .ensures)) (if1 .left) cells tags _
+    (rw (granted .ensures, collected-mailboxes .ensures, collected-registers .ensures, revoked .ensures, running .ensures, collect .ensures) (done-collect (a .self) _ _ _))
 
 pub collect-spec : {M : Type 1} → statement M
 collect-spec =

@@ -27,7 +27,11 @@ same-length-2 c = search needs
 
 returns-2 : tie.Need-returns-2
 unfolding commandOf
-returns-2 c = rw (sym (c .before .before .before .before .before .before .before .before .well-formed .ensures) ∙ not-false _ (c .before .before .before .before .before .before .before .if1 .left)) (c .before .before .before .before .step-command .ensures)
+returns-2 c =
+    let step-command = c .before .before .before .before .step-command in
+    let if1 = c .before .before .before .before .before .before .before .if1 in
+    let well-formed = c .before .before .before .before .before .before .before .before .well-formed in
+    rw (sym (well-formed .ensures) ∙ not-false _ (if1 .left)) (step-command .ensures)
 
 pub command-spec : {M : Type 1} → statement M
 command-spec =

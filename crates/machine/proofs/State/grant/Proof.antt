@@ -1,11 +1,11 @@
 -- `machine::State::grant` meets its contract. Refused by `ruled-down`; granted, one mailbox is put: `done-mailbox`.
 use borrow.Author.Needs.{needs}
-use Rattle.machine.proofs.Ruled.{ruled-down, ruled-done, done-mailbox}
+use Rattle.capabilities.specs.Refusals.{first}
+use Rattle.calls.specs.declared.Call.the-variants.{Grant}
+use Rattle.words.proofs.Named.{three-named}
 use Rattle.machine.specs.Reasons.{reasons}
 use Rattle.machine.specs.Effects.{effect}
-use Rattle.words.proofs.Named.{three-named}
-use Rattle.calls.specs.declared.Call.the-variants.{Grant}
-use Rattle.capabilities.specs.Refusals.{first}
+use Rattle.machine.proofs.Ruled.{ruled-down, ruled-done, done-mailbox}
 use Rattle.machine.proofs.State.grant.Statement.{statement}
 use Rattle.machine.proofs.State.grant.Tie as tie
 
@@ -30,7 +30,8 @@ returns c =
     let mailbox = c .before .before .before .mailbox in
     let register = c .before .before .before .before .register in
     let if1 = c .before .if1 in
-    rw (refused .ensures) (ruled-down (a .t1) (Grant (a .party) (a .s) (a .to)) (grant-code .result) (rw (grant-code .ensures, mailbox .ensures, register .ensures)) (if1 .taken))
+    rw (refused .ensures)
+    (ruled-down (a .t1) (Grant (a .party) (a .s) (a .to)) (grant-code .result) (rw (grant-code .ensures, mailbox .ensures, register .ensures)) (if1 .taken))
 
 mul-from : tie.Need-mul-from
 mul-from c = search needs
@@ -51,7 +52,8 @@ returns-2 c =
     let mailbox = c .before .before .mailbox in
     let register = c .before .before .before .register in
     let if1 = c .if1 in
-    λ cells tags. ruled-done (a .t1) (Grant (a .party) (a .s) (a .to)) (grant-code .result) (rw (grant-code .ensures, mailbox .ensures, register .ensures)) (if1 .left) cells tags _ (rw (register .ensures) (done-mailbox (a .t1) (a .t1 .core) _ cells tags (a .to) _))
+    λ cells tags. ruled-done (a .t1) (Grant (a .party) (a .s) (a .to)) (grant-code .result) (rw (grant-code .ensures, mailbox .ensures, register .ensures))
+    (if1 .left) cells tags _ (rw (register .ensures) (done-mailbox (a .t1) (a .t1 .core) _ cells tags (a .to) _))
 
 pub grant-spec : {M : Type 1} → statement M
 grant-spec =

@@ -1,11 +1,11 @@
 -- `machine::State::load` meets its contract. Refused by `ruled-down`; granted, the word at the place goes to the register and is the answer: `done-fetch`.
 use borrow.Author.Needs.{needs}
-use Rattle.machine.proofs.Ruled.{ruled-down, ruled-done, done-fetch}
+use Rattle.capabilities.specs.Refusals.{first}
+use Rattle.calls.specs.declared.Call.the-variants.{Load}
+use Rattle.words.proofs.Named.{three-named, index-below}
 use Rattle.machine.specs.Reasons.{reasons}
 use Rattle.machine.specs.Effects.{effect}
-use Rattle.words.proofs.Named.{three-named, index-below}
-use Rattle.calls.specs.declared.Call.the-variants.{Load}
-use Rattle.capabilities.specs.Refusals.{first}
+use Rattle.machine.proofs.Ruled.{ruled-down, ruled-done, done-fetch}
 use Rattle.machine.proofs.State.load.Statement.{statement}
 use Rattle.machine.proofs.State.load.Tie as tie
 
@@ -30,7 +30,8 @@ returns c =
     let addressed = c .before .before .before .addressed in
     let register = c .before .before .before .before .register in
     let if1 = c .before .if1 in
-    rw (refused .ensures) (ruled-down (a .t1) (Load (a .party) (a .a) (a .off) (a .d)) (load-code .result) (rw (load-code .ensures, addressed .ensures, register .ensures)) (if1 .taken) (a .cells .now) (a .tags .now))
+    rw (refused .ensures)
+    (ruled-down (a .t1) (Load (a .party) (a .a) (a .off) (a .d)) (load-code .result) (rw (load-code .ensures, addressed .ensures, register .ensures)) (if1 .taken) (a .cells .now) (a .tags .now))
 
 place-number-requires : tie.Need-place-number-requires
 place-number-requires c κs = search needs
@@ -69,7 +70,9 @@ returns-2 c =
     let loaded = c .loaded in
     let word-at = c .before .word-at in
     let place-number = c .before .before .place-number in
-    ruled-done (a .t1) (Load (a .party) (a .a) (a .off) (a .d)) (load-code .result) (rw (load-code .ensures, addressed .ensures, register .ensures)) (if1 .left) (a .cells .now) (a .tags .now) _ (rw (loaded .ensures, word-at .ensures, place-number .ensures, addressed .ensures, register .ensures) (done-fetch (a .t1) (a .t1 .core) _ _ _ (a .party) (a .d) _ _))
+    ruled-done (a .t1) (Load (a .party) (a .a) (a .off) (a .d)) (load-code .result) (rw (load-code .ensures, addressed .ensures, register .ensures))
+    (if1 .left) (a .cells .now) (a .tags .now) _
+    (rw (loaded .ensures, word-at .ensures, place-number .ensures, addressed .ensures, register .ensures) (done-fetch (a .t1) (a .t1 .core) _ _ _ (a .party) (a .d) _ _))
 
 pub load-spec : {M : Type 1} → statement M
 load-spec =

@@ -23,7 +23,11 @@ empty-requires c κs = search needs
 
 returns-2 : tie.Need-returns-2
 unfolding mailboxOf
-returns-2 c = let l : length (c .before .before .args .t1 .mailboxes) ≡ 8 = let g = c .before .before .good .0 in search (length-under, g) in c .empty .ensures ∙ sym (List·getD-eq-default (c .before .before .args .t1 .mailboxes) _ (omega arith))
+returns-2 c =
+    let a = c .before .before .args in
+    let good = c .before .before .good in
+    let l : length (a .t1 .mailboxes) ≡ 8 = let g = good .0 in search (length-under, g) in
+    c .empty .ensures ∙ sym (List·getD-eq-default (a .t1 .mailboxes) _ (omega arith))
 
 pub mailbox-spec : {M : Type 1} → statement M
 mailbox-spec =

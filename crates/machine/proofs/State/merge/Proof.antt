@@ -1,12 +1,11 @@
--- `machine::State::merge` meets its contract. Refused by `ruled-down`; granted, the table's own merge and `done-core`.
+-- `machine::State::merge` meets its contract. The lower crate's own rule, and `ruled-core`.
 use borrow.Author.Needs.{needs}
-use mathlib.Core.Path.{_∙_}
-use Rattle.machine.proofs.Ruled.{ruled-down, ruled-done, done-core}
 use Rattle.capabilities.specs.Refusals.{first}
 use Rattle.reservations.specs.Operations.{mergeOf}
-use Rattle.machine.specs.Effects.{effect}
-use Rattle.machine.specs.Reasons.{reasons}
 use Rattle.calls.specs.declared.Call.the-variants.{Merge}
+use Rattle.machine.specs.Reasons.{reasons}
+use Rattle.machine.specs.Effects.{effect}
+use Rattle.machine.proofs.Ruled.{ruled-core}
 use Rattle.machine.proofs.State.merge.Statement.{statement}
 use Rattle.machine.proofs.State.merge.Tie as tie
 
@@ -16,44 +15,18 @@ merge-requires c κs = search needs
 first-requires : tie.Need-first-requires
 first-requires c κs = search needs
 
-refused-requires : tie.Need-refused-requires
-refused-requires c κs = search needs
+cored-requires : tie.Need-cored-requires
+cored-requires c κs = search needs
 
 returns : tie.Need-returns
-unfolding first reasons mergeOf
-returns c =
-    let refused = c .refused in
-    let a = c .before .before .before .before .before .before .args in
-    let first = c .before .before .first in
-    let merge = c .before .before .before .merge in
-    let if1 = c .before .if1 in
-    rw (refused .ensures) (ruled-down (a .self) (Merge (a .party) (a .base)) _ (first .ensures ∙ rw (merge .ensures)) (if1 .taken))
-
-with-table-requires : tie.Need-with-table-requires
-with-table-requires c κs = search needs
-
-granted-requires : tie.Need-granted-requires
-granted-requires c κs = search needs
-
-returns-2 : tie.Need-returns-2
 unfolding first reasons effect mergeOf
-returns-2 c =
-    let a = c .before .before .before .before .before .before .before .before .args in
-    let first = c .before .before .before .before .first in
-    let merge = c .before .before .before .before .before .merge in
-    let if1 = c .before .before .before .if1 in
-    let granted = c .granted in
-    let with-table = c .before .with-table in
-    λ cells tags. ruled-done (a .self) (Merge (a .party) (a .base)) _ (first .ensures ∙ rw (merge .ensures)) (if1 .left) cells tags _ (rw (granted .ensures, with-table .ensures, merge .ensures) (done-core _ _ _ _ _))
+returns c =
+    let a = c .before .before .before .before .before .before .args in
+    let first = c .before .first in
+    let merge = c .before .before .before .merge in
+    let cored = c .cored in
+    ruled-core (a .self) (Merge (a .party) (a .base)) (first .result) _ (rw (first .ensures, merge .ensures)) (rw (merge .ensures)) (cored .result)
+    (cored .ensures)
 
 pub merge-spec : {M : Type 1} → statement M
-merge-spec =
-    tie.close
-    (tie.spec
-    merge-requires
-    first-requires
-    refused-requires
-    returns
-    with-table-requires
-    granted-requires
-    returns-2)
+merge-spec = tie.close (tie.spec merge-requires first-requires cored-requires returns)

@@ -1,11 +1,11 @@
 -- `machine::State::narrow` meets its contract. Refused by `ruled-down`; granted, one register is put: `done-register`.
 use borrow.Author.Needs.{needs}
-use Rattle.machine.proofs.Ruled.{ruled-down, ruled-done, done-register}
+use Rattle.capabilities.specs.Refusals.{first}
+use Rattle.calls.specs.declared.Call.the-variants.{Narrow}
+use Rattle.words.proofs.Named.{three-named, index-below}
 use Rattle.machine.specs.Reasons.{reasons}
 use Rattle.machine.specs.Effects.{effect}
-use Rattle.words.proofs.Named.{three-named, index-below}
-use Rattle.calls.specs.declared.Call.the-variants.{Narrow}
-use Rattle.capabilities.specs.Refusals.{first}
+use Rattle.machine.proofs.Ruled.{ruled-down, ruled-done, done-register}
 use Rattle.machine.proofs.State.narrow.Statement.{statement}
 use Rattle.machine.proofs.State.narrow.Tie as tie
 
@@ -26,7 +26,8 @@ returns c =
     let narrow-code = c .before .before .narrow-code in
     let register = c .before .before .before .register in
     let if1 = c .before .if1 in
-    rw (refused .ensures) (ruled-down (a .t1) (Narrow (a .party) (a .s) (a .off) (a .len) (a .mask) (a .d)) (narrow-code .result) (rw (narrow-code .ensures, register .ensures)) (if1 .taken))
+    rw (refused .ensures)
+    (ruled-down (a .t1) (Narrow (a .party) (a .s) (a .off) (a .len) (a .mask) (a .d)) (narrow-code .result) (rw (narrow-code .ensures, register .ensures)) (if1 .taken))
 
 narrowed-requires : tie.Need-narrowed-requires
 narrowed-requires c κs = search needs
@@ -56,7 +57,9 @@ returns-2 c =
     let register = c .before .before .before .register in
     let if1 = c .before .if1 in
     let narrowed = c .narrowed in
-    λ cells tags. ruled-done (a .t1) (Narrow (a .party) (a .s) (a .off) (a .len) (a .mask) (a .d)) (narrow-code .result) (rw (narrow-code .ensures, register .ensures)) (if1 .left) cells tags _ (rw (narrowed .ensures, register .ensures) (done-register (a .t1) (a .t1 .core) _ cells tags (a .party) (a .d) _))
+    λ cells tags. ruled-done (a .t1) (Narrow (a .party) (a .s) (a .off) (a .len) (a .mask) (a .d)) (narrow-code .result)
+    (rw (narrow-code .ensures, register .ensures)) (if1 .left) cells tags _
+    (rw (narrowed .ensures, register .ensures) (done-register (a .t1) (a .t1 .core) _ cells tags (a .party) (a .d) _))
 
 pub narrow-spec : {M : Type 1} → statement M
 narrow-spec =

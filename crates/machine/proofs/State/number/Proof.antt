@@ -1,11 +1,11 @@
 -- `machine::State::number` meets its contract. Refused by `ruled-down`; granted, one register is put: `done-register`.
 use borrow.Author.Needs.{needs}
-use Rattle.machine.proofs.Ruled.{ruled-down, ruled-done, done-register}
+use Rattle.capabilities.specs.Refusals.{first}
+use Rattle.calls.specs.declared.Call.the-variants.{Number}
+use Rattle.words.proofs.Named.{two-named, index-below}
 use Rattle.machine.specs.Reasons.{reasons}
 use Rattle.machine.specs.Effects.{effect}
-use Rattle.words.proofs.Named.{two-named, index-below}
-use Rattle.calls.specs.declared.Call.the-variants.{Number}
-use Rattle.capabilities.specs.Refusals.{first}
+use Rattle.machine.proofs.Ruled.{ruled-down, ruled-done, done-register}
 use Rattle.machine.proofs.State.number.Statement.{statement}
 use Rattle.machine.proofs.State.number.Tie as tie
 
@@ -46,7 +46,8 @@ returns-2 c =
     let a = c .before .before .args in
     let first = c .before .first in
     let if1 = c .if1 in
-    λ cells tags. ruled-done (a .t1) (Number (a .party) (a .d) (a .value)) (first .result) (rw (first .ensures)) (if1 .left) cells tags _ (done-register (a .t1) (a .t1 .core) _ cells tags (a .party) (a .d) _)
+    λ cells tags. ruled-done (a .t1) (Number (a .party) (a .d) (a .value)) (first .result) (rw (first .ensures)) (if1 .left) cells tags _
+    (done-register (a .t1) (a .t1 .core) _ cells tags (a .party) (a .d) _)
 
 pub number-spec : {M : Type 1} → statement M
 number-spec =

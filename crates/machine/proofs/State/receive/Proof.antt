@@ -1,11 +1,11 @@
 -- `machine::State::receive` meets its contract. Refused by `ruled-down`; granted, a register and a mailbox are put: `done-both`.
 use borrow.Author.Needs.{needs}
-use Rattle.machine.proofs.Ruled.{ruled-down, ruled-done, done-both}
+use Rattle.capabilities.specs.Refusals.{first}
+use Rattle.calls.specs.declared.Call.the-variants.{Receive}
+use Rattle.words.proofs.Named.{two-named, index-below}
 use Rattle.machine.specs.Reasons.{reasons}
 use Rattle.machine.specs.Effects.{effect}
-use Rattle.words.proofs.Named.{two-named, index-below}
-use Rattle.calls.specs.declared.Call.the-variants.{Receive}
-use Rattle.capabilities.specs.Refusals.{first}
+use Rattle.machine.proofs.Ruled.{ruled-down, ruled-done, done-both}
 use Rattle.machine.proofs.State.receive.Statement.{statement}
 use Rattle.machine.proofs.State.receive.Tie as tie
 
@@ -67,7 +67,8 @@ returns-2 c =
     let mailbox = c .before .before .before .mailbox in
     let if1 = c .before .if1 in
     let empty = c .empty in
-    λ cells tags. ruled-done (a .t1) (Receive (a .party) (a .d)) (receive-code .result) (rw (receive-code .ensures, mailbox .ensures)) (if1 .left) cells tags _ (rw (empty .ensures, mailbox .ensures) (done-both (a .t1) (a .t1 .core) _ cells tags (a .party) (a .d) _ (a .party) _))
+    λ cells tags. ruled-done (a .t1) (Receive (a .party) (a .d)) (receive-code .result) (rw (receive-code .ensures, mailbox .ensures)) (if1 .left) cells tags _
+    (rw (empty .ensures, mailbox .ensures) (done-both (a .t1) (a .t1 .core) _ cells tags (a .party) (a .d) _ (a .party) _))
 
 pub receive-spec : {M : Type 1} → statement M
 receive-spec =

@@ -19,7 +19,13 @@ mul-result : tie.Need-mul-result
 mul-result c = search needs
 
 element-copy-out-result : tie.Need-element-copy-out-result
-element-copy-out-result c = omega (arith, ltb-true (c .before .args .party) 8 (and-left (ltb (c .before .args .party) 8) (ltb (c .before .args .reg) 8) (c .if1 .taken)), ltb-true (c .before .args .reg) 8 (and-right (ltb (c .before .args .party) 8) (ltb (c .before .args .reg) 8) (c .if1 .taken)))
+element-copy-out-result c =
+    let a = c .before .args in
+    omega (
+      arith,
+      ltb-true (a .party) 8 (and-left (ltb (a .party) 8) (ltb (a .reg) 8) (c .if1 .taken)),
+      ltb-true (a .reg) 8 (and-right (ltb (a .party) 8) (ltb (a .reg) 8) (c .if1 .taken)),
+    )
 
 returns : tie.Need-returns
 unfolding registerOf

@@ -19,14 +19,24 @@ granted-requires c κs = search needs
 
 returns : tie.Need-returns
 unfolding startOf fresh
-returns c = rw (c .granted .ensures, c .before .before .before .empty .ensures, c .before .before .before .before .fresh .ensures, sym (c .before .before .in-range .ensures) ∙ c .before .if1 .taken)
+returns c =
+    let if1 = c .before .if1 in
+    let in-range = c .before .before .in-range in
+    let empty = c .before .before .before .empty in
+    let fresh = c .before .before .before .before .fresh in
+    rw (c .granted .ensures, empty .ensures, fresh .ensures, sym (in-range .ensures) ∙ if1 .taken)
 
 refused-requires : tie.Need-refused-requires
 refused-requires c κs = search needs
 
 returns-2 : tie.Need-returns-2
 unfolding startOf fresh
-returns-2 c = rw (c .refused .ensures, c .before .before .before .empty .ensures, c .before .before .before .before .fresh .ensures, sym (c .before .before .in-range .ensures) ∙ c .before .if1 .left)
+returns-2 c =
+    let if1 = c .before .if1 in
+    let in-range = c .before .before .in-range in
+    let empty = c .before .before .before .empty in
+    let fresh = c .before .before .before .before .fresh in
+    rw (c .refused .ensures, empty .ensures, fresh .ensures, sym (in-range .ensures) ∙ if1 .left)
 
 pub start-spec : {M : Type 1} → statement M
 start-spec =

@@ -19,7 +19,8 @@ returns c =
     let serves = c .before .before .serves in
     let if1 = c .before .if1 in
     let refused = c .refused in
-    judged-size (a .self) (a .call) (a .cells .now) (a .tags .now) _ (sym (serves .ensures) ∙ not-true _ (if1 .taken)) (ap (λ r. left r (a .cells .now) (a .tags .now)) (refused .ensures))
+    judged-size (a .self) (a .call) (a .cells .now) (a .tags .now) _ (sym (serves .ensures) ∙ not-true _ (if1 .taken))
+    (ap (λ r. left r (a .cells .now) (a .tags .now)) (refused .ensures))
 
 enum-known-call : tie.Need-enum-known-call
 enum-known-call c = search needs
@@ -55,7 +56,10 @@ enum-known-call-6 : tie.Need-enum-known-call-6
 enum-known-call-6 c = search needs
 
 sweep-requires : tie.Need-sweep-requires
-sweep-requires c κs = sym (c .before .before .before .before .before .before .serves .ensures) ∙ not-false _ (c .before .before .before .before .before .if1 .left)
+sweep-requires c κs =
+    let if1 = c .before .before .before .before .before .if1 in
+    let serves = c .before .before .before .before .before .before .serves in
+    sym (serves .ensures) ∙ not-false _ (if1 .left)
 
 enum-known-call-7 : tie.Need-enum-known-call-7
 enum-known-call-7 c = search needs
@@ -79,7 +83,10 @@ enum-known-call-10 : tie.Need-enum-known-call-10
 enum-known-call-10 c = search needs
 
 zero-requires : tie.Need-zero-requires
-zero-requires c κs = sym (c .before .before .before .before .before .before .serves .ensures) ∙ not-false _ (c .before .before .before .before .before .if1 .left)
+zero-requires c κs =
+    let if1 = c .before .before .before .before .before .if1 in
+    let serves = c .before .before .before .before .before .before .serves in
+    sym (serves .ensures) ∙ not-false _ (if1 .left)
 
 enum-known-call-11 : tie.Need-enum-known-call-11
 enum-known-call-11 c = search needs
@@ -124,7 +131,8 @@ returns-2 c =
     let serves = c .before .before .before .before .before .serves in
     let if1 = c .before .before .before .before .if1 in
     let take = c .take in
-    rw (call .given .1) (judged-ruled (a .self) _ (a .cells .now) (a .tags .now) _ (sym (serves .ensures) ∙ not-false _ (if1 .left)) (take .ensures (a .cells .now) (a .tags .now)))
+    rw (call .given .1)
+    (judged-ruled (a .self) _ (a .cells .now) (a .tags .now) _ (sym (serves .ensures) ∙ not-false _ (if1 .left)) (take .ensures (a .cells .now) (a .tags .now)))
 
 returns-3 : tie.Need-returns-3
 returns-3 c =
@@ -133,7 +141,8 @@ returns-3 c =
     let serves = c .before .before .before .before .before .serves in
     let if1 = c .before .before .before .before .if1 in
     let split = c .split in
-    rw (call2 .given .1) (judged-ruled (a .self) _ (a .cells .now) (a .tags .now) _ (sym (serves .ensures) ∙ not-false _ (if1 .left)) (split .ensures (a .cells .now) (a .tags .now)))
+    rw (call2 .given .1)
+    (judged-ruled (a .self) _ (a .cells .now) (a .tags .now) _ (sym (serves .ensures) ∙ not-false _ (if1 .left)) (split .ensures (a .cells .now) (a .tags .now)))
 
 returns-4 : tie.Need-returns-4
 returns-4 c =
@@ -142,7 +151,8 @@ returns-4 c =
     let serves = c .before .before .before .before .before .serves in
     let if1 = c .before .before .before .before .if1 in
     let merge = c .merge in
-    rw (call3 .given .1) (judged-ruled (a .self) _ (a .cells .now) (a .tags .now) _ (sym (serves .ensures) ∙ not-false _ (if1 .left)) (merge .ensures (a .cells .now) (a .tags .now)))
+    rw (call3 .given .1)
+    (judged-ruled (a .self) _ (a .cells .now) (a .tags .now) _ (sym (serves .ensures) ∙ not-false _ (if1 .left)) (merge .ensures (a .cells .now) (a .tags .now)))
 
 returns-5 : tie.Need-returns-5
 returns-5 c =
@@ -151,7 +161,8 @@ returns-5 c =
     let serves = c .before .before .before .before .before .serves in
     let if1 = c .before .before .before .before .if1 in
     let give = c .give in
-    rw (call4 .given .1) (judged-ruled (a .self) _ (a .cells .now) (a .tags .now) _ (sym (serves .ensures) ∙ not-false _ (if1 .left)) (give .ensures (a .cells .now) (a .tags .now)))
+    rw (call4 .given .1)
+    (judged-ruled (a .self) _ (a .cells .now) (a .tags .now) _ (sym (serves .ensures) ∙ not-false _ (if1 .left)) (give .ensures (a .cells .now) (a .tags .now)))
 
 returns-6 : tie.Need-returns-6
 returns-6 c =
@@ -160,7 +171,8 @@ returns-6 c =
     let serves = c .before .before .before .before .before .serves in
     let if1 = c .before .before .before .before .if1 in
     let revoke = c .revoke in
-    rw (call5 .given .1) (judged-ruled (a .self) _ (a .cells .now) (a .tags .now) _ (sym (serves .ensures) ∙ not-false _ (if1 .left)) (revoke .ensures (a .cells .now) (a .tags .now)))
+    rw (call5 .given .1)
+    (judged-ruled (a .self) _ (a .cells .now) (a .tags .now) _ (sym (serves .ensures) ∙ not-false _ (if1 .left)) (revoke .ensures (a .cells .now) (a .tags .now)))
 
 same-length : tie.Need-same-length
 same-length c = search needs
@@ -184,7 +196,8 @@ returns-8 c =
     let serves = c .before .before .before .before .before .serves in
     let if1 = c .before .before .before .before .if1 in
     let collect = c .collect in
-    rw (call7 .given .1) (judged-ruled (a .self) _ (a .cells .now) (a .tags .now) _ (sym (serves .ensures) ∙ not-false _ (if1 .left)) (collect .ensures (a .cells .now) (a .tags .now)))
+    rw (call7 .given .1)
+    (judged-ruled (a .self) _ (a .cells .now) (a .tags .now) _ (sym (serves .ensures) ∙ not-false _ (if1 .left)) (collect .ensures (a .cells .now) (a .tags .now)))
 
 returns-9 : tie.Need-returns-9
 returns-9 c =
@@ -193,7 +206,8 @@ returns-9 c =
     let serves = c .before .before .before .before .before .serves in
     let if1 = c .before .before .before .before .if1 in
     let map = c .map in
-    rw (call8 .given .1) (judged-ruled (a .self) _ (a .cells .now) (a .tags .now) _ (sym (serves .ensures) ∙ not-false _ (if1 .left)) (map .ensures (a .cells .now) (a .tags .now)))
+    rw (call8 .given .1)
+    (judged-ruled (a .self) _ (a .cells .now) (a .tags .now) _ (sym (serves .ensures) ∙ not-false _ (if1 .left)) (map .ensures (a .cells .now) (a .tags .now)))
 
 returns-10 : tie.Need-returns-10
 returns-10 c =
@@ -202,7 +216,8 @@ returns-10 c =
     let serves = c .before .before .before .before .before .serves in
     let if1 = c .before .before .before .before .if1 in
     let unmap = c .unmap in
-    rw (call9 .given .1) (judged-ruled (a .self) _ (a .cells .now) (a .tags .now) _ (sym (serves .ensures) ∙ not-false _ (if1 .left)) (unmap .ensures (a .cells .now) (a .tags .now)))
+    rw (call9 .given .1)
+    (judged-ruled (a .self) _ (a .cells .now) (a .tags .now) _ (sym (serves .ensures) ∙ not-false _ (if1 .left)) (unmap .ensures (a .cells .now) (a .tags .now)))
 
 same-length-3 : tie.Need-same-length-3
 same-length-3 c = search needs
@@ -256,7 +271,8 @@ returns-14 c =
     let serves = c .before .before .before .before .before .serves in
     let if1 = c .before .before .before .before .if1 in
     let narrow = c .narrow in
-    rw (call13 .given .1) (judged-ruled (a .self) _ (a .cells .now) (a .tags .now) _ (sym (serves .ensures) ∙ not-false _ (if1 .left)) (narrow .ensures (a .cells .now) (a .tags .now)))
+    rw (call13 .given .1)
+    (judged-ruled (a .self) _ (a .cells .now) (a .tags .now) _ (sym (serves .ensures) ∙ not-false _ (if1 .left)) (narrow .ensures (a .cells .now) (a .tags .now)))
 
 returns-15 : tie.Need-returns-15
 returns-15 c =
@@ -265,7 +281,8 @@ returns-15 c =
     let serves = c .before .before .before .before .before .serves in
     let if1 = c .before .before .before .before .if1 in
     let number = c .number in
-    rw (call14 .given .1) (judged-ruled (a .self) _ (a .cells .now) (a .tags .now) _ (sym (serves .ensures) ∙ not-false _ (if1 .left)) (number .ensures (a .cells .now) (a .tags .now)))
+    rw (call14 .given .1)
+    (judged-ruled (a .self) _ (a .cells .now) (a .tags .now) _ (sym (serves .ensures) ∙ not-false _ (if1 .left)) (number .ensures (a .cells .now) (a .tags .now)))
 
 returns-16 : tie.Need-returns-16
 returns-16 c =
@@ -274,7 +291,8 @@ returns-16 c =
     let serves = c .before .before .before .before .before .serves in
     let if1 = c .before .before .before .before .if1 in
     let grant = c .grant in
-    rw (call15 .given .1) (judged-ruled (a .self) _ (a .cells .now) (a .tags .now) _ (sym (serves .ensures) ∙ not-false _ (if1 .left)) (grant .ensures (a .cells .now) (a .tags .now)))
+    rw (call15 .given .1)
+    (judged-ruled (a .self) _ (a .cells .now) (a .tags .now) _ (sym (serves .ensures) ∙ not-false _ (if1 .left)) (grant .ensures (a .cells .now) (a .tags .now)))
 
 returns-17 : tie.Need-returns-17
 returns-17 c =
@@ -283,7 +301,8 @@ returns-17 c =
     let serves = c .before .before .before .before .before .serves in
     let if1 = c .before .before .before .before .if1 in
     let receive = c .receive in
-    rw (call16 .given .1) (judged-ruled (a .self) _ (a .cells .now) (a .tags .now) _ (sym (serves .ensures) ∙ not-false _ (if1 .left)) (receive .ensures (a .cells .now) (a .tags .now)))
+    rw (call16 .given .1)
+    (judged-ruled (a .self) _ (a .cells .now) (a .tags .now) _ (sym (serves .ensures) ∙ not-false _ (if1 .left)) (receive .ensures (a .cells .now) (a .tags .now)))
 
 pub step-spec : {M : Type 1} → statement M
 step-spec =

@@ -46,11 +46,17 @@ returns-2 c =
     let read-at = c .before .before .before .before .before .before .before .before .before .before .read-at in
     let call = c .before .before .before .before .before .before .before .before .call in
     let step = c .before .before .before .before .step in
-    rw (sym (serves .ensures) ∙ not-false _ (if1 .left), sym (read-at .ensures .is) ∙ call .given .1) (ap (λ (o : Outcome). ran (record { answered = o .answer; used = call .given .0 .1 .0 }) (o .cells) (o .tags)) (step .ensures))
+    rw (sym (serves .ensures) ∙ not-false _ (if1 .left), sym (read-at .ensures .is) ∙ call .given .1)
+    (ap (λ (o : Outcome). ran (record { answered = o .answer; used = call .given .0 .1 .0 }) (o .cells) (o .tags)) (step .ensures))
 
 returns-3 : tie.Need-returns-3
 unfolding commandJudged onReading
-returns-3 c = rw (sym (c .before .before .before .before .before .serves .ensures) ∙ not-false _ (c .before .before .before .before .if1 .left), sym (c .before .before .before .read-at .ensures .is) ∙ c .before .enum-told .given .1, c .refused2 .ensures)
+returns-3 c =
+    let enum-told = c .before .enum-told in
+    let read-at = c .before .before .before .read-at in
+    let if1 = c .before .before .before .before .if1 in
+    let serves = c .before .before .before .before .before .serves in
+    rw (sym (serves .ensures) ∙ not-false _ (if1 .left), sym (read-at .ensures .is) ∙ enum-told .given .1, c .refused2 .ensures)
 
 pub step-command-spec : {M : Type 1} → statement M
 step-command-spec =

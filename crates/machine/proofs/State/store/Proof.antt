@@ -1,10 +1,10 @@
 -- `machine::State::store` meets its contract. Refused by `ruled-down`; granted, the cell and its tag are written: `done-write`.
 use borrow.Author.Needs.{needs}
-use Rattle.machine.proofs.Ruled.{ruled-down, ruled-done, done-write}
+use Rattle.calls.specs.declared.Call.the-variants.{Store}
 use Rattle.machine.specs.Step.{withCore}
 use Rattle.machine.specs.Reasons.{reasons}
 use Rattle.machine.specs.Effects.{effect}
-use Rattle.calls.specs.declared.Call.the-variants.{Store}
+use Rattle.machine.proofs.Ruled.{ruled-down, ruled-done, done-write}
 use Rattle.machine.proofs.State.store.Statement.{statement}
 use Rattle.machine.proofs.State.store.Tie as tie
 
@@ -33,7 +33,8 @@ returns c =
     let register = c .before .before .before .before .before .register in
     let register2 = c .before .before .before .before .register2 in
     let if1 = c .before .if1 in
-    rw (refused .ensures) (ruled-down (a .self) (Store (a .party) (a .a) (a .off) (a .s)) (store-code .result) (rw (store-code .ensures, addressed .ensures, register .ensures, register2 .ensures)) (if1 .taken) (a .cells .now) (a .tags .now))
+    rw (refused .ensures)
+    (ruled-down (a .self) (Store (a .party) (a .a) (a .off) (a .s)) (store-code .result) (rw (store-code .ensures, addressed .ensures, register .ensures, register2 .ensures)) (if1 .taken) (a .cells .now) (a .tags .now))
 
 dying-requires : tie.Need-dying-requires
 dying-requires c κs = search needs
@@ -70,7 +71,9 @@ returns-2 c =
     let stored = c .before .before .before .before .before .before .before .before .before .stored in
     let dying = c .before .before .before .before .before .before .before .before .before .before .dying in
     let place-number = c .before .before .before .before .before .before .before .before .place-number in
-    ruled-done (a .self) (Store (a .party) (a .a) (a .off) (a .s)) (store-code .result) (rw (store-code .ensures, addressed .ensures, register .ensures, register2 .ensures)) (if1 .left) (a .cells .now) (a .tags .now) _ (rw (put-tag .ensures, put-cell .ensures, stored .ensures, dying .ensures, place-number .ensures, addressed .ensures, register .ensures, register2 .ensures) (done-write (a .self) (a .self .core) _ _ _ _ _))
+    ruled-done (a .self) (Store (a .party) (a .a) (a .off) (a .s)) (store-code .result)
+    (rw (store-code .ensures, addressed .ensures, register .ensures, register2 .ensures)) (if1 .left) (a .cells .now) (a .tags .now) _
+    (rw (put-tag .ensures, put-cell .ensures, stored .ensures, dying .ensures, place-number .ensures, addressed .ensures, register .ensures, register2 .ensures) (done-write (a .self) (a .self .core) _ _ _ _ _))
 
 pub store-spec : {M : Type 1} → statement M
 store-spec =

@@ -2,16 +2,16 @@
 use borrow.Author.Needs.{needs}
 use mathlib.Core.Path.{sym, _∙_, ap}
 use mathlib.Core.Bool.{false}
-use Rattle.machine.specs.Reasons.{reasons}
+use Rattle.capabilities.specs.Refusals.{first}
+use Rattle.revocation.specs.Revocation.{Passing}
+use Rattle.calls.specs.declared.Call.the-variants.{Sweep}
 use Rattle.words.specs.WordReasons.{unnamed, notManager}
 use Rattle.words.specs.Words.{slot}
+use Rattle.machine.specs.Reasons.{reasons}
 use Rattle.machine.specs.Step.{left, withCore}
 use Rattle.machine.specs.Formed.{answered}
-use Rattle.revocation.specs.Revocation.{Passing}
-use Rattle.capabilities.specs.Refusals.{first}
 use Rattle.machine.specs.Effects.{effect}
 use Rattle.machine.proofs.Ruled.{ruled-down, ruled-done, manager-clear, runs, sweep-done, done-sweep}
-use Rattle.calls.specs.declared.Call.the-variants.{Sweep}
 use Rattle.machine.proofs.State.sweep.Statement.{statement}
 use Rattle.machine.proofs.State.sweep.Tie as tie
 
@@ -36,7 +36,8 @@ returns c =
     let first = c .before .before .before .first in
     let running = c .before .before .before .before .running in
     let if1 = c .before .if1 in
-    rw (refused .ensures) (ruled-down (a .self) (Sweep (a .party) (a .n)) (manager-code .result) (rw (manager-code .ensures, first .ensures, running .ensures)) (if1 .taken) (a .cells .now) (a .tags .now))
+    rw (refused .ensures)
+    (ruled-down (a .self) (Sweep (a .party) (a .n)) (manager-code .result) (rw (manager-code .ensures, first .ensures, running .ensures)) (if1 .taken) (a .cells .now) (a .tags .now))
 
 sweep-requires : tie.Need-sweep-requires
 sweep-requires c κs = search needs

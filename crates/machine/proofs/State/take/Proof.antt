@@ -1,14 +1,14 @@
 -- `machine::State::take` meets its contract. Refused by `ruled-down`; granted, the table changes and one register is put: `done-register`.
 use borrow.Author.Needs.{needs}
-use Rattle.machine.proofs.Ruled.{ruled-down, ruled-done, done-register}
+use mathlib.Core.Path.{_∙_}
+use Rattle.capabilities.specs.Refusals.{first}
+use Rattle.reservations.specs.Operations.{takeOf}
+use Rattle.calls.specs.declared.Call.the-variants.{Take}
+use Rattle.words.proofs.Named.{two-named, index-below}
 use Rattle.machine.specs.Step.{withCore}
 use Rattle.machine.specs.Reasons.{reasons}
 use Rattle.machine.specs.Effects.{effect}
-use Rattle.words.proofs.Named.{two-named, index-below}
-use Rattle.calls.specs.declared.Call.the-variants.{Take}
-use Rattle.reservations.specs.Operations.{takeOf}
-use Rattle.capabilities.specs.Refusals.{first}
-use mathlib.Core.Path.{_∙_}
+use Rattle.machine.proofs.Ruled.{ruled-down, ruled-done, done-register}
 use Rattle.machine.proofs.State.take.Statement.{statement}
 use Rattle.machine.proofs.State.take.Tie as tie
 
@@ -34,8 +34,8 @@ returns c =
 capability-requires : tie.Need-capability-requires
 capability-requires c κs = search needs
 
-with-table-requires : tie.Need-with-table-requires
-with-table-requires c κs = search needs
+with-core-requires : tie.Need-with-core-requires
+with-core-requires c κs = search needs
 
 mul-i : tie.Need-mul-i
 mul-i c = search needs
@@ -63,9 +63,10 @@ returns-2 c =
     let first = c .before .before .before .before .first in
     let take = c .before .before .before .before .before .take in
     let if1 = c .before .before .before .if1 in
-    let with-table = c .with-table in
+    let with-core = c .with-core in
     let capability = c .before .capability in
-    λ cells tags. ruled-done (a .self) (Take (a .party) (a .base) (a .reg)) (first .result) (first .ensures ∙ rw (take .ensures)) (if1 .left) cells tags _ (rw (with-table .ensures, capability .ensures, take .ensures) (done-register (a .self) _ _ cells tags (a .party) (a .reg) _))
+    λ cells tags. ruled-done (a .self) (Take (a .party) (a .base) (a .reg)) (first .result) (first .ensures ∙ rw (take .ensures)) (if1 .left) cells tags _
+    (rw (with-core .ensures, capability .ensures, take .ensures) (done-register (a .self) _ _ cells tags (a .party) (a .reg) _))
 
 pub take-spec : {M : Type 1} → statement M
 take-spec =
@@ -76,7 +77,7 @@ take-spec =
     refused-requires
     returns
     capability-requires
-    with-table-requires
+    with-core-requires
     mul-i
     add-i
     mul-word

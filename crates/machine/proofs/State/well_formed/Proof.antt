@@ -16,7 +16,14 @@ mailboxes-sound-requires c κs = search needs
 
 returns : tie.Need-returns
 unfolding wellFormed mailboxesSound
-returns c = let g = c .before .before .before .before .good .0 in let l : length (c .before .before .before .before .args .self .registers) ≡ 64 = search (length-under, g) in let m : length (c .before .before .before .before .args .self .mailboxes) ≡ 8 = search (length-under, g) in rw (l, m, c .mailboxes-sound .ensures, c .before .well-formed .ensures) (rw and-true)
+returns c =
+    let well-formed = c .before .well-formed in
+    let good = c .before .before .before .before .good in
+    let a = c .before .before .before .before .args in
+    let g = good .0 in
+    let l : length (a .self .registers) ≡ 64 = search (length-under, g) in
+    let m : length (a .self .mailboxes) ≡ 8 = search (length-under, g) in
+    rw (l, m, c .mailboxes-sound .ensures, well-formed .ensures) (rw and-true)
 
 pub well-formed-spec : {M : Type 1} → statement M
 well-formed-spec = tie.close (tie.spec well-formed-requires mailboxes-sound-requires returns)

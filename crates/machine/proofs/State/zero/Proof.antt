@@ -1,17 +1,17 @@
 -- `machine::State::zero` meets its contract. Refused by `ruled-down`; granted, memory is of the right size and the frame Dirty, so the page layer's zero is `zero-done`.
 use borrow.Author.Needs.{needs}
 use mathlib.Core.Path.{sym, _∙_, ap}
-use Rattle.machine.specs.Reasons.{reasons}
-use Rattle.words.specs.WordReasons.{unnamed, notManager}
-use Rattle.words.specs.Words.{empty}
-use Rattle.machine.specs.Step.{left, withCore}
-use Rattle.machine.specs.Formed.{answered}
-use Rattle.machine.specs.Effects.{withPages, effect}
+use Rattle.capabilities.specs.Refusals.{first}
 use Rattle.pages.specs.Mapping.{Zeroed}
 use Rattle.pages.proofs.Memory.{zero-done}
-use Rattle.capabilities.specs.Refusals.{first}
-use Rattle.machine.proofs.Ruled.{ruled-down, ruled-done, manager-clear, done-clear}
 use Rattle.calls.specs.declared.Call.the-variants.{Zero}
+use Rattle.words.specs.Words.{empty}
+use Rattle.words.specs.WordReasons.{unnamed, notManager}
+use Rattle.machine.specs.Step.{left, withCore}
+use Rattle.machine.specs.Effects.{withPages, effect}
+use Rattle.machine.specs.Reasons.{reasons}
+use Rattle.machine.specs.Formed.{answered}
+use Rattle.machine.proofs.Ruled.{ruled-down, ruled-done, manager-clear, done-clear}
 use Rattle.machine.proofs.State.zero.Statement.{statement}
 use Rattle.machine.proofs.State.zero.Tie as tie
 
@@ -32,13 +32,14 @@ returns c =
     let manager-code = c .before .before .manager-code in
     let dirty-code = c .before .before .before .dirty-code in
     let if1 = c .before .if1 in
-    rw (refused .ensures) (ruled-down (a .self) (Zero (a .party) (a .frame)) (manager-code .result) (rw (manager-code .ensures, dirty-code .ensures)) (if1 .taken) (a .cells .now) (a .tags .now))
+    rw (refused .ensures)
+    (ruled-down (a .self) (Zero (a .party) (a .frame)) (manager-code .result) (rw (manager-code .ensures, dirty-code .ensures)) (if1 .taken) (a .cells .now) (a .tags .now))
 
 zero-requires : tie.Need-zero-requires
 zero-requires c κs = search needs
 
-with-pages-requires : tie.Need-with-pages-requires
-with-pages-requires c κs = search needs
+with-core-requires : tie.Need-with-core-requires
+with-core-requires c κs = search needs
 
 granted-requires : tie.Need-granted-requires
 granted-requires c κs = search needs
@@ -57,10 +58,14 @@ returns-2 c =
     let manager-code = c .before .before .before .before .before .before .before .before .before .before .before .manager-code in
     let if1 = c .before .before .before .before .before .before .before .before .before .before .if1 in
     let zero = c .before .before .before .before .before .before .before .zero in
-    let pre = c .before .before .before .before .before .before .before .before .before .before .before .before .before .before .before .before .before .pre in
     let granted = c .granted in
-    let with-pages = c .before .with-pages in
-    let clear = sym (dirty-code .ensures) ∙ manager-clear (unnamed (a .party)) (notManager (a .party)) _ _ (manager-code .ensures) (if1 .left) in let z = zero .ensures ∙ zero-done (a .self .core .pages) (a .frame) (a .cells .now) (a .tags .now) pre clear in ruled-done (a .self) (Zero (a .party) (a .frame)) (manager-code .result) (rw (manager-code .ensures, dirty-code .ensures)) (if1 .left) (a .cells .now) (a .tags .now) _ (rw (granted .ensures, with-pages .ensures) (ap (λ (y : Zeroed). left (answered 0 empty (withCore (a .self) (withPages (a .self .core) (y .answer .pages)))) (y .cells) (y .tags)) z ∙ done-clear (a .self) _ _ _ _ _))
+    let with-core = c .before .with-core in
+    let pre = c .before .before .before .before .before .before .before .before .before .before .before .before .before .before .before .before .before .pre in
+    let clear = sym (dirty-code .ensures) ∙ manager-clear (unnamed (a .party)) (notManager (a .party)) _ _ (manager-code .ensures) (if1 .left) in
+    let z = zero .ensures ∙ zero-done (a .self .core .pages) (a .frame) (a .cells .now) (a .tags .now) pre clear in
+    ruled-done (a .self) (Zero (a .party) (a .frame)) (manager-code .result) (rw (manager-code .ensures, dirty-code .ensures)) (if1 .left) (a .cells .now)
+    (a .tags .now) _
+    (rw (granted .ensures, with-core .ensures) (ap (λ (y : Zeroed). left (answered 0 empty (withCore (a .self) (withPages (a .self .core) (y .answer .pages)))) (y .cells) (y .tags)) z ∙ done-clear (a .self) _ _ _ _ _))
 
 pub zero-spec : {M : Type 1} → statement M
 zero-spec =
@@ -71,7 +76,7 @@ zero-spec =
     refused-requires
     returns
     zero-requires
-    with-pages-requires
+    with-core-requires
     granted-requires
     same-length
     same-length-2

@@ -5,11 +5,11 @@ use native.Mathlib.Omega.{arith}
 use mathlib.Core.Path.{_≡_, refl, _∙_, ap}
 use lib.ListN.{length, take}
 use lib.Seq.{take-all}
+use Rattle.capabilities.specs.Lists.{each}
 use Rattle.capabilities.proofs.Arrays.{length-under}
 use Rattle.capabilities.proofs.Lists.{each-more}
-use Rattle.capabilities.specs.Lists.{each}
-use Rattle.machine.specs.Formed.{mailboxSound}
 use Rattle.words.specs.Words.{empty}
+use Rattle.machine.specs.Formed.{mailboxSound}
 use Rattle.machine.proofs.step.mailboxes_sound.Statement.{statement}
 use Rattle.machine.proofs.step.mailboxes_sound.Tie as tie
 
@@ -39,7 +39,10 @@ loop-less : tie.Need-loop-less Inv-loop μ-loop
 loop-less c = omega arith
 
 loop-again : tie.Need-loop-again Inv-loop μ-loop
-loop-again c = (omega arith, c .before .before .before .loop .inv .1, rw (each-more mailboxSound (c .before .before .before .before .args .t1) (c .before .before .before .loop .i) empty (omega arith)) (rw (c .mailbox-sound .ensures, c .before .before .before .loop .inv .2)))
+loop-again c =
+    let loop = c .before .before .before .loop in
+    let a = c .before .before .before .before .args in
+    (omega arith, loop .inv .1, rw (each-more mailboxSound (a .t1) (loop .i) empty (omega arith)) (rw (c .mailbox-sound .ensures, loop .inv .2)))
 
 returns : tie.Need-returns Inv-loop μ-loop
 returns c = c .before .loop .inv .2 ∙ ap (each mailboxSound 0) (take-all (c .before .loop .i) (c .before .before .args .t1) (omega arith))

@@ -3,13 +3,13 @@ use Prim.Native.Nat.{_≤_, _-_}
 use native.Mathlib.Omega.{arith}
 use mathlib.Core.Path.{_≡_, refl, _∙_, ap}
 use lib.ListN.{length, take}
-use Rattle.pages.specs.declared.PageState.the-variants.{Unmapped}
-use Rattle.pages.specs.Entries.{pageEntry}
-use Rattle.pages.specs.Freed.{freedIn, allFreed}
+use lib.Seq.{take-all}
 use Rattle.capabilities.specs.Lists.{each}
 use Rattle.capabilities.proofs.Lists.{each-more}
 use Rattle.capabilities.proofs.Arrays.{length-under}
-use lib.Seq.{take-all}
+use Rattle.pages.specs.declared.PageState.the-variants.{Unmapped}
+use Rattle.pages.specs.Entries.{pageEntry}
+use Rattle.pages.specs.Freed.{freedIn, allFreed}
 use Rattle.pages.proofs.Pages.all_freed.Statement.{statement}
 use Rattle.pages.proofs.Pages.all_freed.Tie as tie
 
@@ -39,11 +39,20 @@ loop-less : tie.Need-loop-less Inv-loop μ-loop
 loop-less c = omega arith
 
 loop-again : tie.Need-loop-again Inv-loop μ-loop
-loop-again c = (omega arith, c .before .before .before .loop .inv .1, rw (each-more (freedIn (c .before .before .before .before .before .args .range)) (c .before .before .before .before .before .args .self .pages) (c .before .before .before .loop .p) (pageEntry Unmapped) (omega arith)) (rw (c .freed-in .ensures, c .before .before .before .loop .inv .2)))
+loop-again c =
+    let loop = c .before .before .before .loop in
+    let a = c .before .before .before .before .before .args in (
+      omega arith,
+      loop .inv .1,
+      rw (each-more (freedIn (a .range)) (a .self .pages) (loop .p) (pageEntry Unmapped) (omega arith)) (rw (c .freed-in .ensures, loop .inv .2)),
+    )
 
 returns : tie.Need-returns Inv-loop μ-loop
 unfolding allFreed
-returns c = (c .before .loop .inv .2 ∙ ap (each (freedIn (c .before .before .before .args .range)) 0) (take-all (c .before .loop .p) (c .before .before .before .args .self .pages) (omega arith)))
+returns c =
+    let loop = c .before .loop in
+    let a = c .before .before .before .args in
+    (loop .inv .2 ∙ ap (each (freedIn (a .range)) 0) (take-all (loop .p) (a .self .pages) (omega arith)))
 
 pub all-freed-spec : {M : Type 1} → statement M
 all-freed-spec =

@@ -4,13 +4,13 @@ use native.Mathlib.Omega.{arith}
 use mathlib.Core.Path.{_≡_, refl, _∙_, ap}
 use mathlib.Core.Bool.{not}
 use lib.ListN.{length, take}
-use Rattle.pages.specs.declared.PageState.the-variants.{Unmapped}
-use Rattle.pages.specs.Entries.{pageEntry}
-use Rattle.pages.specs.Mapping.{notMappedIn, anyMapped}
+use lib.Seq.{take-all}
 use Rattle.capabilities.specs.Lists.{each}
 use Rattle.capabilities.proofs.Lists.{each-more}
 use Rattle.capabilities.proofs.Arrays.{length-under}
-use lib.Seq.{take-all}
+use Rattle.pages.specs.declared.PageState.the-variants.{Unmapped}
+use Rattle.pages.specs.Entries.{pageEntry}
+use Rattle.pages.specs.Mapping.{notMappedIn, anyMapped}
 use Rattle.pages.proofs.Pages.any_mapped.Statement.{statement}
 use Rattle.pages.proofs.Pages.any_mapped.Tie as tie
 
@@ -40,11 +40,20 @@ loop-less : tie.Need-loop-less Inv-loop μ-loop
 loop-less c = omega arith
 
 loop-again : tie.Need-loop-again Inv-loop μ-loop
-loop-again c = (omega arith, c .before .before .before .loop .inv .1, rw (each-more (notMappedIn (c .before .before .before .before .before .args .range)) (c .before .before .before .before .before .args .self .pages) (c .before .before .before .loop .p) (pageEntry Unmapped) (omega arith)) (rw (c .not-mapped-in .ensures, c .before .before .before .loop .inv .2)))
+loop-again c =
+    let loop = c .before .before .before .loop in
+    let a = c .before .before .before .before .before .args in (
+      omega arith,
+      loop .inv .1,
+      rw (each-more (notMappedIn (a .range)) (a .self .pages) (loop .p) (pageEntry Unmapped) (omega arith)) (rw (c .not-mapped-in .ensures, loop .inv .2)),
+    )
 
 returns : tie.Need-returns Inv-loop μ-loop
 unfolding anyMapped
-returns c = ap not (c .before .loop .inv .2 ∙ ap (each (notMappedIn (c .before .before .before .args .range)) 0) (take-all (c .before .loop .p) (c .before .before .before .args .self .pages) (omega arith)))
+returns c =
+    let loop = c .before .loop in
+    let a = c .before .before .before .args in
+    ap not (loop .inv .2 ∙ ap (each (notMappedIn (a .range)) 0) (take-all (loop .p) (a .self .pages) (omega arith)))
 
 pub any-mapped-spec : {M : Type 1} → statement M
 any-mapped-spec =

@@ -20,7 +20,11 @@ returns c = refl
 
 returns-2 : tie.Need-returns-2
 unfolding frameAt
-returns-2 c = let l : length (c .before .before .args .t1 .frames) ≡ 128 = let g = c .before .before .good .0 in search (length-under, g) in ap (λ e. e .state) (sym (List·getD-eq-default (c .before .before .args .t1 .frames) _ (omega arith)))
+returns-2 c =
+    let a = c .before .before .args in
+    let good = c .before .before .good in
+    let l : length (a .t1 .frames) ≡ 128 = let g = good .0 in search (length-under, g) in
+    ap (λ e. e .state) (sym (List·getD-eq-default (a .t1 .frames) _ (omega arith)))
 
 pub frame-at-spec : {M : Type 1} → statement M
 frame-at-spec = tie.close (tie.spec cast-k element-copy-out-entry returns returns-2)

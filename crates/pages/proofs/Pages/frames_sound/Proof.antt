@@ -7,14 +7,14 @@ use mathlib.Core.List.{List}
 use lib.Dec.{ltb, eqb}
 use mathlib.Core.Path.{_≡_, refl, _∙_, ap}
 use lib.ListN.{length, take, getD}
+use lib.Seq.{take-all}
+use Rattle.capabilities.specs.Lists.{each, pick}
+use Rattle.capabilities.proofs.Lists.{each-more, each-same}
+use Rattle.capabilities.proofs.Arrays.{length-under}
 use Rattle.pages.specs.Entries.{frameEntry, isShown, isDirty}
 use Rattle.pages.specs.declared.FrameState.the-variants.{Dirty}
 use Rattle.pages.specs.declared.FrameEntry.{FrameEntry}
 use Rattle.pages.specs.Layer.{frameSound}
-use Rattle.capabilities.specs.Lists.{each, pick}
-use Rattle.capabilities.proofs.Lists.{each-more, each-same}
-use Rattle.capabilities.proofs.Arrays.{length-under}
-use lib.Seq.{take-all}
 use Rattle.pages.proofs.Pages.frames_sound.Statement.{statement}
 use Rattle.pages.proofs.Pages.frames_sound.Tie as tie
 
@@ -33,7 +33,11 @@ tally-requires c κs = search needs
 
 loop-holds : tie.Need-loop-holds Inv-loop μ-loop
 unfolding each
-loop-holds c = let l : length (c .before .before .args .self .frames) ≡ 128 = let g = c .before .before .good .0 in search (length-under, g) in (omega arith, l, refl)
+loop-holds c =
+    let a = c .before .before .args in
+    let good = c .before .before .good in
+    let l : length (a .self .frames) ≡ 128 = let g = good .0 in search (length-under, g) in
+    (omega arith, l, refl)
 
 array-copy-out-entry : tie.Need-array-copy-out-entry Inv-loop μ-loop
 array-copy-out-entry c = omega arith
@@ -61,8 +65,12 @@ unfolding counted
 loop-again c =
     let loop = c .before .before .before .loop in
     let a = c .before .before .before .before .before .before .args in
-    let tally = c .before .before .before .before .before .tally in
-    (omega arith, loop .inv .1, rw (each-more (counted (a .self .f) (tally .result)) (a .self .frames) (loop .k) (frameEntry Dirty) (omega arith)) (rw (c .frame-sound .ensures, c .before .before .before .loop .inv .2)))
+    let tally = c .before .before .before .before .before .tally in (
+      omega arith,
+      loop .inv .1,
+      rw (each-more (counted (a .self .f) (tally .result)) (a .self .frames) (loop .k) (frameEntry Dirty) (omega arith))
+          (rw (c .frame-sound .ensures, c .before .before .before .loop .inv .2)),
+    )
 
 returns : tie.Need-returns Inv-loop μ-loop
 unfolding counted frameSound
@@ -70,7 +78,9 @@ returns c =
     let loop = c .before .loop in
     let a = c .before .before .before .before .args in
     let tally = c .before .before .before .tally in
-    loop .inv .2 ∙ ap (each (counted (a .self .f) (tally .result)) 0) (take-all (loop .k) (a .self .frames) (omega arith)) ∙ each-same (counted (a .self .f) (tally .result)) (frameSound (a .self .f) (a .self .pages)) 0 (a .self .frames) (λ i x h. rw (tally .ensures (0 + i) (omega (arith, loop .inv .1))))
+    loop .inv .2 ∙ ap (each (counted (a .self .f) (tally .result)) 0) (take-all (loop .k) (a .self .frames) (omega arith)) ∙ each-same
+    (counted (a .self .f) (tally .result)) (frameSound (a .self .f) (a .self .pages)) 0 (a .self .frames)
+    (λ i x h. rw (tally .ensures (0 + i) (omega (arith, loop .inv .1))))
 
 pub frames-sound-spec : {M : Type 1} → statement M
 frames-sound-spec =

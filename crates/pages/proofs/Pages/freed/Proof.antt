@@ -1,13 +1,13 @@
 -- `pages::Pages::freed` meets its contract. After p turns the first p entries are replaced: `replaced-more`.
-use Rattle.pages.proofs.Replacing.{replaced, replaced-none, replaced-more, replaced-all}
 use Prim.Native.Nat.{_≤_, _-_}
 use native.Mathlib.Omega.{arith}
 use mathlib.Core.Path.{_≡_}
 use lib.ListN.{length}
+use Rattle.capabilities.proofs.Arrays.{length-under}
 use Rattle.pages.specs.declared.PageState.the-variants.{Unmapped}
 use Rattle.pages.specs.Entries.{pageEntry}
 use Rattle.pages.specs.Mapping.{freedEntry, freedOf}
-use Rattle.capabilities.proofs.Arrays.{length-under}
+use Rattle.pages.proofs.Replacing.{replaced, replaced-none, replaced-more, replaced-all}
 use Rattle.pages.proofs.Pages.freed.Statement.{statement}
 use Rattle.pages.proofs.Pages.freed.Tie as tie
 
@@ -18,7 +18,9 @@ abbrev μ-loop : tie.MeasureT-loop
 μ-loop range self₀ p₀ self p = 256 - p
 
 loop-holds : tie.Need-loop-holds Inv-loop μ-loop
-loop-holds c = let l : length (c .args .t1 .pages) ≡ 256 = let g = c .good .0 in search (length-under, g) in (omega arith, l, replaced-none (freedEntry (c .args .range)) (c .args .t1))
+loop-holds c =
+    let l : length (c .args .t1 .pages) ≡ 256 = let g = c .good .0 in search (length-under, g) in
+    (omega arith, l, replaced-none (freedEntry (c .args .range)) (c .args .t1))
 
 mul-entry : tie.Need-mul-entry Inv-loop μ-loop
 mul-entry c = omega arith
@@ -42,11 +44,20 @@ loop-less : tie.Need-loop-less Inv-loop μ-loop
 loop-less c = omega arith
 
 loop-again : tie.Need-loop-again Inv-loop μ-loop
-loop-again c = (omega arith, c .before .before .before .loop .inv .1, replaced-more (freedEntry (c .before .before .before .before .args .range)) (c .before .before .before .before .args .t1) (c .before .before .before .loop .self) (c .before .before .before .loop .p) (pageEntry Unmapped) _ (omega arith) (c .before .before .before .loop .inv .2) (c .freed-entry .ensures))
+loop-again c =
+    let loop = c .before .before .before .loop in
+    let a = c .before .before .before .before .args in (
+      omega arith,
+      loop .inv .1,
+      replaced-more (freedEntry (a .range)) (a .t1) (loop .self) (loop .p) (pageEntry Unmapped) _ (omega arith) (loop .inv .2) (c .freed-entry .ensures),
+    )
 
 returns : tie.Need-returns Inv-loop μ-loop
 unfolding freedOf
-returns c = replaced-all (freedEntry (c .before .before .args .range)) (c .before .before .args .t1) (c .before .loop .self) (c .before .loop .p) (omega arith) (c .before .loop .inv .2)
+returns c =
+    let loop = c .before .loop in
+    let a = c .before .before .args in
+    replaced-all (freedEntry (a .range)) (a .t1) (loop .self) (loop .p) (omega arith) (loop .inv .2)
 
 pub freed-spec : {M : Type 1} → statement M
 freed-spec =

@@ -1,8 +1,8 @@
 -- `pages::Pages::map` meets its contract. Refused, the layer is as given; granted, the page's and the frame's entries are put.
 use borrow.Author.Needs.{needs}
 use mathlib.Core.Path.{sym, _∙_}
-use Rattle.pages.proofs.Answers.{refused, granted}
 use Rattle.pages.specs.Mapping.{mapOf, mapped}
+use Rattle.pages.proofs.Answers.{refused, granted}
 use Rattle.pages.proofs.Pages.map.Statement.{statement}
 use Rattle.pages.proofs.Pages.map.Tie as tie
 
@@ -21,7 +21,11 @@ with-frame-requires c κs = search needs
 
 returns-2 : tie.Need-returns-2
 unfolding mapOf mapped
-returns-2 c = rw (c .with-frame .ensures, c .before .with-page .ensures) (granted _ _ _ (sym (c .before .before .before .map-code .ensures) ∙ c .before .before .if1 .left))
+returns-2 c =
+    let with-page = c .before .with-page in
+    let if1 = c .before .before .if1 in
+    let map-code = c .before .before .before .map-code in
+    rw (c .with-frame .ensures, with-page .ensures) (granted _ _ _ (sym (map-code .ensures) ∙ if1 .left))
 
 pub map-spec : {M : Type 1} → statement M
 map-spec =

@@ -5,12 +5,12 @@ use native.Mathlib.Omega.{arith}
 use mathlib.Core.Path.{_≡_, refl, _∙_, ap}
 use lib.ListN.{length, take}
 use lib.Seq.{take-all}
-use Rattle.pages.specs.declared.PageState.the-variants.{Unmapped}
-use Rattle.pages.specs.Entries.{pageEntry}
-use Rattle.pages.specs.Layer.{pageSound}
 use Rattle.capabilities.specs.Lists.{each}
 use Rattle.capabilities.proofs.Lists.{each-more}
 use Rattle.capabilities.proofs.Arrays.{length-under}
+use Rattle.pages.specs.declared.PageState.the-variants.{Unmapped}
+use Rattle.pages.specs.Entries.{pageEntry}
+use Rattle.pages.specs.Layer.{pageSound}
 use Rattle.pages.proofs.Pages.pages_sound.Statement.{statement}
 use Rattle.pages.proofs.Pages.pages_sound.Tie as tie
 
@@ -44,10 +44,20 @@ loop-less c = omega arith
 
 loop-again : tie.Need-loop-again Inv-loop μ-loop
 unfolding pageSound
-loop-again c = (omega arith, c .before .before .before .loop .inv .1, rw (each-more (pageSound (c .before .before .before .before .before .args .self .v) (c .before .before .before .before .before .args .self .f)) (c .before .before .before .before .before .args .self .pages) (c .before .before .before .loop .p) (pageEntry Unmapped) (omega arith)) (rw (c .page-sound .ensures, c .before .before .before .loop .inv .2)))
+loop-again c =
+    let loop = c .before .before .before .loop in
+    let a = c .before .before .before .before .before .args in (
+      omega arith,
+      loop .inv .1,
+      rw (each-more (pageSound (a .self .v) (a .self .f)) (a .self .pages) (loop .p) (pageEntry Unmapped) (omega arith))
+          (rw (c .page-sound .ensures, loop .inv .2)),
+    )
 
 returns : tie.Need-returns Inv-loop μ-loop
-returns c = c .before .loop .inv .2 ∙ ap (each (pageSound (c .before .before .before .args .self .v) (c .before .before .before .args .self .f)) 0) (take-all (c .before .loop .p) (c .before .before .before .args .self .pages) (omega arith))
+returns c =
+    let loop = c .before .loop in
+    let a = c .before .before .before .args in
+    loop .inv .2 ∙ ap (each (pageSound (a .self .v) (a .self .f)) 0) (take-all (loop .p) (a .self .pages) (omega arith))
 
 pub pages-sound-spec : {M : Type 1} → statement M
 pages-sound-spec =

@@ -20,7 +20,11 @@ returns c = refl
 
 returns-2 : tie.Need-returns-2
 unfolding pageAt
-returns-2 c = let l : length (c .before .args .t1 .pages) ≡ 256 = let g = c .before .good .0 in search (length-under, g) in ap (λ e. e .state) (sym (List·getD-eq-default (c .before .args .t1 .pages) _ (omega arith)))
+returns-2 c =
+    let a = c .before .args in
+    let good = c .before .good in
+    let l : length (a .t1 .pages) ≡ 256 = let g = good .0 in search (length-under, g) in
+    ap (λ e. e .state) (sym (List·getD-eq-default (a .t1 .pages) _ (omega arith)))
 
 pub state-of-spec : {M : Type 1} → statement M
 state-of-spec = tie.close (tie.spec mul-entry element-copy-out-entry returns returns-2)

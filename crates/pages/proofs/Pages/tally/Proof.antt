@@ -4,13 +4,13 @@ use Prim.Native.Nat.{_≤_, _-_, _+_}
 use borrow.Author.Needs.{needs}
 use mathlib.Core.Path.{_≡_, refl, sym, subst}
 use lib.ListN.{length, take, getD-replicate, length-set}
+use mathlib.Core.Logic.{⊎-elim}
+use lib.Seq.{take-all, length-take-le}
+use Rattle.capabilities.proofs.Arrays.{length-under}
 use Rattle.pages.specs.Entries.{pageEntry}
 use Rattle.pages.specs.declared.PageState.the-variants.{Unmapped}
 use Rattle.pages.specs.Layer.{Tally, mappings}
 use Rattle.pages.proofs.Mappings.{mappings-le, tally-hit, tally-miss}
-use Rattle.capabilities.proofs.Arrays.{length-under}
-use mathlib.Core.Logic.{⊎-elim}
-use lib.Seq.{take-all, length-take-le}
 use Rattle.pages.proofs.Pages.tally.Statement.{statement}
 use Rattle.pages.proofs.Pages.tally.Tie as tie
 
@@ -22,7 +22,11 @@ abbrev μ-loop : tie.MeasureT-loop
 
 loop-holds : tie.Need-loop-holds Inv-loop μ-loop
 unfolding mappings
-loop-holds c = let l : length (c .before .args .self .pages) ≡ 256 = let g = c .before .good .0 in search (length-under, g) in (omega arith, l, refl, λ k j. getD-replicate 128 k 0 0 j)
+loop-holds c =
+    let a = c .before .args in
+    let good = c .before .good in
+    let l : length (a .self .pages) ≡ 256 = let g = good .0 in search (length-under, g) in
+    (omega arith, l, refl, λ k j. getD-replicate 128 k 0 0 j)
 
 mul-entry : tie.Need-mul-entry Inv-loop μ-loop
 mul-entry c = omega arith
@@ -44,7 +48,8 @@ add-tally c =
     let loop = c .before .before .before .before .loop in
     let frame-number = c .before .frame-number in
     let a = c .before .before .before .before .before .before .args in
-    omega (arith, loop .inv .3 (frame-number .result) (omega arith), mappings-le (frame-number .result) (take (loop .p) (a .self .pages)), length-take-le (loop .p) (a .self .pages) (omega arith))
+    omega
+    (arith, loop .inv .3 (frame-number .result) (omega arith), mappings-le (frame-number .result) (take (loop .p) (a .self .pages)), length-take-le (loop .p) (a .self .pages) (omega arith))
 
 mul-tally-2 : tie.Need-mul-tally-2 Inv-loop μ-loop
 mul-tally-2 c = omega arith
@@ -67,11 +72,17 @@ loop-again c =
       omega arith,
       loop .inv .1,
       ⊎-elim (λ w. rw (w .1, length-set) (loop .inv .2)) (λ w. rw (w .1) (loop .inv .2)) (if1 .came),
-      ⊎-elim (λ w. subst (λ t. Tally t (take (loop .p + 1) (a .self .pages))) (sym (w .1)) (tally-hit (loop .tally) (a .self .pages) (loop .p) (pageEntry Unmapped) (frame-number .result) (omega arith) (frame-number .ensures) (w .0 .taken) (loop .inv .2) (loop .inv .3))) (λ w. subst (λ t. Tally t (take (loop .p + 1) (a .self .pages))) (sym (w .1)) (tally-miss (loop .tally) (a .self .pages) (loop .p) (pageEntry Unmapped) (omega arith) (rw (← (frame-number .ensures)) (w .0 .left)) (loop .inv .3))) (if1 .came),
+      ⊎-elim
+          (λ w. subst (λ t. Tally t (take (loop .p + 1) (a .self .pages))) (sym (w .1)) (tally-hit (loop .tally) (a .self .pages) (loop .p) (pageEntry Unmapped) (frame-number .result) (omega arith) (frame-number .ensures) (w .0 .taken) (loop .inv .2) (loop .inv .3)))
+          (λ w. subst (λ t. Tally t (take (loop .p + 1) (a .self .pages))) (sym (w .1)) (tally-miss (loop .tally) (a .self .pages) (loop .p) (pageEntry Unmapped) (omega arith) (rw (← (frame-number .ensures)) (w .0 .left)) (loop .inv .3)))
+          (if1 .came),
     )
 
 returns : tie.Need-returns Inv-loop μ-loop
-returns c = subst (Tally (c .before .loop .tally)) (take-all (c .before .loop .p) (c .before .before .before .args .self .pages) (omega arith)) (c .before .loop .inv .3)
+returns c =
+    let loop = c .before .loop in
+    let a = c .before .before .before .args in
+    subst (Tally (loop .tally)) (take-all (loop .p) (a .self .pages) (omega arith)) (loop .inv .3)
 
 pub tally-spec : {M : Type 1} → statement M
 tally-spec =

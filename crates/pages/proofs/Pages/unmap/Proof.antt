@@ -1,8 +1,8 @@
 -- `pages::Pages::unmap` meets its contract. Refused, the layer is as given; granted, the page is Freed and its frame soiled.
 use borrow.Author.Needs.{needs}
 use mathlib.Core.Path.{sym, _∙_}
-use Rattle.pages.proofs.Answers.{refused, granted}
 use Rattle.pages.specs.Mapping.{unmapOf, unmapped}
+use Rattle.pages.proofs.Answers.{refused, granted}
 use Rattle.pages.proofs.Pages.unmap.Statement.{statement}
 use Rattle.pages.proofs.Pages.unmap.Tie as tie
 
@@ -24,7 +24,12 @@ soiled-requires c κs = search needs
 
 returns-2 : tie.Need-returns-2
 unfolding unmapOf unmapped
-returns-2 c = rw (c .soiled .ensures, c .before .with-page .ensures, c .before .before .page-at .ensures) (granted _ _ _ (sym (c .before .before .before .before .unmap-code .ensures) ∙ c .before .before .before .if1 .left))
+returns-2 c =
+    let with-page = c .before .with-page in
+    let page-at = c .before .before .page-at in
+    let if1 = c .before .before .before .if1 in
+    let unmap-code = c .before .before .before .before .unmap-code in
+    rw (c .soiled .ensures, with-page .ensures, page-at .ensures) (granted _ _ _ (sym (unmap-code .ensures) ∙ if1 .left))
 
 pub unmap-spec : {M : Type 1} → statement M
 unmap-spec =

@@ -19,7 +19,15 @@ frames-sound-requires c κs = search needs
 
 returns : tie.Need-returns
 unfolding wellFormed
-returns c = let g = c .before .before .before .good .0 in let l : length (c .before .before .before .args .self .pages) ≡ 256 = search (length-under, g) in let m : length (c .before .before .before .args .self .frames) ≡ 128 = search (length-under, g) in rw (l, m, c .frames-sound .ensures, c .before .pages-sound .ensures, c .before .before .in-range .ensures) (rw and-true)
+returns c =
+    let pages-sound = c .before .pages-sound in
+    let in-range = c .before .before .in-range in
+    let good = c .before .before .before .good in
+    let a = c .before .before .before .args in
+    let g = good .0 in
+    let l : length (a .self .pages) ≡ 256 = search (length-under, g) in
+    let m : length (a .self .frames) ≡ 128 = search (length-under, g) in
+    rw (l, m, c .frames-sound .ensures, pages-sound .ensures, in-range .ensures) (rw and-true)
 
 pub well-formed-spec : {M : Type 1} → statement M
 well-formed-spec =

@@ -21,7 +21,11 @@ returns c = refl
 
 returns-2 : tie.Need-returns-2
 unfolding withFrame
-returns-2 c = let l : length (c .before .before .args .t1 .frames) ≡ 128 = let g = c .before .before .good .0 in search (length-under, g) in ap (λ x. record { v = c .before .before .args .t1 .v; f = c .before .before .args .t1 .f; pages = c .before .before .args .t1 .pages; frames = x }) (sym (set-out (c .before .before .args .t1 .frames) _ _ (omega arith)))
+returns-2 c =
+    let a = c .before .before .args in
+    let good = c .before .before .good in
+    let l : length (a .t1 .frames) ≡ 128 = let g = good .0 in search (length-under, g) in
+    ap (λ x. record { v = a .t1 .v; f = a .t1 .f; pages = a .t1 .pages; frames = x }) (sym (set-out (a .t1 .frames) _ _ (omega arith)))
 
 pub with-frame-spec : {M : Type 1} → statement M
 with-frame-spec = tie.close (tie.spec cast-k element-set-from-self returns returns-2)

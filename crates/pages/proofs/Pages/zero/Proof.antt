@@ -44,7 +44,8 @@ returns-2 c =
     let a = c .before .before .before .before .before .before .before .before .before .before .before .before .before .args in
     let zero-code = c .before .before .before .before .before .before .before .before .before .before .zero-code in
     let if1 = c .before .before .before .before .before .before .before .before .before .if1 in
-    rw (with-frame .ensures, clear-tags-of .ensures, clear-cells-of .ensures) (zero-granted (a .self) (a .frame) (a .cells .now) (a .tags .now) _ (zero-code .ensures) (if1 .left))
+    rw (with-frame .ensures, clear-tags-of .ensures, clear-cells-of .ensures)
+    (zero-granted (a .self) (a .frame) (a .cells .now) (a .tags .now) _ (zero-code .ensures) (if1 .left))
 
 pub zero-spec : {M : Type 1} → statement M
 zero-spec =

@@ -1,6 +1,6 @@
 -- `pages::freed::freed_in` meets its contract. By the contracts of the callees.
-use Rattle.pages.specs.Freed.{freedIn}
 use borrow.Author.Needs.{needs}
+use Rattle.pages.specs.Freed.{freedIn}
 use Rattle.pages.proofs.freed.freed_in.Statement.{statement}
 use Rattle.pages.proofs.freed.freed_in.Tie as tie
 

@@ -31,13 +31,20 @@ loop-less : tie.Need-loop-less Inv-loop μ-loop
 loop-less c = omega arith
 
 loop-again : tie.Need-loop-again Inv-loop μ-loop
-loop-again c = (omega arith, simp length-set (c .before .loop .inv .1), ap (λ s. set s (c .before .loop .i) 0) (c .before .loop .inv .2) ∙ fill-more (c .before .loop .i) 0 (c .before .before .args .cells .now) (omega arith))
+loop-again c =
+    let loop = c .before .loop in
+    let a = c .before .before .args in
+    (omega arith, simp length-set (loop .inv .1), ap (λ s. set s (loop .i) 0) (loop .inv .2) ∙ fill-more (loop .i) 0 (a .cells .now) (omega arith))
 
 same-length : tie.Need-same-length Inv-loop μ-loop
 same-length c = c .before .loop .inv .1
 
 returns : tie.Need-returns Inv-loop μ-loop
-returns c = let e : c .before .loop .i ≡ length (c .before .before .args .cells .now) = omega arith in c .before .loop .inv .2 ∙ rw (drop-of-length-le (c .before .before .args .cells .now) {i = c .before .loop .i} (omega arith), append-nil, e)
+returns c =
+    let loop = c .before .loop in
+    let a = c .before .before .args in
+    let e : loop .i ≡ length (a .cells .now) = omega arith in
+    loop .inv .2 ∙ rw (drop-of-length-le (a .cells .now) {i = loop .i} (omega arith), append-nil, e)
 
 pub clear-cells-spec : {M : Type 1} → statement M
 clear-cells-spec =

@@ -32,7 +32,11 @@ same-length : tie.Need-same-length
 same-length c = search needs
 
 returns : tie.Need-returns
-returns c = put-cleared (c .before .before .before .before .before .before .args .frame) (c .before .before .before .before .before .before .args .cells .now) _ (c .before .before .before .before .before .before .pre) (c .before .before .clear-cells .ensures)
+returns c =
+    let clear-cells = c .before .before .clear-cells in
+    let a = c .before .before .before .before .before .before .args in
+    let pre = c .before .before .before .before .before .before .pre in
+    put-cleared (a .frame) (a .cells .now) _ (pre) (clear-cells .ensures)
 
 pub clear-cells-of-spec : {M : Type 1} → statement M
 clear-cells-of-spec =

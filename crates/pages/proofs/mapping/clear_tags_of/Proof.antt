@@ -29,7 +29,11 @@ same-length : tie.Need-same-length
 same-length c = search needs
 
 returns : tie.Need-returns
-returns c = put-cleared (c .before .before .before .before .before .before .args .frame) (c .before .before .before .before .before .before .args .tags .now) _ (c .before .before .before .before .before .before .pre) (c .before .before .clear-tags .ensures)
+returns c =
+    let clear-tags = c .before .before .clear-tags in
+    let a = c .before .before .before .before .before .before .args in
+    let pre = c .before .before .before .before .before .before .pre in
+    put-cleared (a .frame) (a .tags .now) _ (pre) (clear-tags .ensures)
 
 pub clear-tags-of-spec : {M : Type 1} → statement M
 clear-tags-of-spec =

@@ -47,7 +47,8 @@ returns c =
     let t = c .before .before .before .before .before .before .args .t1 in
     let i = c .before .before .before .before .loop .i in
     let h : i < length (live t) = omega (arith, c .before .before .before .before .before .used .ensures) in
-    sym (c .before .before .before .before .loop .inv ∙ seek-here _ _ i _ h (ap (begins _ _) (live-at t i _ h) ∙ sym (c .before .begins .ensures) ∙ c .if1 .taken))
+    sym
+    (c .before .before .before .before .loop .inv ∙ seek-here _ _ i _ h (ap (begins _ _) (live-at t i _ h) ∙ sym (c .before .begins .ensures) ∙ c .if1 .taken))
 
 add-i : tie.Need-add-i Inv-loop μ-loop
 add-i c = omega (arith, within (c .before .before .before))

@@ -1,9 +1,9 @@
 -- `reservations::Table::fresh` meets its contract. By the two outcomes of the test for no cells.
 use mathlib.Core.Path.{sym}
 use borrow.Author.Tests.{eq-eqb, ne-eqb}
+use borrow.Author.Needs.{needs}
 use Rattle.capabilities.proofs.Choice.{pick-yes, pick-no}
 use Rattle.reservations.specs.Tiling.{freshTable}
-use borrow.Author.Needs.{needs}
 use Rattle.reservations.proofs.Table.fresh.Statement.{statement}
 use Rattle.reservations.proofs.Table.fresh.Tie as tie
 

@@ -1,10 +1,10 @@
 -- `reservations::Table::give` meets its contract. Refused, the table is as given; granted, the row has the new holder.
-use Rattle.reservations.specs.Operations.{openReasons, giveReasons, giveOf, givenRow}
 use mathlib.Core.Path.{ap, _∙_}
+use borrow.Author.Needs.{needs}
 use Rattle.capabilities.specs.Refusals.{first}
+use Rattle.reservations.specs.Operations.{openReasons, giveReasons, giveOf, givenRow}
 use Rattle.reservations.specs.Find.{withRow, rowOf}
 use Rattle.reservations.proofs.Answers.{tabled-refused, tabled-granted}
-use borrow.Author.Needs.{needs}
 use Rattle.reservations.proofs.Table.give.Statement.{statement}
 use Rattle.reservations.proofs.Table.give.Tie as tie
 

@@ -1,9 +1,9 @@
 -- `reservations::Table::merge` meets its contract. Refused, the table is as given; granted, two rows are one.
 use mathlib.Core.Path.{sym, ap, _∙_}
+use borrow.Author.Needs.{needs}
 use Rattle.capabilities.specs.Refusals.{first}
 use Rattle.reservations.specs.Operations.{mergeReasonsAt, mergeReasons, mergeAt, mergeOf}
 use Rattle.reservations.proofs.Answers.{tabled-refused, tabled-granted, merge-clear, merge-next}
-use borrow.Author.Needs.{needs}
 use Rattle.reservations.proofs.Table.merge.Statement.{statement}
 use Rattle.reservations.proofs.Table.merge.Tie as tie
 

@@ -1,11 +1,11 @@
 -- `reservations::Table::merge_at` meets its contract. By cases on the row found.
 use mathlib.Core.Path.{sym, ap, _∙_}
+use borrow.Author.Needs.{needs}
 use Rattle.reservations.specs.declared.Found.the-variants.{At}
 use Rattle.reservations.specs.Rows.{gather}
 use Rattle.reservations.specs.Find.{rowOf, nextOf, missing}
 use Rattle.reservations.specs.Operations.{mergeAt, joined}
 use Rattle.reservations.proofs.Finding.{next-below}
-use borrow.Author.Needs.{needs}
 use Rattle.reservations.proofs.Table.merge_at.Statement.{statement}
 use Rattle.reservations.proofs.Table.merge_at.Tie as tie
 
@@ -27,7 +27,8 @@ joined-requires c κs = search needs
 gather-requires : tie.Need-gather-requires
 gather-requires c κs =
     let s = c .before .before .before .before .before .before .before .args in
-    next-below (s .self) _ (sym (ap (λ f. missing (nextOf (s .self) f)) (c .before .before .found .given .1)) ∙ c .before .before .before .before .before .before .before .pre)
+    next-below (s .self) _
+    (sym (ap (λ f. missing (nextOf (s .self) f)) (c .before .before .found .given .1)) ∙ c .before .before .before .before .before .before .before .pre)
 
 enum-told : tie.Need-enum-told
 enum-told c = search needs
@@ -42,7 +43,8 @@ returns c =
     let row = c .before .before .before .before .before .before .before .row .ensures ∙ ap (rowOf t) at in
     let above = c .before .before .before .before .before .row2 .ensures ∙ ap (rowOf t) (c .before .before .before .before .before .before .next .ensures ∙ ap (nextOf t) at) in
     c .gather .ensures
-    ∙ ap (gather t i) (c .before .joined .ensures ∙ ap (λ r. joined r (c .before .before .before .before .before .row2 .result)) row ∙ ap (joined (rowOf t (At i))) above)
+    ∙ ap (gather t i)
+    (c .before .joined .ensures ∙ ap (λ r. joined r (c .before .before .before .before .before .row2 .result)) row ∙ ap (joined (rowOf t (At i))) above)
     ∙ sym (ap (mergeAt t) at)
 
 returns-2 : tie.Need-returns-2

@@ -1,10 +1,10 @@
 -- `reservations::Table::mergeable` meets its contract. By the contracts of the callees.
 use mathlib.Core.Path.{ap, _∙_}
 use mathlib.Core.Bool.{not, _&&_}
+use borrow.Author.Needs.{needs}
 use Rattle.reservations.specs.Rows.{held}
 use Rattle.reservations.specs.Find.{missing, nextOf, rowOf}
 use Rattle.reservations.specs.Operations.{alike, mergeable}
-use borrow.Author.Needs.{needs}
 use Rattle.reservations.proofs.Table.mergeable.Statement.{statement}
 use Rattle.reservations.proofs.Table.mergeable.Tie as tie
 

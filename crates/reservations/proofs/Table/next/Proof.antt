@@ -4,12 +4,12 @@ use Prim.Native.Nat.{_+_}
 use mathlib.Core.Path.{_≡_, sym, ap, _∙_}
 use lib.ListN.{length}
 use borrow.Author.Tests.{lt-ltb, le-ltb}
+use borrow.Author.Needs.{needs}
 use Rattle.capabilities.proofs.Arrays.{length-under}
 use Rattle.capabilities.proofs.Choice.{pick-yes, pick-no}
 use Rattle.reservations.specs.Rows.{live}
 use Rattle.reservations.specs.Find.{nextOf}
 use Rattle.reservations.proofs.Moving.{live-length}
-use borrow.Author.Needs.{needs}
 use Rattle.reservations.proofs.Table.next.Statement.{statement}
 use Rattle.reservations.proofs.Table.next.Tie as tie
 
@@ -30,7 +30,8 @@ unfolding nextOf
 returns c =
     let s = c .before .before .before .before .before .before .args in
     let i = c .before .before .before .found .given .0 .0 in
-    sym (ap (λ f. nextOf (s .self) f) (c .before .before .before .found .given .1) ∙ pick-yes _ _ _ (lt-ltb (i + 1) (length (live (s .self))) (omega (arith, c .if2 .taken, c .before .before .before .before .before .used .ensures))))
+    sym
+    (ap (λ f. nextOf (s .self) f) (c .before .before .before .found .given .1) ∙ pick-yes _ _ _ (lt-ltb (i + 1) (length (live (s .self))) (omega (arith, c .if2 .taken, c .before .before .before .before .before .used .ensures))))
 
 enum-told : tie.Need-enum-told
 enum-told c = search needs
@@ -40,7 +41,8 @@ unfolding nextOf
 returns-2 c =
     let s = c .before .before .before .before .before .before .args in
     let i = c .before .before .before .found .given .0 .0 in
-    sym (ap (λ f. nextOf (s .self) f) (c .before .before .before .found .given .1) ∙ pick-no _ _ _ (le-ltb (i + 1) (length (live (s .self))) (omega (arith, c .if2 .left, c .before .before .before .before .before .used .ensures))))
+    sym
+    (ap (λ f. nextOf (s .self) f) (c .before .before .before .found .given .1) ∙ pick-no _ _ _ (le-ltb (i + 1) (length (live (s .self))) (omega (arith, c .if2 .left, c .before .before .before .before .before .used .ensures))))
 
 returns-3 : tie.Need-returns-3
 unfolding nextOf

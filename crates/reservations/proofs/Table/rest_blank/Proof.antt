@@ -2,14 +2,14 @@
 use mathlib.Core.Path.{_≡_, refl, sym, _∙_}
 use native.Mathlib.Omega.{arith}
 use Prim.Native.Nat.{_-_}
-use Rattle.capabilities.proofs.Arrays.{length-under}
 use borrow.Author.Tests.{not-true, not-false}
 use lib.ListN.{length, drop}
+use borrow.Author.Needs.{needs}
+use Rattle.capabilities.proofs.Arrays.{length-under}
 use Rattle.reservations.specs.Rows.{blank}
 use Rattle.reservations.specs.Tiling.{allBlank}
 use Rattle.reservations.proofs.Walking.{blank-more, blank-end}
 use Rattle.reservations.proofs.Truth.{and-yes, and-no}
-use borrow.Author.Needs.{needs}
 use Rattle.reservations.proofs.Table.rest_blank.Statement.{statement}
 use Rattle.reservations.proofs.Table.rest_blank.Tie as tie
 
@@ -36,7 +36,8 @@ returns c =
     let t = c .before .before .before .before .before .args .t1 in
     let i = c .before .before .before .before .loop .i in
     let rows : length (t .rows) ≡ 64 = let g = c .before .before .before .before .before .good .0 in search (length-under, g) in
-    sym (c .before .before .before .before .loop .inv ∙ blank-more (t .rows) i blank (omega arith) ∙ and-no _ _ (sym (c .before .is-blank .ensures) ∙ not-true _ (c .if1 .taken)))
+    sym
+    (c .before .before .before .before .loop .inv ∙ blank-more (t .rows) i blank (omega arith) ∙ and-no _ _ (sym (c .before .is-blank .ensures) ∙ not-true _ (c .if1 .taken)))
 
 add-i : tie.Need-add-i Inv-loop μ-loop
 add-i c = omega arith
@@ -49,7 +50,8 @@ loop-again c =
     let t = c .before .before .before .before .before .args .t1 in
     let i = c .before .before .before .before .loop .i in
     let rows : length (t .rows) ≡ 64 = let g = c .before .before .before .before .before .good .0 in search (length-under, g) in
-    c .before .before .before .before .loop .inv ∙ blank-more (t .rows) i blank (omega arith) ∙ and-yes _ _ (sym (c .before .is-blank .ensures) ∙ not-false _ (c .if1 .left))
+    c .before .before .before .before .loop .inv ∙ blank-more (t .rows) i blank (omega arith) ∙ and-yes _ _
+    (sym (c .before .is-blank .ensures) ∙ not-false _ (c .if1 .left))
 
 returns-2 : tie.Need-returns-2 Inv-loop μ-loop
 returns-2 c =

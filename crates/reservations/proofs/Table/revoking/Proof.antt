@@ -46,7 +46,8 @@ returns c =
     let t = c .before .before .before .before .before .before .args .t1 in
     let i = c .before .before .before .before .loop .i in
     let h : i < length (live t) = omega (arith, c .before .before .before .before .before .used .ensures) in
-    sym (c .before .before .before .before .loop .inv ∙ seek-here _ _ i _ h (ap (λ r. isRevoking (r .state)) (live-at t i _ h) ∙ sym (c .before .is-revoking .ensures) ∙ c .if1 .taken))
+    sym
+    (c .before .before .before .before .loop .inv ∙ seek-here _ _ i _ h (ap (λ r. isRevoking (r .state)) (live-at t i _ h) ∙ sym (c .before .is-revoking .ensures) ∙ c .if1 .taken))
 
 add-i : tie.Need-add-i Inv-loop μ-loop
 add-i c = omega (arith, within (c .before .before .before))
@@ -59,7 +60,8 @@ loop-again c =
     let t = c .before .before .before .before .before .before .args .t1 in
     let i = c .before .before .before .before .loop .i in
     let h : i < length (live t) = omega (arith, c .before .before .before .before .before .used .ensures) in
-    c .before .before .before .before .loop .inv ∙ seek-more _ _ i _ h (ap (λ r. isRevoking (r .state)) (live-at t i _ h) ∙ sym (c .before .is-revoking .ensures) ∙ c .if1 .left)
+    c .before .before .before .before .loop .inv ∙ seek-more _ _ i _ h
+    (ap (λ r. isRevoking (r .state)) (live-at t i _ h) ∙ sym (c .before .is-revoking .ensures) ∙ c .if1 .left)
 
 returns-2 : tie.Need-returns-2 Inv-loop μ-loop
 returns-2 c = sym (c .before .loop .inv ∙ seek-end _ _ _ (omega (arith, c .before .before .used .ensures)))

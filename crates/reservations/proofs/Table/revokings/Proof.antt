@@ -2,17 +2,17 @@
 use mathlib.Core.Path.{_≡_, sym, ap, _∙_}
 use native.Mathlib.Omega.{arith}
 use Prim.Native.Nat.{ℕ, _+_, _-_, _<_, _≤_}
-use Rattle.capabilities.proofs.Arrays.{length-under}
 use mathlib.Core.Logic.{⊎-elim}
 use native.Mathlib.Nat.{zero-add}
 use lib.ListN.{length, drop, getD}
+use borrow.Author.Needs.{needs}
 use Rattle.capabilities.specs.Lists.{pick}
+use Rattle.capabilities.proofs.Arrays.{length-under}
 use Rattle.capabilities.proofs.Choice.{pick-yes, pick-no}
 use Rattle.reservations.specs.Rows.{live, blank, isRevoking}
 use Rattle.reservations.specs.Tiling.{revokings}
 use Rattle.reservations.proofs.Moving.{live-length, live-at}
 use Rattle.reservations.proofs.Walking.{revokings-more, revokings-end}
-use borrow.Author.Needs.{needs}
 use Rattle.reservations.proofs.Table.revokings.Statement.{statement}
 use Rattle.reservations.proofs.Table.revokings.Tie as tie
 

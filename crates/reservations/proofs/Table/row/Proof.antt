@@ -2,10 +2,10 @@
 use native.Mathlib.Omega.{arith}
 use mathlib.Core.Path.{_≡_, sym, ap, _∙_}
 use lib.ListN.{length, List·getD-eq-default}
+use borrow.Author.Needs.{needs}
 use Rattle.capabilities.proofs.Arrays.{length-under}
 use Rattle.reservations.specs.Rows.{blank}
 use Rattle.reservations.specs.Find.{rowOf}
-use borrow.Author.Needs.{needs}
 use Rattle.reservations.proofs.Table.row.Statement.{statement}
 use Rattle.reservations.proofs.Table.row.Tie as tie
 
@@ -39,7 +39,8 @@ returns-2 c =
     let s = c .before .before .before .before .before .args in
     let t = s .t1 in
     let rows : length (t .rows) ≡ 64 = let g = c .before .before .before .before .before .good .0 in search (length-under, g) in
-    c .blank .ensures ∙ sym (ap (λ f. rowOf t f) (c .before .before .before .found .given .1) ∙ List·getD-eq-default (t .rows) blank (omega (arith, c .before .if1 .left)))
+    c .blank .ensures ∙ sym
+    (ap (λ f. rowOf t f) (c .before .before .before .found .given .1) ∙ List·getD-eq-default (t .rows) blank (omega (arith, c .before .if1 .left)))
 
 returns-3 : tie.Need-returns-3
 unfolding rowOf

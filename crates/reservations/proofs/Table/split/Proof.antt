@@ -1,11 +1,11 @@
 -- `reservations::Table::split` meets its contract. Refused, the table is as given; granted, one row is two.
 use mathlib.Core.Path.{sym, ap, _∙_}
+use borrow.Author.Needs.{needs}
 use Rattle.capabilities.specs.Refusals.{first}
 use Rattle.reservations.specs.Find.{inUse}
 use Rattle.reservations.specs.Operations.{splitReasonsAt, splitReasons, splitAt, splitOf}
 use Rattle.reservations.proofs.Finding.{found-used}
 use Rattle.reservations.proofs.Answers.{tabled-refused, tabled-granted, split-clear}
-use borrow.Author.Needs.{needs}
 use Rattle.reservations.proofs.Table.split.Statement.{statement}
 use Rattle.reservations.proofs.Table.split.Tie as tie
 
@@ -33,7 +33,8 @@ unfolding splitOf splitReasons
 returns-2 c =
     let s = c .before .before .before .before .args in
     let told = c .before .before .split-code .ensures ∙ ap (λ f. first (splitReasonsAt (s .self) f (s .len))) (c .before .before .before .find .ensures) in
-    tabled-granted _ _ told _ _ _ (c .before .if1 .left) (c .split-at .ensures ∙ ap (λ f. splitAt (s .self) f (s .len)) (c .before .before .before .find .ensures))
+    tabled-granted _ _ told _ _ _ (c .before .if1 .left)
+    (c .split-at .ensures ∙ ap (λ f. splitAt (s .self) f (s .len)) (c .before .before .before .find .ensures))
 
 pub split-spec : {M : Type 1} → statement M
 split-spec =

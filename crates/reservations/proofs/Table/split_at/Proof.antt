@@ -3,13 +3,13 @@ use mathlib.Core.Path.{sym, ap, _∙_}
 use native.Mathlib.Omega.{arith}
 use borrow.Author.Tests.{ltb-true, leb-false}
 use lib.ListN.{length}
+use borrow.Author.Needs.{needs}
 use Rattle.reservations.specs.declared.Found.the-variants.{At}
 use Rattle.reservations.specs.Rows.{live, spread}
 use Rattle.reservations.specs.Find.{rowOf, inUse}
 use Rattle.reservations.specs.Operations.{splitAt, badSplit, lowerPart, upperPart}
 use Rattle.reservations.proofs.Moving.{live-length}
 use Rattle.reservations.proofs.Answers.{split-fits}
-use borrow.Author.Needs.{needs}
 use Rattle.reservations.proofs.Table.split_at.Statement.{statement}
 use Rattle.reservations.proofs.Table.split_at.Tie as tie
 
@@ -25,7 +25,8 @@ lower-part-requires c κs = search needs
 upper-part-requires : tie.Need-upper-part-requires
 upper-part-requires c κs =
     let s = c .before .before .before .before .before .args in
-    split-fits (c .before .before .before .before .row .result) (s .len) (ap (λ r. badSplit r (s .len)) (c .before .before .before .before .row .ensures) ∙ c .before .before .before .before .before .pre .1 .0)
+    split-fits (c .before .before .before .before .row .result) (s .len)
+    (ap (λ r. badSplit r (s .len)) (c .before .before .before .before .row .ensures) ∙ c .before .before .before .before .before .pre .1 .0)
 
 spread-requires : tie.Need-spread-requires
 unfolding inUse

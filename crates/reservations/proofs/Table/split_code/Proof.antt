@@ -1,10 +1,10 @@
 -- `reservations::Table::split_code` meets its contract. Reason by reason, in the list's order.
 use mathlib.Core.Path.{refl, ap, _∙_}
 use mathlib.Core.Bool.{not}
+use borrow.Author.Needs.{needs}
 use Rattle.reservations.specs.Rows.{isOpen}
 use Rattle.reservations.specs.Operations.{badSplit, splitReasonsAt}
 use Rattle.reservations.proofs.Answers.{judged, judged-last}
-use borrow.Author.Needs.{needs}
 use Rattle.reservations.proofs.Table.split_code.Statement.{statement}
 use Rattle.reservations.proofs.Table.split_code.Tie as tie
 

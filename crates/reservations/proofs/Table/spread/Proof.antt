@@ -3,10 +3,10 @@ use native.Mathlib.Omega.{arith}
 use Prim.Native.Nat.{_+_, _-_, _<_, _≤_}
 use mathlib.Core.Path.{_≡_, ap, _∙_}
 use lib.ListN.{length, getD, set}
+use borrow.Author.Needs.{needs}
 use Rattle.capabilities.proofs.Arrays.{length-under}
 use Rattle.reservations.specs.Rows.{table, blank}
 use Rattle.reservations.proofs.Moving.{raised, raise-start, raise-more, spread-done}
-use borrow.Author.Needs.{needs}
 use Rattle.reservations.proofs.Table.spread.Statement.{statement}
 use Rattle.reservations.proofs.Table.spread.Tie as tie
 

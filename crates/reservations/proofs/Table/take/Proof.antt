@@ -1,10 +1,10 @@
 -- `reservations::Table::take` meets its contract. Refused, the table is as given and the length 0; granted, the row is Taken.
-use Rattle.reservations.specs.Operations.{openReasons, takeReasons, takeOf, takenRow}
-use Rattle.reservations.proofs.Answers.{took-refused, took-granted}
 use mathlib.Core.Path.{ap, _∙_}
-use Rattle.capabilities.specs.Refusals.{first}
-use Rattle.reservations.specs.Find.{withRow, rowOf}
 use borrow.Author.Needs.{needs}
+use Rattle.capabilities.specs.Refusals.{first}
+use Rattle.reservations.specs.Operations.{openReasons, takeReasons, takeOf, takenRow}
+use Rattle.reservations.specs.Find.{withRow, rowOf}
+use Rattle.reservations.proofs.Answers.{took-refused, took-granted}
 use Rattle.reservations.proofs.Table.take.Statement.{statement}
 use Rattle.reservations.proofs.Table.take.Tie as tie
 

@@ -2,18 +2,18 @@
 use mathlib.Core.Path.{_≡_, refl, sym, ap, _∙_}
 use native.Mathlib.Omega.{arith}
 use Prim.Native.Nat.{_+_, _-_, _<_}
-use Rattle.capabilities.proofs.Arrays.{length-under}
 use mathlib.Core.Bool.{true, false, _&&_}
 use borrow.Author.Tests.{eqb-true, not-true, not-false}
 use lib.ListN.{length, drop, getD}
 use lib.Dec.{eqb}
+use borrow.Author.Needs.{needs}
+use Rattle.capabilities.proofs.Arrays.{length-under}
 use Rattle.capabilities.proofs.Choice.{and-left}
 use Rattle.reservations.specs.Rows.{live, blank}
 use Rattle.reservations.specs.Tiling.{tiles, follows, rowSound}
 use Rattle.reservations.proofs.Moving.{live-length, live-at}
 use Rattle.reservations.proofs.Walking.{tiles-more, tiles-end}
 use Rattle.reservations.proofs.Truth.{and-yes, and-no}
-use borrow.Author.Needs.{needs}
 use Rattle.reservations.proofs.Table.tiled.Statement.{statement}
 use Rattle.reservations.proofs.Table.tiled.Tie as tie
 

@@ -1,12 +1,12 @@
 -- `reservations::Table::well_formed` meets its contract. The conjunction of the parts' tests; the array has its length.
 use mathlib.Core.Path.{_≡_}
-use Rattle.capabilities.proofs.Arrays.{length-under}
 use mathlib.Core.Bool.{true}
 use borrow.Author.Tests.{eq-eqb}
 use lib.Dec.{eqb}
 use lib.ListN.{length}
-use Rattle.reservations.specs.Tiling.{tableSound, sized}
 use borrow.Author.Needs.{needs}
+use Rattle.capabilities.proofs.Arrays.{length-under}
+use Rattle.reservations.specs.Tiling.{tableSound, sized}
 use Rattle.reservations.proofs.Table.well_formed.Statement.{statement}
 use Rattle.reservations.proofs.Table.well_formed.Tie as tie
 

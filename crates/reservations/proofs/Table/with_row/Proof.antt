@@ -3,10 +3,10 @@ use native.Mathlib.Omega.{arith}
 use mathlib.Core.Path.{_≡_, sym, ap, _∙_}
 use lib.ListN.{length}
 use lib.Seq.{set-out}
+use borrow.Author.Needs.{needs}
 use Rattle.capabilities.proofs.Arrays.{length-under}
 use Rattle.reservations.specs.Rows.{table}
 use Rattle.reservations.specs.Find.{withRow}
-use borrow.Author.Needs.{needs}
 use Rattle.reservations.proofs.Table.with_row.Statement.{statement}
 use Rattle.reservations.proofs.Table.with_row.Tie as tie
 
@@ -34,7 +34,8 @@ returns-2 c =
     let s = c .before .before .before .before .args in
     let t = s .t1 in
     let rows : length (t .rows) ≡ 64 = let g = c .before .before .before .before .good .0 in search (length-under, g) in
-    sym (ap (λ f. withRow t f (s .row)) (c .before .before .found .given .1) ∙ ap (λ l. table l (t .count)) (set-out (t .rows) _ _ (omega (arith, c .if1 .left))))
+    sym
+    (ap (λ f. withRow t f (s .row)) (c .before .before .found .given .1) ∙ ap (λ l. table l (t .count)) (set-out (t .rows) _ _ (omega (arith, c .if1 .left))))
 
 returns-3 : tie.Need-returns-3
 unfolding withRow

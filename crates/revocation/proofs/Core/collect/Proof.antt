@@ -1,7 +1,7 @@
 -- `revocation::Core::collect` meets its contract. Refused, the core is as given; granted, it is the collected one.
+use borrow.Author.Needs.{needs}
 use Rattle.revocation.specs.Revocation.{collectOf}
 use Rattle.revocation.proofs.Answers.{cored-refused, cored-granted}
-use borrow.Author.Needs.{needs}
 use Rattle.revocation.proofs.Core.collect.Statement.{statement}
 use Rattle.revocation.proofs.Core.collect.Tie as tie
 

@@ -1,11 +1,11 @@
 -- `revocation::Core::collect_code` meets its contract. The one reason, from the two tests.
 use mathlib.Core.Path.{ap}
 use mathlib.Core.Bool.{not, _||_}
-use Rattle.revocation.specs.Revocation.{collectReasons}
-use Rattle.reservations.proofs.Answers.{judged-last}
 use lib.Dec.{leb}
 use Prim.Native.Nat.{_*_}
 use borrow.Author.Needs.{needs}
+use Rattle.reservations.proofs.Answers.{judged-last}
+use Rattle.revocation.specs.Revocation.{collectReasons}
 use Rattle.revocation.proofs.Core.collect_code.Statement.{statement}
 use Rattle.revocation.proofs.Core.collect_code.Tie as tie
 

@@ -1,9 +1,9 @@
 -- `revocation::Core::collected` meets its contract. By the contracts of the callees.
 use mathlib.Core.Path.{ap, _∙_}
-use Rattle.revocation.specs.Revocation.{core, collected, collectedRow, revoked}
-use Rattle.reservations.specs.Find.{rowOf, withRow, revokingOf}
-use Rattle.pages.specs.Mapping.{releasedOf}
 use borrow.Author.Needs.{needs}
+use Rattle.pages.specs.Mapping.{releasedOf}
+use Rattle.reservations.specs.Find.{rowOf, withRow, revokingOf}
+use Rattle.revocation.specs.Revocation.{core, collected, collectedRow, revoked}
 use Rattle.revocation.proofs.Core.collected.Statement.{statement}
 use Rattle.revocation.proofs.Core.collected.Tie as tie
 
@@ -32,7 +32,8 @@ returns c =
     let t = s .table in
     let f = c .before .before .before .before .before .revoking .ensures in
     let row = c .before .before .row .ensures ∙ ap (rowOf t) f in
-    ap (λ p. core p (c .with-row .result) 0) (c .before .before .before .released .ensures ∙ ap (releasedOf (s .pages)) (c .before .before .before .before .revoked .ensures))
+    ap (λ p. core p (c .with-row .result) 0)
+    (c .before .before .before .released .ensures ∙ ap (releasedOf (s .pages)) (c .before .before .before .before .revoked .ensures))
     ∙ ap (λ t. core (releasedOf (s .pages) (revoked s)) t 0)
     (c .with-row .ensures ∙ ap (λ f. withRow t f (c .before .collected-row .result)) f ∙ ap (withRow t (revokingOf t)) (c .before .collected-row .ensures ∙ ap collectedRow row))
 

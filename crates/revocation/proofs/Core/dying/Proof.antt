@@ -1,9 +1,9 @@
 -- `revocation::Core::dying` meets its contract. By the contracts of the callees.
 use mathlib.Core.Path.{ap, _∙_}
 use mathlib.Core.Bool.{_&&_}
-use Rattle.revocation.specs.Revocation.{dying, running, revoked}
-use Rattle.capabilities.specs.Range.{inside}
 use borrow.Author.Needs.{needs}
+use Rattle.capabilities.specs.Range.{inside}
+use Rattle.revocation.specs.Revocation.{dying, running, revoked}
 use Rattle.revocation.proofs.Core.dying.Statement.{statement}
 use Rattle.revocation.proofs.Core.dying.Tie as tie
 
@@ -27,7 +27,8 @@ unfolding dying
 returns c =
     let s = c .before .before .before .before .args .self in
     ap (λ b. b && c .inside .result) (c .before .before .before .running .ensures)
-    ∙ ap (λ b. running s && b) (c .inside .ensures ∙ ap (λ r. inside r (c .before .base-of .result)) (c .before .before .revoked .ensures) ∙ ap (inside (revoked s)) (c .before .base-of .ensures))
+    ∙ ap (λ b. running s && b)
+    (c .inside .ensures ∙ ap (λ r. inside r (c .before .base-of .result)) (c .before .before .revoked .ensures) ∙ ap (inside (revoked s)) (c .before .base-of .ensures))
 
 pub dying-spec : {M : Type 1} → statement M
 dying-spec =

@@ -5,11 +5,11 @@ use mathlib.Core.Bool.{true, false, _&&_}
 use lib.Dec.{leb, ltb}
 use borrow.Author.Tests.{leb-true}
 use Prim.Native.Nat.{_*_, _≤_}
+use borrow.Author.Needs.{needs}
 use Rattle.capabilities.proofs.Choice.{and-left, and-right, pick-yes, pick-no}
 use Rattle.pages.specs.Layer.{inRange, freshOf}
 use Rattle.reservations.specs.Tiling.{freshTable}
 use Rattle.revocation.specs.Revocation.{core, freshCore}
-use borrow.Author.Needs.{needs}
 use Rattle.revocation.proofs.Core.fresh.Statement.{statement}
 use Rattle.revocation.proofs.Core.fresh.Tie as tie
 

@@ -1,11 +1,11 @@
 -- `revocation::Core::revocation_sound` meets its contract. By the two outcomes of the test whether a revocation runs.
 use mathlib.Core.Path.{sym, ap, _∙_}
 use mathlib.Core.Bool.{_&&_}
-use Rattle.revocation.specs.Revocation.{revocationSound, running, revoked, wholePages}
-use Rattle.reservations.specs.Find.{rowOf, revokingOf}
-use Rattle.pages.specs.Freed.{allFreed}
-use Rattle.capabilities.proofs.Choice.{pick-yes, pick-no}
 use borrow.Author.Needs.{needs}
+use Rattle.capabilities.proofs.Choice.{pick-yes, pick-no}
+use Rattle.pages.specs.Freed.{allFreed}
+use Rattle.reservations.specs.Find.{rowOf, revokingOf}
+use Rattle.revocation.specs.Revocation.{revocationSound, running, revoked, wholePages}
 use Rattle.revocation.proofs.Core.revocation_sound.Statement.{statement}
 use Rattle.revocation.proofs.Core.revocation_sound.Tie as tie
 
@@ -34,7 +34,8 @@ returns c =
     let row = c .before .before .before .row .ensures ∙ ap (rowOf (s .table)) (c .before .before .before .before .revoking .ensures) in
     ap (λ b. b && c .all-freed .result) (c .before .before .whole-pages .ensures ∙ ap wholePages row)
     ∙ ap (λ b. wholePages (rowOf (s .table) (revokingOf (s .table))) && b) (c .all-freed .ensures ∙ ap (allFreed (s .pages)) (c .before .revoked .ensures))
-    ∙ sym (pick-yes (running s) _ _ (sym (c .before .before .before .before .before .before .running .ensures) ∙ c .before .before .before .before .before .if1 .taken))
+    ∙ sym
+    (pick-yes (running s) _ _ (sym (c .before .before .before .before .before .before .running .ensures) ∙ c .before .before .before .before .before .if1 .taken))
 
 returns-2 : tie.Need-returns-2
 unfolding revocationSound

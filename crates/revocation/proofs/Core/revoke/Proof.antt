@@ -1,9 +1,9 @@
 -- `revocation::Core::revoke` meets its contract. Refused, the core is as given; granted, it is the one with the row Revoking.
 use mathlib.Core.Path.{ap, _∙_}
+use borrow.Author.Needs.{needs}
 use Rattle.capabilities.specs.Refusals.{first}
 use Rattle.revocation.specs.Revocation.{revokeReasonsAt, revokeReasons, revokeAt, revokeOf}
 use Rattle.revocation.proofs.Answers.{cored-refused, cored-granted}
-use borrow.Author.Needs.{needs}
 use Rattle.revocation.proofs.Core.revoke.Statement.{statement}
 use Rattle.revocation.proofs.Core.revoke.Tie as tie
 

@@ -1,10 +1,10 @@
 -- `revocation::Core::revoke_at` meets its contract. By the contracts of the callees.
 use mathlib.Core.Path.{ap, _∙_}
-use Rattle.revocation.specs.Revocation.{core, revokeAt, revokingRow}
+use borrow.Author.Needs.{needs}
+use Rattle.pages.specs.Mapping.{freedOf}
 use Rattle.reservations.specs.Find.{rowOf, withRow}
 use Rattle.reservations.specs.Rows.{rangeOf}
-use Rattle.pages.specs.Mapping.{freedOf}
-use borrow.Author.Needs.{needs}
+use Rattle.revocation.specs.Revocation.{core, revokeAt, revokingRow}
 use Rattle.revocation.proofs.Core.revoke_at.Statement.{statement}
 use Rattle.revocation.proofs.Core.revoke_at.Tie as tie
 
@@ -29,7 +29,8 @@ returns c =
     let s = c .before .before .before .before .before .before .before .args in
     let t = s .self .table in
     let row = c .before .before .before .before .row .ensures in
-    ap (λ p. core p (c .with-row .result) 0) (c .before .before .freed .ensures ∙ ap (freedOf (s .self .pages)) (c .before .before .before .range-of .ensures ∙ ap rangeOf row))
+    ap (λ p. core p (c .with-row .result) 0)
+    (c .before .before .freed .ensures ∙ ap (freedOf (s .self .pages)) (c .before .before .before .range-of .ensures ∙ ap rangeOf row))
     ∙ ap (λ t. core (freedOf (s .self .pages) (rangeOf (rowOf (s .self .table) (s .found)))) t 0)
     (c .with-row .ensures ∙ ap (withRow t (s .found)) (c .before .revoking-row .ensures ∙ ap revokingRow row))
 

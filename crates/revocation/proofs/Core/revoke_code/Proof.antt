@@ -1,11 +1,11 @@
 -- `revocation::Core::revoke_code` meets its contract. Reason by reason, in the list's order.
 use mathlib.Core.Path.{ap, _∙_}
 use mathlib.Core.Bool.{not}
-use Rattle.revocation.specs.Revocation.{revokeReasonsAt, wholePages}
-use Rattle.reservations.specs.Rows.{rangeOf, isRevoking}
-use Rattle.pages.specs.Mapping.{anyMapped}
-use Rattle.reservations.proofs.Answers.{judged, judged-last}
 use borrow.Author.Needs.{needs}
+use Rattle.pages.specs.Mapping.{anyMapped}
+use Rattle.reservations.specs.Rows.{rangeOf, isRevoking}
+use Rattle.reservations.proofs.Answers.{judged, judged-last}
+use Rattle.revocation.specs.Revocation.{revokeReasonsAt, wholePages}
 use Rattle.revocation.proofs.Core.revoke_code.Statement.{statement}
 use Rattle.revocation.proofs.Core.revoke_code.Tie as tie
 

@@ -1,9 +1,9 @@
 -- `revocation::Core::running` meets its contract. By the contracts of the callees.
 use mathlib.Core.Path.{ap, _∙_}
 use mathlib.Core.Bool.{not}
-use Rattle.revocation.specs.Revocation.{running}
-use Rattle.reservations.specs.Find.{missing}
 use borrow.Author.Needs.{needs}
+use Rattle.reservations.specs.Find.{missing}
+use Rattle.revocation.specs.Revocation.{running}
 use Rattle.revocation.proofs.Core.running.Statement.{statement}
 use Rattle.revocation.proofs.Core.running.Tie as tie
 

@@ -1,9 +1,9 @@
 -- `revocation::Core::sweep` meets its contract. Refused, all is as given; granted, the page layer's own sweep, with the place that it reaches.
 use mathlib.Core.Path.{sym, ap, _∙_}
-use Rattle.revocation.specs.Revocation.{coreSwept, passing, sweptCore, sweepCoreOf, revoked}
+use borrow.Author.Needs.{needs}
 use Rattle.sweep.specs.Sweep.{sweepOf}
 use Rattle.reservations.proofs.Answers.{refused, granted}
-use borrow.Author.Needs.{needs}
+use Rattle.revocation.specs.Revocation.{coreSwept, passing, sweptCore, sweepCoreOf, revoked}
 use Rattle.revocation.proofs.Core.sweep.Statement.{statement}
 use Rattle.revocation.proofs.Core.sweep.Tie as tie
 

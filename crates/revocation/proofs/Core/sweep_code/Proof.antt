@@ -1,9 +1,9 @@
 -- `revocation::Core::sweep_code` meets its contract. Reason by reason, in the list's order.
 use mathlib.Core.Path.{ap}
 use mathlib.Core.Bool.{not}
-use Rattle.revocation.specs.Revocation.{sweepReasons}
-use Rattle.reservations.proofs.Answers.{judged, judged-last}
 use borrow.Author.Needs.{needs}
+use Rattle.reservations.proofs.Answers.{judged, judged-last}
+use Rattle.revocation.specs.Revocation.{sweepReasons}
 use Rattle.revocation.proofs.Core.sweep_code.Statement.{statement}
 use Rattle.revocation.proofs.Core.sweep_code.Tie as tie
 
@@ -21,7 +21,11 @@ first-requires-2 c κs = search needs
 
 returns : tie.Need-returns
 unfolding sweepReasons
-returns c = judged 2 _ _ _ _ _ (c .first2 .ensures) (ap not (c .before .before .before .serves .ensures)) (judged-last 11 _ _ _ (c .before .first .ensures) (ap not (c .before .before .running .ensures)))
+returns c =
+    let first = c .before .first in
+    let running = c .before .before .running in
+    let serves = c .before .before .before .serves in
+    judged 2 _ _ _ _ _ (c .first2 .ensures) (ap not (serves .ensures)) (judged-last 11 _ _ _ (first .ensures) (ap not (running .ensures)))
 
 pub sweep-code-spec : {M : Type 1} → statement M
 sweep-code-spec =

@@ -3,10 +3,10 @@ use mathlib.Core.Path.{ap, _∙_}
 use mathlib.Core.Bool.{_&&_}
 use lib.Dec.{leb}
 use Prim.Native.Nat.{_*_}
-use Rattle.revocation.specs.Revocation.{coreSound}
-use Rattle.reservations.specs.Tiling.{tableSound}
-use Rattle.pages.specs.Layer.{wellFormed}
 use borrow.Author.Needs.{needs}
+use Rattle.pages.specs.Layer.{wellFormed}
+use Rattle.reservations.specs.Tiling.{tableSound}
+use Rattle.revocation.specs.Revocation.{coreSound}
 use Rattle.revocation.proofs.Core.well_formed.Statement.{statement}
 use Rattle.revocation.proofs.Core.well_formed.Tie as tie
 

@@ -18,24 +18,37 @@ digit-requires : tie.Need-digit-requires Inv-loop μ-loop
 digit-requires c κs = omega arith
 
 lead-requires : tie.Need-lead-requires Inv-loop μ-loop
-lead-requires c κs = (spelt-room _ _ _ _ (c .before .before .before .pre .0) (c .before .before .loop .inv .1), let w = spelt-within _ _ _ _ (c .before .before .loop .inv .1) in omega (arith, w))
+lead-requires c κs =
+    let loop = c .before .before .loop in
+    let pre = c .before .before .before .pre in
+    (spelt-room _ _ _ _ (pre .0) (loop .inv .1), let w = spelt-within _ _ _ _ (loop .inv .1) in omega (arith, w))
 
 loop-less : tie.Need-loop-less Inv-loop μ-loop
 loop-less c = omega arith
 
 loop-again : tie.Need-loop-again Inv-loop μ-loop
 loop-again c =
-    let word : c .before .before .before .loop .rest < 100000000000000000000 = omega arith in
-    (omega arith, spelt-more _ _ _ _ _ _ word (c .before .before .loop-test .taken) (c .before .digit .ensures) (c .before .before .before .loop .inv .1) (c .lead .ensures))
+    let word : c .before .before .before .loop .rest < 100000000000000000000 = omega arith in (
+      omega arith,
+      spelt-more _ _ _ _ _ _ word (c .before .before .loop-test .taken) (c .before .digit .ensures) (c .before .before .before .loop .inv .1)
+          (c .lead .ensures),
+    )
 
 digit-requires-2 : tie.Need-digit-requires-2 Inv-loop μ-loop
 digit-requires-2 c κs = omega arith
 
 lead-requires-2 : tie.Need-lead-requires-2 Inv-loop μ-loop
-lead-requires-2 c κs = (spelt-room _ _ _ _ (c .before .before .before .pre .0) (c .before .before .loop .inv .1), let w = spelt-within _ _ _ _ (c .before .before .loop .inv .1) in omega (arith, w))
+lead-requires-2 c κs =
+    let loop = c .before .before .loop in
+    let pre = c .before .before .before .pre in
+    (spelt-room _ _ _ _ (pre .0) (loop .inv .1), let w = spelt-within _ _ _ _ (loop .inv .1) in omega (arith, w))
 
 returns : tie.Need-returns Inv-loop μ-loop
-returns c = spelt-all _ _ _ _ _ _ (c .before .before .loop-test .left) (c .before .digit2 .ensures) (c .before .before .before .loop .inv .1) (c .lead2 .ensures)
+returns c =
+    let digit2 = c .before .digit2 in
+    let loop-test = c .before .before .loop-test in
+    let loop = c .before .before .before .loop in
+    spelt-all _ _ _ _ _ _ (loop-test .left) (digit2 .ensures) (loop .inv .1) (c .lead2 .ensures)
 
 pub lead-decimal-spec : {M : Type 1} → statement M
 lead-decimal-spec =

@@ -3,10 +3,10 @@ use Prim.Native.Nat.{_≤_}
 use native.Mathlib.Omega.{arith}
 use mathlib.Core.Path.{refl}
 use lib.ListN.{length}
+use borrow.Author.Needs.{needs}
 use Rattle.session.specs.Lines.{decimal}
 use Rattle.session.proofs.Decimal.{byte-short, word-short, tag-short, line-short}
 use Rattle.session.proofs.Texts.{line-made}
-use borrow.Author.Needs.{needs}
 use Rattle.session.proofs.line.line_of.Statement.{statement}
 use Rattle.session.proofs.line.line_of.Tie as tie
 

@@ -2,8 +2,8 @@
 use Prim.Native.Nat.{_+_, _*_}
 use native.Mathlib.Omega.{arith}
 use mathlib.Core.Path.{sym, _∙_}
-use Rattle.session.proofs.Sessions.{read-short, read-stopped, read-sound, read-small, read-near, read-on}
 use borrow.Author.Needs.{needs}
+use Rattle.session.proofs.Sessions.{read-short, read-stopped, read-sound, read-small, read-near, read-on}
 use Rattle.session.proofs.run.lines.Statement.{statement}
 use Rattle.session.proofs.run.lines.Tie as tie
 
@@ -17,7 +17,12 @@ same-length : tie.Need-same-length
 same-length c = search needs
 
 returns : tie.Need-returns
-returns c = read-short (c .before .before .before .before .before .before .before .before .args .input .now) (c .before .before .before .before .before .before .before .before .args .out .now) _ (c .before .before .put .result) _ (c .before .before .before .before .before .if1 .taken) (c .before .before .before .before .line-of .ensures .0) (c .before .before .put .ensures)
+returns c =
+    let put = c .before .before .put in
+    let line-of = c .before .before .before .before .line-of in
+    let if1 = c .before .before .before .before .before .if1 in
+    let a = c .before .before .before .before .before .before .before .before .args in
+    read-short (a .input .now) (a .out .now) _ (put .result) _ (if1 .taken) (line-of .ensures .0) (put .ensures)
 
 shared-slice-read-wide : tie.Need-shared-slice-read-wide
 shared-slice-read-wide c = search needs
@@ -59,16 +64,59 @@ same-length-2 : tie.Need-same-length-2
 same-length-2 c = search needs
 
 returns-2 : tie.Need-returns-2
-returns-2 c = read-stopped (c .before .before .before .before .before .before .before .before .before .before .before .before .before .before .before .before .before .args .input .now) (256 * c .before .before .before .before .before .before .before .before .before .before .before .before .wide .result + c .before .before .before .before .before .before .before .before .before .before .wide2 .result) (c .before .before .before .before .before .before .before .before .wide3 .result) (let e = c .before .before .before .before .before .before .before .before .before .before .before .before .wide .ensures .0 in let e₂ = c .before .before .before .before .before .before .before .before .before .before .wide2 .ensures .0 in omega (arith, e, e₂)) (c .before .before .before .before .before .before .before .before .wide3 .ensures .0) (c .before .before .before .before .before .before .before .before .before .before .before .before .before .before .if1 .left) (c .before .before .before .before .before .before .before .start .result) (c .before .before .before .before .before .before .before .start .ensures) _ (c .before .before .before .before .before .before .line-of2 .ensures .0) (c .before .before .before .before .before .before .line-of2 .ensures .1 .0) (c .before .before .before .before .put2 .result) (c .before .before .before .before .before .before .before .before .before .before .before .before .before .before .before .before .before .args .out .now) _ (c .before .before .before .before .put2 .ensures) (sym (c .before .ends .ensures) ∙ c .if2 .taken)
+returns-2 c =
+    let ends = c .before .ends in
+    let put2 = c .before .before .before .before .put2 in
+    let line-of2 = c .before .before .before .before .before .before .line-of2 in
+    let start = c .before .before .before .before .before .before .before .start in
+    let wide3 = c .before .before .before .before .before .before .before .before .wide3 in
+    let wide2 = c .before .before .before .before .before .before .before .before .before .before .wide2 in
+    let wide = c .before .before .before .before .before .before .before .before .before .before .before .before .wide in
+    let if1 = c .before .before .before .before .before .before .before .before .before .before .before .before .before .before .if1 in
+    let a = c .before .before .before .before .before .before .before .before .before .before .before .before .before .before .before .before .before .args in
+    read-stopped (a .input .now) (256 * wide .result + wide2 .result) (wide3 .result)
+    (let e = wide .ensures .0 in let e₂ = wide2 .ensures .0 in omega (arith, e, e₂)) (wide3 .ensures .0) (if1 .left) (start .result) (start .ensures) _
+    (line-of2 .ensures .0) (line-of2 .ensures .1 .0) (put2 .result) (a .out .now) _ (put2 .ensures) (sym (ends .ensures) ∙ c .if2 .taken)
 
 started-requires : tie.Need-started-requires
-started-requires c κs = (read-sound (c .before .before .before .before .before .before .before .before .before .before .before .before .before .before .before .before .before .before .before .args .input .now) (256 * c .before .before .before .before .before .before .before .before .before .before .before .before .before .before .wide .result + c .before .before .before .before .before .before .before .before .before .before .before .before .wide2 .result) (c .before .before .before .before .before .before .before .before .before .before .wide3 .result) (let e = c .before .before .before .before .before .before .before .before .before .before .before .before .before .before .wide .ensures .0 in let e₂ = c .before .before .before .before .before .before .before .before .before .before .before .before .wide2 .ensures .0 in omega (arith, e, e₂)) (c .before .before .before .before .before .before .before .before .before .before .wide3 .ensures .0) (c .before .before .before .before .before .before .before .before .before .before .before .before .before .before .before .before .if1 .left) (c .before .before .before .before .before .before .before .before .before .start .result) (c .before .before .before .before .before .before .before .before .before .start .ensures) _ (c .before .before .before .before .before .before .before .before .line-of2 .ensures .0) (c .before .before .before .before .before .before .before .before .line-of2 .ensures .1 .0) (c .before .before .before .before .before .before .put2 .result) (c .before .before .before .before .before .before .before .before .before .before .before .before .before .before .before .before .before .before .before .args .out .now) _ (c .before .before .before .before .before .before .put2 .ensures) (sym (c .before .before .before .ends .ensures) ∙ c .before .before .if2 .left), (read-small (c .before .before .before .before .before .before .before .before .before .before .before .before .before .before .before .before .before .before .before .args .input .now) (256 * c .before .before .before .before .before .before .before .before .before .before .before .before .before .before .wide .result + c .before .before .before .before .before .before .before .before .before .before .before .before .wide2 .result) (c .before .before .before .before .before .before .before .before .before .before .wide3 .result) (let e = c .before .before .before .before .before .before .before .before .before .before .before .before .before .before .wide .ensures .0 in let e₂ = c .before .before .before .before .before .before .before .before .before .before .before .before .wide2 .ensures .0 in omega (arith, e, e₂)) (c .before .before .before .before .before .before .before .before .before .before .wide3 .ensures .0) (c .before .before .before .before .before .before .before .before .before .before .before .before .before .before .before .before .if1 .left) (c .before .before .before .before .before .before .before .before .before .start .result) (c .before .before .before .before .before .before .before .before .before .start .ensures) _ (c .before .before .before .before .before .before .before .before .line-of2 .ensures .0) (c .before .before .before .before .before .before .before .before .line-of2 .ensures .1 .0) (c .before .before .before .before .before .before .put2 .result) (c .before .before .before .before .before .before .before .before .before .before .before .before .before .before .before .before .before .before .before .args .out .now) _ (c .before .before .before .before .before .before .put2 .ensures) (sym (c .before .before .before .ends .ensures) ∙ c .before .before .if2 .left), (c .before .before .before .before .before .before .before .before .before .before .before .before .before .before .before .before .if1 .left, (c .before .before .before .before .before .before .before .before .before .before .before .before .before .before .before .before .before .before .before .pre, read-near (c .before .before .before .before .before .before .before .before .before .before .before .before .before .before .before .before .before .before .before .args .input .now) (256 * c .before .before .before .before .before .before .before .before .before .before .before .before .before .before .wide .result + c .before .before .before .before .before .before .before .before .before .before .before .before .wide2 .result) (c .before .before .before .before .before .before .before .before .before .before .wide3 .result) (let e = c .before .before .before .before .before .before .before .before .before .before .before .before .before .before .wide .ensures .0 in let e₂ = c .before .before .before .before .before .before .before .before .before .before .before .before .wide2 .ensures .0 in omega (arith, e, e₂)) (c .before .before .before .before .before .before .before .before .before .before .wide3 .ensures .0) (c .before .before .before .before .before .before .before .before .before .before .before .before .before .before .before .before .if1 .left) (c .before .before .before .before .before .before .before .before .before .start .result) (c .before .before .before .before .before .before .before .before .before .start .ensures) _ (c .before .before .before .before .before .before .before .before .line-of2 .ensures .0) (c .before .before .before .before .before .before .before .before .line-of2 .ensures .1 .0) (c .before .before .before .before .before .before .put2 .result) (c .before .before .before .before .before .before .before .before .before .before .before .before .before .before .before .before .before .before .before .args .out .now) _ (c .before .before .before .before .before .before .put2 .ensures)))))
+started-requires c κs =
+    let if2 = c .before .before .if2 in
+    let ends = c .before .before .before .ends in
+    let put2 = c .before .before .before .before .before .before .put2 in
+    let line-of2 = c .before .before .before .before .before .before .before .before .line-of2 in
+    let start = c .before .before .before .before .before .before .before .before .before .start in
+    let wide3 = c .before .before .before .before .before .before .before .before .before .before .wide3 in
+    let wide2 = c .before .before .before .before .before .before .before .before .before .before .before .before .wide2 in
+    let wide = c .before .before .before .before .before .before .before .before .before .before .before .before .before .before .wide in
+    let if1 = c .before .before .before .before .before .before .before .before .before .before .before .before .before .before .before .before .if1 in
+    let a = c .before .before .before .before .before .before .before .before .before .before .before .before .before .before .before .before .before .before .before .args in
+    let pre = c .before .before .before .before .before .before .before .before .before .before .before .before .before .before .before .before .before .before .before .pre in (
+      read-sound (a .input .now) (256 * wide .result + wide2 .result) (wide3 .result)
+          (let e = wide .ensures .0 in let e₂ = wide2 .ensures .0 in omega (arith, e, e₂)) (wide3 .ensures .0) (if1 .left) (start .result) (start .ensures) _
+          (line-of2 .ensures .0) (line-of2 .ensures .1 .0) (put2 .result) (a .out .now) _ (put2 .ensures) (sym (ends .ensures) ∙ if2 .left),
+      (read-small (a .input .now) (256 * wide .result + wide2 .result) (wide3 .result) (let e = wide .ensures .0 in let e₂ = wide2 .ensures .0 in omega (arith, e, e₂)) (wide3 .ensures .0) (if1 .left) (start .result) (start .ensures) _ (line-of2 .ensures .0) (line-of2 .ensures .1 .0) (put2 .result) (a .out .now) _ (put2 .ensures) (sym (ends .ensures) ∙ if2 .left), (if1 .left, (pre, read-near (a .input .now) (256 * wide .result + wide2 .result) (wide3 .result) (let e = wide .ensures .0 in let e₂ = wide2 .ensures .0 in omega (arith, e, e₂)) (wide3 .ensures .0) (if1 .left) (start .result) (start .ensures) _ (line-of2 .ensures .0) (line-of2 .ensures .1 .0) (put2 .result) (a .out .now) _ (put2 .ensures)))),
+    )
 
 same-length-3 : tie.Need-same-length-3
 same-length-3 c = search needs
 
 returns-3 : tie.Need-returns-3
-returns-3 c = read-on (c .before .before .before .before .before .before .before .before .before .before .before .before .before .before .before .before .before .before .before .before .before .before .args .input .now) (256 * c .before .before .before .before .before .before .before .before .before .before .before .before .before .before .before .before .before .wide .result + c .before .before .before .before .before .before .before .before .before .before .before .before .before .before .before .wide2 .result) (c .before .before .before .before .before .before .before .before .before .before .before .before .before .wide3 .result) (let e = c .before .before .before .before .before .before .before .before .before .before .before .before .before .before .before .before .before .wide .ensures .0 in let e₂ = c .before .before .before .before .before .before .before .before .before .before .before .before .before .before .before .wide2 .ensures .0 in omega (arith, e, e₂)) (c .before .before .before .before .before .before .before .before .before .before .before .before .before .wide3 .ensures .0) (c .before .before .before .before .before .before .before .before .before .before .before .before .before .before .before .before .before .before .before .if1 .left) (c .before .before .before .before .before .before .before .before .before .before .before .before .start .result) (c .before .before .before .before .before .before .before .before .before .before .before .before .start .ensures) _ (c .before .before .before .before .before .before .before .before .before .before .before .line-of2 .ensures .0) (c .before .before .before .before .before .before .before .before .before .before .before .line-of2 .ensures .1 .0) (c .before .before .before .before .before .before .before .before .before .put2 .result) (c .before .before .before .before .before .before .before .before .before .before .before .before .before .before .before .before .before .before .before .before .before .before .args .out .now) _ (c .before .before .before .before .before .before .before .before .before .put2 .ensures) (sym (c .before .before .before .before .before .before .ends .ensures) ∙ c .before .before .before .before .before .if2 .left) (c .before .before .started .result) _ (c .before .before .started .ensures .0) (c .before .before .started .ensures .1)
+returns-3 c =
+    let started = c .before .before .started in
+    let if2 = c .before .before .before .before .before .if2 in
+    let ends = c .before .before .before .before .before .before .ends in
+    let put2 = c .before .before .before .before .before .before .before .before .before .put2 in
+    let line-of2 = c .before .before .before .before .before .before .before .before .before .before .before .line-of2 in
+    let start = c .before .before .before .before .before .before .before .before .before .before .before .before .start in
+    let wide3 = c .before .before .before .before .before .before .before .before .before .before .before .before .before .wide3 in
+    let wide2 = c .before .before .before .before .before .before .before .before .before .before .before .before .before .before .before .wide2 in
+    let wide = c .before .before .before .before .before .before .before .before .before .before .before .before .before .before .before .before .before .wide in
+    let if1 = c .before .before .before .before .before .before .before .before .before .before .before .before .before .before .before .before .before .before .before .if1 in
+    let a = c .before .before .before .before .before .before .before .before .before .before .before .before .before .before .before .before .before .before .before .before .before .before .args in
+    read-on (a .input .now) (256 * wide .result + wide2 .result) (wide3 .result)
+    (let e = wide .ensures .0 in let e₂ = wide2 .ensures .0 in omega (arith, e, e₂)) (wide3 .ensures .0) (if1 .left) (start .result) (start .ensures) _
+    (line-of2 .ensures .0) (line-of2 .ensures .1 .0) (put2 .result) (a .out .now) _ (put2 .ensures) (sym (ends .ensures) ∙ if2 .left) (started .result) _
+    (started .ensures .0) (started .ensures .1)
 
 pub lines-spec : {M : Type 1} → statement M
 lines-spec =

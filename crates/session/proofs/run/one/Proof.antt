@@ -1,6 +1,6 @@
 -- `session::run::one` meets its contract. On a well-formed state the command with and without its test is the same (`judged-command`).
-use Rattle.machine.specs.Command.{commandOf}
 use borrow.Author.Needs.{needs}
+use Rattle.machine.specs.Command.{commandOf}
 use Rattle.session.proofs.run.one.Statement.{statement}
 use Rattle.session.proofs.run.one.Tie as tie
 
@@ -27,7 +27,10 @@ same-length-4 c = search needs
 
 returns-2 : tie.Need-returns-2
 unfolding commandOf
-returns-2 c = rw (c .before .before .before .before .before .before .before .before .before .before .before .pre) (c .before .before .before .before .step-command .ensures)
+returns-2 c =
+    let step-command = c .before .before .before .before .step-command in
+    let pre = c .before .before .before .before .before .before .before .before .before .before .before .pre in
+    rw (pre) (step-command .ensures)
 
 pub one-spec : {M : Type 1} → statement M
 one-spec =

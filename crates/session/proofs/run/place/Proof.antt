@@ -1,7 +1,7 @@
 -- `session::run::place` meets its contract. Where the bytes fit they are copied; else nothing is written; either way the end is answered.
 use mathlib.Core.Path.{refl}
-use Rattle.session.proofs.Texts.{laid-past, laid-part}
 use borrow.Author.Needs.{needs}
+use Rattle.session.proofs.Texts.{laid-past, laid-part}
 use Rattle.session.proofs.run.place.Statement.{statement}
 use Rattle.session.proofs.run.place.Tie as tie
 
@@ -9,7 +9,9 @@ add-end : tie.Need-add-end
 add-end c = search needs
 
 returns : tie.Need-returns
-returns c = laid-past (c .before .before .before .args .new .now) (c .before .before .before .args .at) _ (c .before .before .before .args .out .now) refl (c .if1 .taken)
+returns c =
+    let a = c .before .before .before .args in
+    laid-past (a .new .now) (a .at) _ (a .out .now) refl (c .if1 .taken)
 
 sub-copy : tie.Need-sub-copy
 sub-copy c = search needs
@@ -27,7 +29,11 @@ same-length : tie.Need-same-length
 same-length c = search needs
 
 returns-2 : tie.Need-returns-2
-returns-2 c = laid-part (c .before .before .before .before .before .before .before .args .new .now) (c .before .before .before .before .before .before .before .args .at) _ (c .before .before .before .before .before .before .before .args .out .now) _ refl (c .before .before .before .before .if1 .left) (c .before .before .copy .ensures .1)
+returns-2 c =
+    let copy = c .before .before .copy in
+    let if1 = c .before .before .before .before .if1 in
+    let a = c .before .before .before .before .before .before .before .args in
+    laid-part (a .new .now) (a .at) _ (a .out .now) _ refl (if1 .left) (copy .ensures .1)
 
 pub place-spec : {M : Type 1} → statement M
 place-spec =

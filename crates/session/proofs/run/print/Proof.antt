@@ -1,8 +1,8 @@
 -- `session::run::print` meets its contract. One pass where the buffer surely holds the lines, else two.
 use lib.ListN.{length}
+use borrow.Author.Needs.{needs}
 use Rattle.session.specs.Session.{linesRead}
 use Rattle.session.proofs.Sessions.{print-fits}
-use borrow.Author.Needs.{needs}
 use Rattle.session.proofs.run.print.Statement.{statement}
 use Rattle.session.proofs.run.print.Tie as tie
 
@@ -34,7 +34,13 @@ same-length-3 : tie.Need-same-length-3
 same-length-3 c = search needs
 
 returns-3 : tie.Need-returns-3
-returns-3 c = print-fits (linesRead (c .before .before .before .before .before .before .before .before .args .input .now)) (c .before .before .before .before .before .before .before .before .args .out .now) (c .before .before .lines .result) _ (c .before .before .lines .ensures .0) (c .before .before .lines .ensures .1 (length (c .before .before .before .before .before .before .before .before .args .out .now)) (c .before .before .before .before .before .if1 .left) (c .before .before .before .before .if2 .left))
+returns-3 c =
+    let lines = c .before .before .lines in
+    let if2 = c .before .before .before .before .if2 in
+    let if1 = c .before .before .before .before .before .if1 in
+    let a = c .before .before .before .before .before .before .before .before .args in
+    print-fits (linesRead (a .input .now)) (a .out .now) (lines .result) _ (lines .ensures .0)
+    (lines .ensures .1 (length (a .out .now)) (if1 .left) (if2 .left))
 
 pub print-spec : {M : Type 1} → statement M
 print-spec =

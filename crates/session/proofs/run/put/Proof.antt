@@ -5,9 +5,9 @@ use mathlib.Core.List.{List}
 use mathlib.Core.Path.{_≡_, subst}
 use lib.ListN.{length, drop, length-drop}
 use lib.Seq.{take-all}
+use borrow.Author.Needs.{needs}
 use Rattle.capabilities.proofs.Arrays.{length-under}
 use Rattle.session.specs.Laid.{Laid}
-use borrow.Author.Needs.{needs}
 use Rattle.session.proofs.run.put.Statement.{statement}
 use Rattle.session.proofs.run.put.Tie as tie
 
@@ -18,7 +18,11 @@ part-place-start : tie.Need-part-place-start
 part-place-start c = search needs
 
 part-place-end : tie.Need-part-place-end
-part-place-end c = let l : length (c .before .before .before .args .text .bytes) ≡ 32 = let g = c .before .before .before .good .0 in search (length-under, g) in search (needs, l)
+part-place-end c =
+    let a = c .before .before .before .args in
+    let good = c .before .before .before .good in
+    let l : length (a .text .bytes) ≡ 32 = let g = good .0 in search (length-under, g) in
+    search (needs, l)
 
 place-requires : tie.Need-place-requires
 place-requires c κs = search needs
@@ -27,7 +31,13 @@ same-length : tie.Need-same-length
 same-length c = search needs
 
 returns : tie.Need-returns
-returns c = let l : length (c .before .before .before .before .before .before .before .before .args .text .bytes) ≡ 32 = let g = c .before .before .before .before .before .before .before .before .good .0 in search (length-under, g) in subst (λ (x : List ℕ). Laid x (c .before .before .before .before .before .before .before .before .args .at) (c .before .before .before .before .before .before .before .before .args .out .now) (c .before .before .place .result) (c .before .before .place .last .1 .1 .0)) (take-all (32 - c .before .before .before .before .before .before .before .before .args .text .from) (drop (c .before .before .before .before .before .before .before .before .args .text .from) (c .before .before .before .before .before .before .before .before .args .text .bytes)) (simp length-drop (omega arith))) (c .before .before .place .ensures)
+returns c =
+    let place = c .before .before .place in
+    let a = c .before .before .before .before .before .before .before .before .args in
+    let good = c .before .before .before .before .before .before .before .before .good in
+    let l : length (a .text .bytes) ≡ 32 = let g = good .0 in search (length-under, g) in
+    subst (λ (x : List ℕ). Laid x (a .at) (a .out .now) (place .result) (place .last .1 .1 .0))
+    (take-all (32 - a .text .from) (drop (a .text .from) (a .text .bytes)) (simp length-drop (omega arith))) (place .ensures)
 
 pub put-spec : {M : Type 1} → statement M
 put-spec =

@@ -3,8 +3,8 @@ use Prim.Native.Nat.{_*_}
 use native.Mathlib.Omega.{arith}
 use mathlib.Core.Path.{sym, _∙_, ap}
 use lib.ListN.{length, length-replicate}
-use Rattle.session.proofs.Sessions.{take-zeroed, laid-zeroed}
 use borrow.Author.Needs.{needs}
+use Rattle.session.proofs.Sessions.{take-zeroed, laid-zeroed}
 use Rattle.session.proofs.run.started.Statement.{statement}
 use Rattle.session.proofs.run.started.Tie as tie
 
@@ -15,13 +15,17 @@ array-borrow-prefix-cells : tie.Need-array-borrow-prefix-cells
 array-borrow-prefix-cells c = search needs
 
 slice-aggregate-commands : tie.Need-slice-aggregate-commands
-slice-aggregate-commands c = sym (ap length (take-zeroed (16 * c .before .before .before .args .f) 2048 (omega arith)) ∙ length-replicate (16 * c .before .before .before .args .f) 0)
+slice-aggregate-commands c =
+    let a = c .before .before .before .args in
+    sym (ap length (take-zeroed (16 * a .f) 2048 (omega arith)) ∙ length-replicate (16 * a .f) 0)
 
 array-borrow-prefix-tags : tie.Need-array-borrow-prefix-tags
 array-borrow-prefix-tags c = search needs
 
 slice-aggregate-commands-2 : tie.Need-slice-aggregate-commands-2
-slice-aggregate-commands-2 c = sym (ap length (take-zeroed (16 * c .before .before .before .before .args .f) 2048 (omega arith)) ∙ length-replicate (16 * c .before .before .before .before .args .f) 0)
+slice-aggregate-commands-2 c =
+    let a = c .before .before .before .before .args in
+    sym (ap length (take-zeroed (16 * a .f) 2048 (omega arith)) ∙ length-replicate (16 * a .f) 0)
 
 commands-requires : tie.Need-commands-requires
 commands-requires c κs = search needs
@@ -30,7 +34,13 @@ same-length : tie.Need-same-length
 same-length c = search needs
 
 returns : tie.Need-returns
-returns c = (laid-zeroed (c .before .before .before .before .before .before .before .before .before .before .args .f) (c .before .before .before .before .before .before .before .before .before .before .args .input .now) (c .before .before .before .before .before .before .before .before .before .before .args .start) (c .before .before .before .before .before .before .before .before .before .before .args .begin) (c .before .before .before .before .before .before .before .before .before .before .args .out .now) (c .before .before .before .before .commands .result) _ _ (take-zeroed (16 * c .before .before .before .before .before .before .before .before .before .before .args .f) 2048 (omega arith)) (c .before .before .before .before .commands .ensures .0), c .before .before .before .before .commands .ensures .1)
+returns c =
+    let commands = c .before .before .before .before .commands in
+    let a = c .before .before .before .before .before .before .before .before .before .before .args in (
+      laid-zeroed (a .f) (a .input .now) (a .start) (a .begin) (a .out .now) (commands .result) _ _ (take-zeroed (16 * a .f) 2048 (omega arith))
+          (commands .ensures .0),
+      commands .ensures .1,
+    )
 
 pub started-spec : {M : Type 1} → statement M
 started-spec =

@@ -43,7 +43,8 @@ returns c =
     let first = c .before .before .before .before .before .before .before .first in
     let nowhere = c .before .before .before .before .before .before .before .before .nowhere in
     let length-of = c .before .before .before .before .before .before .before .before .before .length-of in
-    rw (first5 .ensures, unnamed .ensures, first4 .ensures, first3 .ensures, may-load .ensures, first2 .ensures, first .ensures, nowhere .ensures, length-of .ensures)
+    rw
+    (first5 .ensures, unnamed .ensures, first4 .ensures, first3 .ensures, may-load .ensures, first2 .ensures, first .ensures, nowhere .ensures, length-of .ensures)
 
 pub load-code-spec : {M : Type 1} → statement M
 load-code-spec =

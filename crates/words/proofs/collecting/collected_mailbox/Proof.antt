@@ -18,7 +18,11 @@ empty-requires : tie.Need-empty-requires
 empty-requires c κs = search needs
 
 returns : tie.Need-returns
-returns c = rw (c .empty .ensures, ← (c .before .before .before .before .base-of .ensures), ← (c .before .before .before .inside .ensures)) (sym (pick-yes _ _ _ (c .before .if1 .taken)))
+returns c =
+    let if1 = c .before .if1 in
+    let inside = c .before .before .before .inside in
+    let base-of = c .before .before .before .before .base-of in
+    rw (c .empty .ensures, ← (base-of .ensures), ← (inside .ensures)) (sym (pick-yes _ _ _ (if1 .taken)))
 
 returns-2 : tie.Need-returns-2
 returns-2 c = rw (← (c .before .before .before .base-of .ensures), ← (c .before .before .inside .ensures)) (sym (pick-no _ _ _ (c .if1 .left)))

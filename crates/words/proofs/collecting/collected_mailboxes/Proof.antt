@@ -6,12 +6,12 @@ use mathlib.Core.Bool.{Bool, _&&_}
 use mathlib.Core.List.{_++_}
 use mathlib.Core.Path.{_≡_, refl, _∙_}
 use lib.ListN.{length, take, drop}
-use Rattle.capabilities.proofs.Arrays.{length-under}
-use Rattle.capabilities.proofs.Lists.{mapEach-turn, mapEach-whole, mapEach-map}
 use Rattle.capabilities.specs.Capability.{baseOf}
 use Rattle.capabilities.specs.declared.Range.{Range}
 use Rattle.capabilities.specs.Lists.{pick, mapEach}
 use Rattle.capabilities.specs.Range.{inside}
+use Rattle.capabilities.proofs.Arrays.{length-under}
+use Rattle.capabilities.proofs.Lists.{mapEach-turn, mapEach-whole, mapEach-map}
 use Rattle.words.specs.declared.Slot.{Slot}
 use Rattle.words.specs.Words.{empty}
 use Rattle.words.proofs.collecting.collected_mailboxes.Statement.{statement}
@@ -55,14 +55,18 @@ loop-again : tie.Need-loop-again Inv-loop μ-loop
 loop-again c =
     let loop = c .before .before .before .loop in
     let a = c .before .before .before .before .args in
-    let collected-mailbox = c .collected-mailbox in
-    (omega arith, loop .inv .1, mapEach-turn (collected (a .running) (a .range)) (a .t3) (loop .words) (loop .i) empty _ (omega arith) (loop .inv .2) (collected-mailbox .ensures))
+    let collected-mailbox = c .collected-mailbox in (
+      omega arith,
+      loop .inv .1,
+      mapEach-turn (collected (a .running) (a .range)) (a .t3) (loop .words) (loop .i) empty _ (omega arith) (loop .inv .2) (collected-mailbox .ensures),
+    )
 
 returns : tie.Need-returns Inv-loop μ-loop
 returns c =
     let loop = c .before .loop in
     let a = c .before .before .args in
-    loop .inv .2 ∙ mapEach-whole (collected (a .running) (a .range)) (a .t3) (loop .i) (omega arith) ∙ mapEach-map (collected (a .running) (a .range) 0) 0 (a .t3)
+    loop .inv .2 ∙ mapEach-whole (collected (a .running) (a .range)) (a .t3) (loop .i) (omega arith) ∙ mapEach-map (collected (a .running) (a .range) 0) 0
+    (a .t3)
 
 pub collected-mailboxes-spec : {M : Type 1} → statement M
 collected-mailboxes-spec =
