@@ -96,11 +96,6 @@ ruled-core s c k x e f r d cells tags = go (eqb k 0) refl
         (ap (λ a. left a cells tags) (d ∙ pick-yes _ _ _ z) ∙ done-core s x empty cells tags ∙ sym (ap (λ y. done s y cells tags) f))
     go false z = ap (λ a. left a cells tags) (d ∙ pick-no _ _ _ z) ∙ ruled-down s c k e (eqb-false k 0 z) cells tags
 
--- A call that leaves the core alone.
-pub same-core : (s : State) → withCore s (s .core) ≡ s
-unfolding withCore
-same-core s = refl
-
 -- Neither 4 nor 5 applied, nor any reason after them.
 pub manager-clear : (u m : Bool) (k rest : ℕ) → k ≡ pick u 4 (pick m 5 rest) → k ≡ 0 → rest ≡ 0
 manager-clear true m k rest e z = let y : _≡_ {A = ℕ} 4 0 = sym e ∙ z in omega arith
