@@ -1,10 +1,10 @@
-//! The proved library through its C boundary, `include/cetomuhi.h`.
+//! The two proved libraries through their C boundary, `include/cetomuhi.h`.
 //!
 //! `session` and `session_checked` are safe to call with every input and every buffer, empty ones
 //! too: what the boundary asks of its pointers holds of slices, which Rust keeps alive and apart,
 //! and the length that comes back is tested before it is used.
 
-/// Whether the library is linked, by the feature `proved`.
+/// Whether the libraries are linked, by the feature `proved`.
 pub const LINKED: bool = cfg!(feature = "proved");
 
 /// Enough for the lines of every session: 1 + 16,383 of them, none over 26 bytes.

@@ -66,7 +66,7 @@ pub fn kinds() -> Vec<(&'static str, Vec<u8>)> {
     let narrow = Action::Narrow { s: 0, off: 1, len: 4, mask: 15, d: 3 };
     let split = |base| Action::Split { base, len: 1 };
     let merge = |base| Action::Merge { base };
-    let rounds: [(&str, &[Action]); 11] = [
+    let rounds: [(&str, &[Action]); 12] = [
         ("number", &[Action::Number { d: 4, value: 42 }]),
         ("load of a number", &[Action::Load { a: 0, off: 0, d: 4 }]),
         ("load of a capability", &[Action::Load { a: 0, off: 5, d: 4 }]),
@@ -77,12 +77,38 @@ pub fn kinds() -> Vec<(&'static str, Vec<u8>)> {
         ("split, merge", &[split(8), merge(8)]),
         ("split, merge below 60 rows", &[split(16), merge(16)]),
         ("give", &[Action::Give { base: 8, to: 0 }]),
+        ("revoke, sweep, collect", &[revoke, sweep, Action::Collect]),
         (
             "zero, map, unmap, revoke, sweep, collect",
             &[zero, map, unmap, revoke, sweep, Action::Collect],
         ),
     ];
     rounds.map(|(name, round)| (name, repeated(name, round))).into()
+}
+
+/// Pairs of sessions, the second one like the first with calls of one kind more, all granted: kinds
+/// that nothing but other kinds can undo.
+pub fn kinds_by_difference() -> Vec<(&'static str, Vec<u8>, Vec<u8>)> {
+    let zero = |frame: u8| Action::Zero { frame };
+    let map = |frame: u8| Action::Map { page: frame, frame };
+    let unmap = |page: u8| Action::Unmap { page };
+    let split = |base: u8| Action::Split { base: base.into(), len: 1 };
+    let take = |base: u8| Action::Take { base: base.into(), reg: base % 8 };
+    let (frames, rows) = (0..128, 0..63);
+    let mut session = Session::start(256, 128);
+    let mut before = session.bytes.clone();
+    let mut step = |name, calls: Vec<Action>| {
+        calls.into_iter().for_each(|action| session.call(0, action));
+        let shorter = std::mem::replace(&mut before, session.bytes.clone());
+        (name, shorter, session.bytes.clone())
+    };
+    vec![
+        step("zero", frames.clone().map(zero).collect()),
+        step("map", frames.clone().map(map).collect()),
+        step("unmap", frames.map(unmap).collect()),
+        step("split, 1 to 63 rows", rows.clone().map(split).collect()),
+        step("take, of 64 rows", rows.map(take).collect()),
+    ]
 }
 
 fn repeated(name: &str, round: &[Action]) -> Vec<u8> {
@@ -158,6 +184,9 @@ mod tests {
         }
         for (name, input) in kinds() {
             assert!(all_granted(&input), "{name}");
+        }
+        for (name, shorter, longer) in kinds_by_difference() {
+            assert!(all_granted(&longer) && longer.starts_with(&shorter), "{name}");
         }
     }
 }

@@ -6,7 +6,8 @@ use cetomuhi_bench::plain;
 use cetomuhi_bench::proved::{self, LINES_LIMIT};
 use cetomuhi_bench::tally::Tally;
 use cetomuhi_bench::timing::{fastest, ticks_a_second};
-use cetomuhi_bench::workloads::{kinds, mix, small_calls, sweep, Cells, SWEPT_CELLS};
+use cetomuhi_bench::workloads::{kinds, kinds_by_difference, mix, small_calls};
+use cetomuhi_bench::workloads::{sweep, Cells, SWEPT_CELLS};
 use std::hint::black_box;
 use std::time::Duration;
 
@@ -16,6 +17,7 @@ fn main() {
     }
     print_mix();
     print_kinds();
+    print_kinds_by_difference();
     print_sweeps();
     print_growth();
 }
@@ -104,18 +106,41 @@ fn print_mix() {
 
 fn print_kinds() {
     println!("Nanoseconds a call, one or a few kinds over and over, V 16 and F 16:\n");
-    println!("| | plain | proved | proved / plain |");
+    println!("| | plain | proved | ratio |");
     println!("|---|---:|---:|---:|");
     for (name, input) in kinds() {
         let sessions = [input];
         let calls = calls(&sessions);
-        let cost = time(&[&sessions], UNCHECKED, 200)[0].map(|seconds| seconds * 1e9 / calls);
-        println!("| {name} |{}", rates(&cost));
+        let cost = time(&[&sessions], UNCHECKED, 300)[0].map(|seconds| seconds * 1e9 / calls);
+        println!("| {name} |{}", costs(&cost));
     }
     println!();
 }
 
-/// Three columns: both rates and proved over plain.
+fn print_kinds_by_difference() {
+    println!("Nanoseconds a call of kinds that cannot be repeated alone, V 256 and F 128: a");
+    println!("session with the calls less the same session without them.\n");
+    println!("| | plain | proved | ratio |");
+    println!("|---|---:|---:|---:|");
+    for (name, shorter, longer) in kinds_by_difference() {
+        let (without, with) = ([shorter], [longer]);
+        let calls = calls(&with) - calls(&without);
+        let both = time(&[&with, &without], UNCHECKED, 600);
+        let cost = both[0].less(&both[1]).map(|seconds| seconds * 1e9 / calls);
+        println!("| {name} |{}", costs(&cost));
+    }
+    println!();
+}
+
+/// Three columns: both costs, and plain over proved.
+fn costs(cost: &Both) -> String {
+    match cost.proved {
+        Some(proved) => format!(" {:.2} | {proved:.2} | {:.2} |", cost.plain, cost.plain / proved),
+        None => format!(" {:.2} | – | – |", cost.plain),
+    }
+}
+
+/// Three columns: both rates, and proved over plain.
 fn rates(rate: &Both) -> String {
     match rate.proved {
         Some(proved) => format!(" {:.2} | {proved:.2} | {:.2} |", rate.plain, proved / rate.plain),

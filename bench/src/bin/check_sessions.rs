@@ -1,7 +1,9 @@
-//! Compares the plain implementation's lines with the stored ones of folders of sessions.
+//! Compares the stored lines of folders of sessions with those of the plain implementation and,
+//! with the feature `proved`, of both proved libraries.
 
 use cetomuhi_bench::hex::{stored_sessions, Stored};
 use cetomuhi_bench::plain;
+use cetomuhi_bench::proved::{self, LINES_LIMIT};
 use std::path::Path;
 use std::process::ExitCode;
 
@@ -30,10 +32,16 @@ fn main() -> ExitCode {
 
 /// The session's name and the first line that differs, in words.
 fn difference(session: &Stored) -> Option<String> {
-    let printed = plain::session(&session.input);
-    if printed == session.lines {
-        return None;
+    let mut all = vec![plain::session(&session.input)];
+    if proved::LINKED {
+        all.extend([proved::session, proved::session_checked].map(|run| {
+            let mut buffer = vec![0; LINES_LIMIT];
+            let written = run(&session.input, &mut buffer).unwrap_or(0);
+            buffer.truncate(written);
+            buffer
+        }));
     }
+    let printed = all.into_iter().find(|printed| *printed != session.lines)?;
     let (printed, stored) = (lines(&printed), lines(&session.lines));
     let same = printed.iter().zip(&stored).take_while(|(a, b)| a == b).count();
     let at = |lines: &[String]| lines.get(same).cloned().unwrap_or("nothing".into());

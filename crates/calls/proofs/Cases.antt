@@ -15,7 +15,7 @@ abbrev pub NoneTo : ℕ → ℕ → Type 0
 NoneTo zero k = Unit {0}
 NoneTo (suc n) k = NoneTo n k × (k ≡ suc n → ⊥)
 
-above : (n : ℕ) {k : ℕ} → 1 ≤ k → NoneTo n k → suc n ≤ k
+pub above : (n : ℕ) {k : ℕ} → 1 ≤ k → NoneTo n k → suc n ≤ k
 above zero h others = h
 above (suc n) {k} h others =
     let below : suc n ≤ k = above n h (others .0) in

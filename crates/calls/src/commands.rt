@@ -37,13 +37,27 @@ pub(crate) const RECEIVE: u8 = 0x10;
 // The length of the longest.
 pub(crate) const LONGEST: usize = 11;
 
-// At a command's byte; 0 at 0, which is none.
-const LENGTHS: [usize; 17] = [0, 5, 6, 4, 5, 4, 4, 2, 4, 3, 3, 6, 6, 9, 11, 4, 3];
-
 // A command's length; 0 for a byte that is no command.
 pub(crate) fn length_of(command: u8) -> usize
     ensures { λ r. ⌜ r ≡ lengthOf command ⌝ }
 {
-    let k = command as usize;
-    if k < LENGTHS.len() { LENGTHS[k] } else { 0 }
+    match command {
+        TAKE => 5,
+        SPLIT => 6,
+        MERGE => 4,
+        GIVE => 5,
+        REVOKE => 4,
+        SWEEP => 4,
+        COLLECT => 2,
+        MAP => 4,
+        UNMAP => 3,
+        ZERO => 3,
+        LOAD => 6,
+        STORE => 6,
+        NARROW => 9,
+        NUMBER => 11,
+        GRANT => 4,
+        RECEIVE => 3,
+        _ => 0,
+    }
 }

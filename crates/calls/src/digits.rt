@@ -1,6 +1,6 @@
 // Numbers of one, two and eight bytes, high byte first.
 ghost use mathlib.Core.Path.{_≡_};
-ghost use Prim.Native.Nat.{_+_, _*_, _/_, _%_, _^_, _<_};
+ghost use Prim.Native.Nat.{_/_, _%_};
 ghost use Rattle.calls.specs.Bytes.{number};
 
 // The byte at a place; 0 past the end.
@@ -8,38 +8,6 @@ pub(crate) fn byte_at(s: &[u8], at: usize) -> u8
     ensures { λ r. ⌜ r ≡ number 1 at (now (s .entry)) ⌝ }
 {
     if at < s.len() { s[at] } else { 0 }
-}
-
-// The number of the two bytes from a place on.
-pub(crate) fn two_at(s: &[u8], at: u8) -> u16
-    ensures { λ r. ⌜ r ≡ number 2 at (now (s .entry)) ⌝ }
-{
-    let at = at as usize;
-    let high = byte_at(s, at);
-    let low = byte_at(s, at + 1);
-    (high as u16) * 256 + (low as u16)
-}
-
-// A number with one more byte behind it.
-fn joined(high: u64, low: u8) -> u64
-    requires { ⌜ high < 2 ^ 56 ⌝ }
-    ensures { λ r. ⌜ r ≡ high * 256 + low ⌝ }
-{
-    high * 256 + (low as u64)
-}
-
-// The number of the eight bytes from a place on.
-pub(crate) fn eight_at(s: &[u8], at: u8) -> u64
-    ensures { λ r. ⌜ r ≡ number 8 at (now (s .entry)) ⌝ }
-{
-    let at = at as usize;
-    let x = joined(byte_at(s, at) as u64, byte_at(s, at + 1));
-    let x = joined(x, byte_at(s, at + 2));
-    let x = joined(x, byte_at(s, at + 3));
-    let x = joined(x, byte_at(s, at + 4));
-    let x = joined(x, byte_at(s, at + 5));
-    let x = joined(x, byte_at(s, at + 6));
-    joined(x, byte_at(s, at + 7))
 }
 
 // The high byte of two.

@@ -3,189 +3,247 @@ use crate::Call;
 use crate::Reading;
 use crate::commands;
 use crate::digits::byte_at;
-use crate::digits::eight_at;
-use crate::digits::two_at;
 use pages::Frame;
 use pages::VirtualPage;
 ghost use mathlib.Core.Path.{_≡_};
-ghost use Prim.Native.Nat.{_≤_};
-ghost use lib.ListN.{drop};
+ghost use Prim.Native.Nat.{_+_, _*_, _^_, _≤_, _<_};
+ghost use lib.ListN.{length, drop};
 ghost use Rattle.calls.specs.Bytes.{number};
-ghost use Rattle.calls.specs.Commands.{callAt, page, frame};
+ghost use Rattle.calls.specs.Commands.{callAt, lengthOf, page, frame};
 ghost use Rattle.calls.specs.Reader.{Reads};
 
+// The byte at a place that is there.
+fn byte_in(s: &[u8], at: usize) -> u8
+    requires { ⌜ at < length (now s) ⌝ }
+    ensures { λ r. ⌜ r ≡ number 1 at (now (s .entry)) ⌝ }
+{
+    s[at]
+}
+
+// The number of the two bytes from a place on.
+fn two_at(s: &[u8], at: u8) -> u16
+    requires { ⌜ at + 2 ≤ length (now s) ⌝ }
+    ensures { λ r. ⌜ r ≡ number 2 at (now (s .entry)) ⌝ }
+{
+    let at = at as usize;
+    let high = byte_in(s, at);
+    let low = byte_in(s, at + 1);
+    (high as u16) * 256 + (low as u16)
+}
+
+// A number with one more byte behind it.
+fn joined(high: u64, low: u8) -> u64
+    requires { ⌜ high < 2 ^ 56 ⌝ }
+    ensures { λ r. ⌜ r ≡ high * 256 + low ⌝ }
+{
+    high * 256 + (low as u64)
+}
+
+// The number of the eight bytes from a place on.
+fn eight_at(s: &[u8], at: u8) -> u64
+    requires { ⌜ at + 8 ≤ length (now s) ⌝ }
+    ensures { λ r. ⌜ r ≡ number 8 at (now (s .entry)) ⌝ }
+{
+    let at = at as usize;
+    let x = joined(byte_in(s, at) as u64, byte_in(s, at + 1));
+    let x = joined(x, byte_in(s, at + 2));
+    let x = joined(x, byte_in(s, at + 3));
+    let x = joined(x, byte_in(s, at + 4));
+    let x = joined(x, byte_in(s, at + 5));
+    let x = joined(x, byte_in(s, at + 6));
+    joined(x, byte_in(s, at + 7))
+}
+
 fn page_at(s: &[u8], at: usize) -> VirtualPage
+    requires { ⌜ at < length (now s) ⌝ }
     ensures { λ r. ⌜ r ≡ page (number 1 at (now (s .entry))) ⌝ }
 {
-    VirtualPage(byte_at(s, at))
+    VirtualPage(byte_in(s, at))
 }
 
 fn frame_at(s: &[u8], at: usize) -> Frame
+    requires { ⌜ at < length (now s) ⌝ }
     ensures { λ r. ⌜ r ≡ frame (number 1 at (now (s .entry))) ⌝ }
 {
-    Frame(byte_at(s, at))
+    Frame(byte_in(s, at))
 }
 
 fn take_at(s: &[u8]) -> Call
+    requires { ⌜ 5 ≤ length (now s) ⌝ }
     ensures { λ r. ⌜ r ≡ callAt 0x01 (now (s .entry)) ⌝ }
 {
     Call::Take {
-        party: byte_at(s, 1),
+        party: byte_in(s, 1),
         base: two_at(s, 2),
-        reg: byte_at(s, 4),
+        reg: byte_in(s, 4),
     }
 }
 
 fn split_at(s: &[u8]) -> Call
+    requires { ⌜ 6 ≤ length (now s) ⌝ }
     ensures { λ r. ⌜ r ≡ callAt 0x02 (now (s .entry)) ⌝ }
 {
     Call::Split {
-        party: byte_at(s, 1),
+        party: byte_in(s, 1),
         base: two_at(s, 2),
         len: two_at(s, 4),
     }
 }
 
 fn merge_at(s: &[u8]) -> Call
+    requires { ⌜ 4 ≤ length (now s) ⌝ }
     ensures { λ r. ⌜ r ≡ callAt 0x03 (now (s .entry)) ⌝ }
 {
     Call::Merge {
-        party: byte_at(s, 1),
+        party: byte_in(s, 1),
         base: two_at(s, 2),
     }
 }
 
 fn give_at(s: &[u8]) -> Call
+    requires { ⌜ 5 ≤ length (now s) ⌝ }
     ensures { λ r. ⌜ r ≡ callAt 0x04 (now (s .entry)) ⌝ }
 {
     Call::Give {
-        party: byte_at(s, 1),
+        party: byte_in(s, 1),
         base: two_at(s, 2),
-        to: byte_at(s, 4),
+        to: byte_in(s, 4),
     }
 }
 
 fn revoke_at(s: &[u8]) -> Call
+    requires { ⌜ 4 ≤ length (now s) ⌝ }
     ensures { λ r. ⌜ r ≡ callAt 0x05 (now (s .entry)) ⌝ }
 {
     Call::Revoke {
-        party: byte_at(s, 1),
+        party: byte_in(s, 1),
         base: two_at(s, 2),
     }
 }
 
 fn sweep_at(s: &[u8]) -> Call
+    requires { ⌜ 4 ≤ length (now s) ⌝ }
     ensures { λ r. ⌜ r ≡ callAt 0x06 (now (s .entry)) ⌝ }
 {
     Call::Sweep {
-        party: byte_at(s, 1),
+        party: byte_in(s, 1),
         n: two_at(s, 2),
     }
 }
 
 fn collect_at(s: &[u8]) -> Call
+    requires { ⌜ 2 ≤ length (now s) ⌝ }
     ensures { λ r. ⌜ r ≡ callAt 0x07 (now (s .entry)) ⌝ }
 {
     Call::Collect {
-        party: byte_at(s, 1),
+        party: byte_in(s, 1),
     }
 }
 
 fn map_at(s: &[u8]) -> Call
+    requires { ⌜ 4 ≤ length (now s) ⌝ }
     ensures { λ r. ⌜ r ≡ callAt 0x08 (now (s .entry)) ⌝ }
 {
     Call::Map {
-        party: byte_at(s, 1),
+        party: byte_in(s, 1),
         page: page_at(s, 2),
         frame: frame_at(s, 3),
     }
 }
 
 fn unmap_at(s: &[u8]) -> Call
+    requires { ⌜ 3 ≤ length (now s) ⌝ }
     ensures { λ r. ⌜ r ≡ callAt 0x09 (now (s .entry)) ⌝ }
 {
     Call::Unmap {
-        party: byte_at(s, 1),
+        party: byte_in(s, 1),
         page: page_at(s, 2),
     }
 }
 
 fn zero_at(s: &[u8]) -> Call
+    requires { ⌜ 3 ≤ length (now s) ⌝ }
     ensures { λ r. ⌜ r ≡ callAt 0x0A (now (s .entry)) ⌝ }
 {
     Call::Zero {
-        party: byte_at(s, 1),
+        party: byte_in(s, 1),
         frame: frame_at(s, 2),
     }
 }
 
 fn load_at(s: &[u8]) -> Call
+    requires { ⌜ 6 ≤ length (now s) ⌝ }
     ensures { λ r. ⌜ r ≡ callAt 0x0B (now (s .entry)) ⌝ }
 {
     Call::Load {
-        party: byte_at(s, 1),
-        a: byte_at(s, 2),
+        party: byte_in(s, 1),
+        a: byte_in(s, 2),
         off: two_at(s, 3),
-        d: byte_at(s, 5),
+        d: byte_in(s, 5),
     }
 }
 
 fn store_at(s: &[u8]) -> Call
+    requires { ⌜ 6 ≤ length (now s) ⌝ }
     ensures { λ r. ⌜ r ≡ callAt 0x0C (now (s .entry)) ⌝ }
 {
     Call::Store {
-        party: byte_at(s, 1),
-        a: byte_at(s, 2),
+        party: byte_in(s, 1),
+        a: byte_in(s, 2),
         off: two_at(s, 3),
-        s: byte_at(s, 5),
+        s: byte_in(s, 5),
     }
 }
 
 fn narrow_at(s: &[u8]) -> Call
+    requires { ⌜ 9 ≤ length (now s) ⌝ }
     ensures { λ r. ⌜ r ≡ callAt 0x0D (now (s .entry)) ⌝ }
 {
     Call::Narrow {
-        party: byte_at(s, 1),
-        s: byte_at(s, 2),
+        party: byte_in(s, 1),
+        s: byte_in(s, 2),
         off: two_at(s, 3),
         len: two_at(s, 5),
-        mask: byte_at(s, 7),
-        d: byte_at(s, 8),
+        mask: byte_in(s, 7),
+        d: byte_in(s, 8),
     }
 }
 
 fn number_at(s: &[u8]) -> Call
+    requires { ⌜ 11 ≤ length (now s) ⌝ }
     ensures { λ r. ⌜ r ≡ callAt 0x0E (now (s .entry)) ⌝ }
 {
     Call::Number {
-        party: byte_at(s, 1),
-        d: byte_at(s, 2),
+        party: byte_in(s, 1),
+        d: byte_in(s, 2),
         value: eight_at(s, 3),
     }
 }
 
 fn grant_at(s: &[u8]) -> Call
+    requires { ⌜ 4 ≤ length (now s) ⌝ }
     ensures { λ r. ⌜ r ≡ callAt 0x0F (now (s .entry)) ⌝ }
 {
     Call::Grant {
-        party: byte_at(s, 1),
-        s: byte_at(s, 2),
-        to: byte_at(s, 3),
+        party: byte_in(s, 1),
+        s: byte_in(s, 2),
+        to: byte_in(s, 3),
     }
 }
 
 fn receive_at(s: &[u8]) -> Call
+    requires { ⌜ 3 ≤ length (now s) ⌝ }
     ensures { λ r. ⌜ r ≡ callAt 0x10 (now (s .entry)) ⌝ }
 {
     Call::Receive {
-        party: byte_at(s, 1),
-        d: byte_at(s, 2),
+        party: byte_in(s, 1),
+        d: byte_in(s, 2),
     }
 }
 
 // The call of a command's byte and the operands after it. In the last arm only 10, receive, is left.
 fn call_at(command: u8, s: &[u8]) -> Call
-    requires { ⌜ (1 ≤ command) × (command ≤ 16) ⌝ }
+    requires { ⌜ ((1 ≤ command) × (command ≤ 16)) × (lengthOf command ≤ length (now s)) ⌝ }
     ensures { λ r. ⌜ r ≡ callAt command (now (s .entry)) ⌝ }
 {
     match command {

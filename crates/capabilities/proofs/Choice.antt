@@ -2,7 +2,7 @@
 use Prim.Native.Nat.{_≤_}
 use native.Mathlib.Omega.{arith}
 use mathlib.Core.Bool.{Bool, true, false, _&&_, _||_, true≢false, false≢true}
-use mathlib.Core.Path.{_≡_, refl}
+use mathlib.Core.Path.{_≡_, refl, sym}
 use mir.Val.{boolByte}
 use Rattle.capabilities.specs.Lists.{pick}
 
@@ -40,3 +40,18 @@ or-false false b e = (refl, e)
 pub at-most : (b : Bool) → pick b 1 0 ≤ 1
 at-most true = omega arith
 at-most false = omega arith
+
+-- Two tests that hold together are one.
+pub same-test : (a b : Bool) → (a ≡ true → b ≡ true) → (b ≡ true → a ≡ true) → a ≡ b
+same-test true b f g = sym (f refl)
+same-test false true f g = g refl
+same-test false false f g = refl
+
+pub both : (a b : Bool) → a ≡ true → b ≡ true → a && b ≡ true
+both true b p q = q
+both false b p q = p
+
+-- A second test matters only where the first holds.
+pub and-under : (a b c : Bool) → (a ≡ true → b ≡ c) → (a && b) ≡ (a && c)
+and-under true b c h = h refl
+and-under false b c h = refl

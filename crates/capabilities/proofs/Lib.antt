@@ -1,5 +1,5 @@
 pub mod Choice
-pub mod Arrays
 pub mod Lists
 pub mod Refusals
 pub mod Capabilities
+pub mod Codes

@@ -1,13 +1,15 @@
--- Laws of `each` and `mapEach`: one entry more, as a loop goes, and what they say of one entry. Assumes nothing.
+-- Laws of `each`, `mapEach` and `map`: one entry more, as a loop goes, what they say of one entry, and lists in parts. Assumes nothing.
 use Prim.Native.Nat.{ℕ, zero, suc, _+_, _<_, _≤_}
 use native.Mathlib.Nat.{add-zero, add-suc, suc-add, zero-add}
 use native.Mathlib.Numerals.{add-one}
 use native.Mathlib.Omega.{arith}
-use mathlib.Core.Bool.{Bool, true, _&&_, and-true, and-assoc}
+use mathlib.Core.Bool.{Bool, true, false, _&&_, and-true, and-assoc}
 use mathlib.Core.List.{List, [], _∷_, _++_, append-nil, map}
 use mathlib.Core.Path.{_≡_, refl, sym, ap, _∙_}
-use lib.ListN.{length, getD, take, drop, set, drop-of-length-le}
-use lib.Seq.{take-suc, take-all, length-take-le, getD-at, set-at, drop-cons, append-snoc}
+use lib.ListN.{length, getD, take, drop, set, length-drop, drop-of-length-le, take-append-drop}
+use lib.Seq.{take-suc, take-all, length-take-le, getD-at, getD-drop, set-at, drop-cons, append-snoc}
+use lib.Dec.{leb}
+use borrow.Author.Tests.{leb-true, leb-false}
 use Rattle.capabilities.specs.Lists.{each, mapEach}
 use Rattle.capabilities.proofs.Choice.{and-left, and-right}
 
@@ -38,6 +40,53 @@ module _ {A : Type 0} (P : ℕ → A → Bool) where
       rw (rw add-zero at (h 0 (omega arith)))
       (each-all (suc n) l d (λ i k. rw (suc-add, ← add-suc) (h (suc i) (omega arith))))
 
+  pub each-append : (n : ℕ) (l m : List A) → each P n (l ++ m) ≡ (each P n l && each P (n + length l) m)
+  unfolding each
+  each-append n [] m = rw add-zero
+  each-append n (x ∷ l) m =
+      rw (each-append (suc n) l m, suc-add n (length l), add-suc n (length l)) (sym (and-assoc (P n x) (each P (suc n) l) (each P (suc (n + length l)) m)))
+
+  -- A list in two parts.
+  pub each-parts : (k : ℕ) (l : List A) → k ≤ length l → each P 0 l ≡ (each P 0 (take k l) && each P k (drop k l))
+  each-parts k l h =
+      ap (each P 0) (sym (take-append-drop k l)) ∙ each-append 0 (take k l) (drop k l)
+      ∙ ap (λ n. each P 0 (take k l) && each P n (drop k l)) (zero-add (length (take k l)) ∙ length-take-le k l h)
+
+  -- The entries from one on pass: it is enough to test those before it.
+  pub each-rest : (k : ℕ) (l : List A) (d : A) → ((i : ℕ) → k ≤ i → i < length l → P i (getD l i d) ≡ true) → each P 0 (take k l) ≡ each P 0 l
+  each-rest k l d h = go (leb k (length l)) refl
+    where
+      go : (b : Bool) → leb k (length l) ≡ b → each P 0 (take k l) ≡ each P 0 l
+      go true e =
+          let s = leb-true k (length l) e in
+          let r : each P k (drop k l) ≡ true = each-all k (drop k l) d (λ i j. rw getD-drop (h (k + i) (omega arith) (omega (arith, length-drop k l)))) in
+          sym (each-parts k l s ∙ ap (λ b. each P 0 (take k l) && b) r ∙ and-true (each P 0 (take k l)))
+      go false e = let s = leb-false k (length l) e in ap (each P 0) (take-all k l (omega arith))
+
+-- Two tests at once.
+pub each-and : {A : Type 0} (P Q : ℕ → A → Bool) (n : ℕ) (l : List A) → (each P n l && each Q n l) ≡ each (λ i x. P i x && Q i x) n l
+unfolding each
+each-and P Q n [] = refl
+each-and P Q n (x ∷ l) =
+    swap (P n x) (each P (suc n) l) (Q n x) (each Q (suc n) l) ∙ ap (λ b. (P n x && Q n x) && b) (each-and P Q (suc n) l)
+  where
+    swap : (a b c d : Bool) → (a && b) && (c && d) ≡ ((a && c) && (b && d))
+    swap false b c d = refl
+    swap true false false d = refl
+    swap true false true d = refl
+    swap true true c d = refl
+
+-- A test that does not look at the numbers.
+pub each-anywhere : {A : Type 0} (P : A → Bool) (m n : ℕ) (l : List A) → each (λ i x. P x) m l ≡ each (λ i x. P x) n l
+unfolding each
+each-anywhere P m n [] = refl
+each-anywhere P m n (x ∷ l) = ap (λ b. P x && b) (each-anywhere P (suc m) (suc n) l)
+
+pub each-map : {A B : Type 0} (P : ℕ → B → Bool) (f : A → B) (n : ℕ) (l : List A) → each P n (map f l) ≡ each (λ i x. P i (f x)) n l
+unfolding each
+each-map P f n [] = refl
+each-map P f n (x ∷ l) = ap (λ b. P n (f x) && b) (each-map P f (suc n) l)
+
 -- Two tests that agree on every entry.
 pub each-same : {A : Type 0} (P Q : ℕ → A → Bool) (n : ℕ) (l : List A) → ((i : ℕ) (x : A) → i < length l → P (n + i) x ≡ Q (n + i) x) → each P n l ≡ each Q n l
 unfolding each
@@ -67,6 +116,13 @@ unfolding mapEach
 mapEach-same f n [] h = refl
 mapEach-same f n (x ∷ l) h =
     rw (rw add-zero at (h 0 x (omega arith)), mapEach-same f (suc n) l (λ i y k. rw (suc-add, ← add-suc) (h (suc i) y (omega arith))))
+
+-- Two functions that agree on every entry.
+pub mapEach-agree : {A B : Type 0} (f g : ℕ → A → B) (n : ℕ) (l : List A) → ((i : ℕ) (x : A) → i < length l → f (n + i) x ≡ g (n + i) x) → mapEach f n l ≡ mapEach g n l
+unfolding mapEach
+mapEach-agree f g n [] h = refl
+mapEach-agree f g n (x ∷ l) h =
+    rw (rw add-zero at (h 0 x (omega arith)), mapEach-agree f g (suc n) l (λ i y k. rw (suc-add, ← add-suc) (h (suc i) y (omega arith))))
 
 -- A loop that replaces one entry a turn: after i + 1 turns.
 module _ {A : Type 0} (f : ℕ → A → A) where
@@ -100,3 +156,29 @@ pub mapEach-map : {A B : Type 0} (f : A → B) (n : ℕ) (l : List A) → mapEac
 unfolding mapEach
 mapEach-map f n [] = refl
 mapEach-map f n (x ∷ l) = ap (λ r. f x ∷ r) (mapEach-map f (suc n) l)
+
+-- Entries replaced one by one, in a list that is cut, joined or written.
+module _ {A B : Type 0} (f : A → B) where
+  pub map-append : (l m : List A) → map f (l ++ m) ≡ map f l ++ map f m
+  map-append [] m = refl
+  map-append (x ∷ l) m = ap (λ r. f x ∷ r) (map-append l m)
+
+  pub map-take : (n : ℕ) (l : List A) → map f (take n l) ≡ take n (map f l)
+  map-take zero l = refl
+  map-take (suc n) [] = refl
+  map-take (suc n) (x ∷ l) = ap (λ r. f x ∷ r) (map-take n l)
+
+  pub map-drop : (n : ℕ) (l : List A) → map f (drop n l) ≡ drop n (map f l)
+  map-drop zero l = refl
+  map-drop (suc n) [] = refl
+  map-drop (suc n) (x ∷ l) = map-drop n l
+
+  pub map-set : (l : List A) (i : ℕ) (x : A) → map f (set l i x) ≡ set (map f l) i (f x)
+  map-set [] i x = refl
+  map-set (y ∷ l) zero x = refl
+  map-set (y ∷ l) (suc i) x = ap (λ r. f y ∷ r) (map-set l i x)
+
+  -- Written and read again.
+  pub back : (g : B → A) (d : A) (l : List A) → ((i : ℕ) → i < length l → g (f (getD l i d)) ≡ getD l i d) → map g (map f l) ≡ l
+  back g d [] h = refl
+  back g d (y ∷ l) h = ap (λ z. z ∷ map g (map f l)) (h 0 (omega arith)) ∙ ap (λ k. y ∷ k) (back g d l (λ i p. h (suc i) (omega (arith, p))))

@@ -12,7 +12,7 @@ use Rattle.capabilities.specs.Refusals.{first}
 use Rattle.capabilities.proofs.Refusals.{first-clear}
 use Rattle.reservations.specs.declared.Reservation.{Reservation}
 use Rattle.reservations.specs.declared.ReservationState.the-variants.{Taken}
-use Rattle.reservations.specs.declared.Table.{Table}
+use Rattle.reservations.specs.Table.{Table}
 use Rattle.reservations.specs.Find.{rowOf, findOf}
 use Rattle.reservations.specs.Operations.{takeReasons, takeOf, takenRow, splitReasons, splitOf, mergeReasons, mergeOf, giveReasons, giveOf}
 use Rattle.reservations.specs.Rows.{isOpen, live, rangeOf, reservation}
@@ -28,7 +28,7 @@ use Rattle.revocation.proofs.CoreKept.{CoreFacts, core-facts}
 use Rattle.calls.specs.declared.Call.{Call}
 use Rattle.calls.specs.declared.Call.the-variants.{Take, Split, Merge, Give, Revoke, Sweep, Collect, Map, Unmap, Zero, Load, Store, Narrow, Number, Grant, Receive}
 use Rattle.words.specs.WordReasons.{unnamed, notManager}
-use Rattle.machine.specs.declared.State.{State}
+use Rattle.machine.specs.State.{State}
 use Rattle.machine.specs.Effects.{effect}
 use Rattle.machine.specs.Reasons.{reasons}
 use Rattle.machine.specs.Step.{done, reasonsOn, effectOn}

@@ -17,7 +17,7 @@ use Rattle.capabilities.proofs.Capabilities.{made-base, made-length, made-permi
 use Rattle.capabilities.proofs.Choice.{pick-yes, and-left, and-right, or-false}
 use Rattle.capabilities.proofs.Refusals.{first-clear}
 use Rattle.pages.specs.declared.Frame.{Frame}
-use Rattle.pages.specs.declared.Pages.{Pages}
+use Rattle.pages.specs.Pages.{Pages}
 use Rattle.pages.specs.declared.Place.{Place}
 use Rattle.pages.specs.declared.Place.the-variants.{At, Nowhere}
 use Rattle.pages.specs.declared.VirtualPage.{VirtualPage}
@@ -32,7 +32,7 @@ use Rattle.pages.proofs.States.{is-dirty}
 use Rattle.reservations.specs.declared.Found.{Found}
 use Rattle.reservations.specs.declared.Found.the-variants.{At as Row, Nowhere as NoRow}
 use Rattle.reservations.specs.declared.Reservation.{Reservation}
-use Rattle.reservations.specs.declared.Table.{Table}
+use Rattle.reservations.specs.Table.{Table}
 use Rattle.reservations.specs.Find.{findOf, rowOf, withRow, revokingOf, missing}
 use Rattle.reservations.specs.Operations.{takeReasons, takeOf, takenRow, splitReasons, splitOf, lowerPart, upperPart, mergeReasons, mergeOf, joined, giveReasons, giveOf, givenRow}
 use Rattle.reservations.specs.Rows.{isOpen, isRevoking, held, blank, live, rangeOf}
@@ -46,7 +46,7 @@ use Rattle.reservations.proofs.Kept.{row-live, open-still}
 use Rattle.reservations.proofs.Sound.{sound}
 use Rattle.reservations.proofs.Tiled.{tiled-row, tiled-next, tiled-fits, row-some}
 use Rattle.reservations.proofs.Truth.{and-yes}
-use Rattle.revocation.specs.declared.Core.{Core}
+use Rattle.revocation.specs.Core.{Core}
 use Rattle.revocation.specs.Revocation.{core, running, revoked, dying, wholePages, revokeReasons, revokeAt, revokeOf, collectReasons, collectedRow, collected, collectOf, coreSound, revocationSound}
 use Rattle.revocation.proofs.CoreAfter.{revoke-after, dying-inside}
 use Rattle.revocation.proofs.CoreKept.{CoreFacts, core-facts}
@@ -58,7 +58,7 @@ use Rattle.words.specs.Words.{slot, empty, named, registerOf, mailboxOf, keepTa
 use Rattle.words.specs.Words.{nowhere}
 use Rattle.words.specs.WordReasons.{unnamed, notManager, mayNotLoad, mayNotStore, pastEnd, badNarrow}
 use Rattle.words.specs.Words.{placeNumber}
-use Rattle.machine.specs.declared.State.{State}
+use Rattle.machine.specs.State.{State}
 use Rattle.machine.specs.Reasons.{reasons, addressed}
 use Rattle.machine.specs.Effects.{effect, sweptTo}
 use Rattle.machine.specs.Step.{done, reasonsOn, effectOn, registersAfter, mailboxesAfter, cellsAfter, tagsAfter}

@@ -8,7 +8,7 @@ use lib.Dec.{eqb}
 use lib.ListN.{length, getD}
 use Rattle.capabilities.specs.Capability.{baseOf, lengthOf}
 use Rattle.capabilities.specs.Range.{inside}
-use Rattle.reservations.specs.declared.Table.{Table}
+use Rattle.reservations.specs.Table.{Table}
 use Rattle.reservations.specs.Rows.{isOpen, live, rangeOf}
 use Rattle.reservations.proofs.Cells.{inside-made, no-shared-cell}
 use Rattle.revocation.specs.Revocation.{coreSound}

@@ -19,7 +19,7 @@ use Rattle.calls.specs.declared.Call.{Call}
 use Rattle.calls.specs.declared.Call.the-variants.{Take, Split, Merge, Revoke, Sweep, Collect, Map, Unmap, Zero, Store, Grant, Receive}
 use Rattle.calls.specs.Commands.{page, frame}
 use Rattle.words.specs.Words.{empty, byteOf, registerOf, mailboxOf, wordAt}
-use Rattle.machine.specs.declared.Answered.{Answered}
+use Rattle.machine.specs.State.{Answered}
 use Rattle.machine.specs.Effects.{effect}
 use Rattle.machine.specs.Formed.{mailboxesSound, wellFormed, fresh, startOf}
 use Rattle.machine.specs.Reasons.{addressed, reasons}

@@ -8,97 +8,24 @@ use mathlib.Core.Path.{_≡_, refl, sym, ap, subst, _∙_}
 use borrow.Author.Tests.{eq-eqb}
 use lib.Dec.{eqb}
 use lib.ListN.{length}
-use Rattle.capabilities.specs.Lists.{pick}
 use Rattle.capabilities.specs.Refusals.{first}
 use Rattle.capabilities.proofs.Choice.{pick-yes}
-use Rattle.pages.specs.declared.Frame.{Frame}
-use Rattle.pages.specs.declared.PageState.{PageState}
-use Rattle.pages.specs.declared.PageState.the-variants.{Unmapped, Freed, Mapped}
-use Rattle.pages.specs.declared.Pages.{Pages}
-use Rattle.pages.specs.declared.VirtualPage.{VirtualPage}
-use Rattle.pages.specs.Layer.{serves, pageAt, withPage, withFrame, inRange, freshOf, blank}
-use Rattle.pages.specs.Mapping.{mapOf, mapped, unmapOf, unmapped, soiled, mapReasons, unmapReasons, freedOf, releasedOf}
-use Rattle.reservations.specs.Find.{findOf}
+use Rattle.pages.specs.Layer.{serves, inRange, freshOf, blank}
 use Rattle.reservations.proofs.Truth.{both}
-use Rattle.revocation.specs.declared.Core.{Core}
-use Rattle.revocation.specs.Revocation.{revokeOf, revokeAt, revokeReasons, collectOf, collected, collectReasons, freshCore}
+use Rattle.revocation.specs.Revocation.{freshCore}
 use Rattle.calls.specs.declared.Call.{Call}
-use Rattle.calls.specs.declared.Call.the-variants.{Take, Split, Merge, Give, Revoke, Sweep, Collect, Map, Unmap, Zero, Load, Store, Narrow, Number, Grant, Receive}
-use Rattle.machine.specs.declared.State.{State}
-use Rattle.machine.specs.Effects.{effect}
 use Rattle.machine.specs.Formed.{startOf, fresh}
-use Rattle.machine.specs.Step.{done, reasonsOn, effectOn, stepOf, judged, ruled}
+use Rattle.machine.specs.Step.{reasonsOn, stepOf, judged, ruled}
 use Rattle.machine.proofs.Keeps.{step-keeps, start-formed}
 use Rattle.machine.proofs.Lengths.{step-sized}
+use Rattle.machine.proofs.Unchanged.{Same, step-same}
 use Rattle.machine.proofs.Lowest.{first-within, reasons-rise, ruled-code}
 use Rattle.histories.specs.Runs.{Machine, outcome, next, run, begun, Begins}
 use Rattle.histories.specs.Forming.{Standing, AlwaysFormed, NeverUnformed}
-use Rattle.histories.proofs.Granted.{handed, went-or-not, went-next}
-
--- No call changes V or F.
-pub record Same (p q : Pages) : Type 0 where
-  pub of-v : p .v ≡ q .v
-  pub of-f : p .f ≡ q .f
-
-same : (p : Pages) → Same p p
-same p = record { of-v = refl; of-f = refl }
-
-pick-same : (b : Bool) (p q : Pages) → Same p q → Same (pick b p q) q
-pick-same true p q k = k
-pick-same false p q k = same q
-
-core-same : (b : Bool) (x y : Core) → Same (x .pages) (y .pages) → Same (pick b x y .pages) (y .pages)
-core-same true x y k = k
-core-same false x y k = same (y .pages)
-
-map-same : (s : Pages) (page : VirtualPage) (frame : Frame) → Same (mapOf s page frame .pages) s
-unfolding mapOf mapped withFrame withPage
-map-same s page frame = pick-same (eqb (first (mapReasons s page frame)) 0) (mapped s page frame) s (record { of-v = refl; of-f = refl })
-
-unmap-same : (s : Pages) (page : VirtualPage) → Same (unmapOf s page .pages) s
-unfolding unmapOf unmapped soiled withFrame withPage
-unmap-same s page = pick-same (eqb (first (unmapReasons s page)) 0) (unmapped s page) s (go (pageAt s (page .0)))
-  where
-    go : (x : PageState) → Same (soiled (withPage s (page .0) Freed) x) s
-    go Unmapped = record { of-v = refl; of-f = refl }
-    go Freed = record { of-v = refl; of-f = refl }
-    go (Mapped g) = record { of-v = refl; of-f = refl }
-
-revoke-same : (c : Core) (p base : ℕ) → Same (revokeOf c p base .core .pages) (c .pages)
-unfolding revokeOf revokeAt freedOf
-revoke-same c p base = core-same (eqb (first (revokeReasons c p base)) 0) (revokeAt c (findOf (c .table) p base)) c (record { of-v = refl; of-f = refl })
-
-collect-same : (c : Core) → Same (collectOf c .core .pages) (c .pages)
-unfolding collectOf collected releasedOf
-collect-same c = core-same (eqb (first (collectReasons c)) 0) (collected c) c (record { of-v = refl; of-f = refl })
-
-pub effect-same : (s : State) (call : Call) → Same (effectOn s call .core .pages) (s .core .pages)
-unfolding effect withFrame
-effect-same s (Take p base reg) = same (s .core .pages)
-effect-same s (Split p base len) = same (s .core .pages)
-effect-same s (Merge p base) = same (s .core .pages)
-effect-same s (Give p base to) = same (s .core .pages)
-effect-same s (Revoke p base) = revoke-same (s .core) p base
-effect-same s (Sweep p n) = same (s .core .pages)
-effect-same s (Collect p) = collect-same (s .core)
-effect-same s (Map p page frame) = map-same (s .core .pages) page frame
-effect-same s (Unmap p page) = unmap-same (s .core .pages) page
-effect-same s (Zero p frame) = record { of-v = refl; of-f = refl }
-effect-same s (Load p a off d) = same (s .core .pages)
-effect-same s (Store p a off r) = same (s .core .pages)
-effect-same s (Narrow p r off len mask d) = same (s .core .pages)
-effect-same s (Number p d value) = same (s .core .pages)
-effect-same s (Grant p r to) = same (s .core .pages)
-effect-same s (Receive p d) = same (s .core .pages)
-
-done-same : (m : Machine) (c : Call) → Same (handed (done (m .state) (effectOn (m .state) c) (m .cells) (m .tags)) .state .core .pages) (m .state .core .pages)
-unfolding done
-done-same m c = effect-same (m .state) c
 
 pub next-same : (m : Machine) (c : Call) → Same (next m c .state .core .pages) (m .state .core .pages)
-next-same m c =
-    ⊎-elim (λ w. subst (λ n. Same (n .state .core .pages) (m .state .core .pages)) (sym (went-next m c w)) (done-same m c))
-    (λ n. subst (λ x. Same (x .state .core .pages) (m .state .core .pages)) (sym (n .0)) (same (m .state .core .pages))) (went-or-not m c)
+unfolding next outcome
+next-same m c = step-same (m .state) c (m .cells) (m .tags)
 
 pub standing-next : (m : Machine) (v f : ℕ) (c : Call) → Standing m v f → Standing (next m c) v f
 unfolding next outcome

@@ -11,10 +11,10 @@ use Rattle.capabilities.specs.Lists.{pick}
 use Rattle.capabilities.proofs.Choice.{pick-no}
 use Rattle.pages.specs.declared.Frame.{Frame}
 use Rattle.pages.specs.declared.FrameState.the-variants.{Dirty, Mapped as Shown}
-use Rattle.pages.specs.declared.PageEntry.{PageEntry}
+use Rattle.pages.specs.Pages.{PageEntry}
 use Rattle.pages.specs.declared.PageState.{PageState}
 use Rattle.pages.specs.declared.PageState.the-variants.{Unmapped, Freed, Mapped}
-use Rattle.pages.specs.declared.Pages.{Pages}
+use Rattle.pages.specs.Pages.{Pages}
 use Rattle.pages.specs.declared.Place.the-variants.{At}
 use Rattle.pages.specs.Entries.{isShown, isDirty, isUnmapped, maps, pageEntry, frameEntry}
 use Rattle.pages.specs.Layer.{pageAt, frameAt, mappings, pageSound, frameSound}

@@ -16,7 +16,7 @@ use Rattle.capabilities.proofs.Choice.{at-most}
 use Rattle.pages.specs.declared.Frame.{Frame}
 use Rattle.pages.specs.declared.FrameState.{FrameState}
 use Rattle.pages.specs.declared.FrameState.the-variants.{Dirty, Free, Mapped as Shown}
-use Rattle.pages.specs.declared.Pages.{Pages}
+use Rattle.pages.specs.Pages.{Pages}
 use Rattle.pages.specs.declared.Place.the-variants.{At, Nowhere}
 use Rattle.pages.specs.Entries.{isShown}
 use Rattle.pages.specs.Layer.{frameAt, withFrame}
@@ -26,10 +26,10 @@ use Rattle.pages.proofs.View.{frame-kept, page-of-frame}
 use Rattle.sweep.specs.Sweep.{sweptTags, shownAt}
 use Rattle.sweep.proofs.Sweeping.{length-swept}
 use Rattle.sweep.proofs.Sweeps.{swept-less, swept-clean}
-use Rattle.reservations.specs.declared.Table.{Table}
+use Rattle.reservations.specs.Table.{Table}
 use Rattle.reservations.specs.Rows.{isOpen, live, rangeOf}
 use Rattle.reservations.proofs.Cells.{inside-made}
-use Rattle.revocation.specs.declared.Core.{Core}
+use Rattle.revocation.specs.Core.{Core}
 use Rattle.revocation.specs.Revocation.{core, running, revoked, dying, collectedRow}
 use Rattle.revocation.proofs.CoreAfter.{dying-inside}
 use Rattle.words.specs.declared.Slot.{Slot}

@@ -10,7 +10,7 @@ use lib.ListN.{length}
 use Rattle.capabilities.specs.declared.Range.{Range}
 use Rattle.capabilities.proofs.Choice.{and-left}
 use Rattle.capabilities.proofs.Refusals.{first-clear}
-use Rattle.reservations.specs.declared.Table.{Table}
+use Rattle.reservations.specs.Table.{Table}
 use Rattle.reservations.specs.Find.{rowOf}
 use Rattle.reservations.specs.Operations.{takeReasons, takeOf, takenRow}
 use Rattle.reservations.specs.Rows.{isOpen, held, live, rangeOf}

@@ -15,7 +15,7 @@ use Rattle.reservations.specs.declared.Found.the-variants.{At}
 use Rattle.reservations.specs.declared.Reservation.{Reservation}
 use Rattle.reservations.specs.declared.ReservationState.{ReservationState}
 use Rattle.reservations.specs.declared.ReservationState.the-variants.{Open, Taken, Revoking}
-use Rattle.reservations.specs.declared.Table.{Table}
+use Rattle.reservations.specs.Table.{Table}
 use Rattle.reservations.specs.Find.{seek, findOf, begins, nextOf, rowOf, missing}
 use Rattle.reservations.specs.Operations.{alike, joined, mergeable, mergeReasonsAt, mergeReasons, mergeOf}
 use Rattle.reservations.specs.Rows.{isOpen, held, blank, live, reservation}

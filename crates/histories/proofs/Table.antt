@@ -15,7 +15,7 @@ use Rattle.capabilities.specs.Capability.{baseOf}
 use Rattle.reservations.specs.declared.Reservation.{Reservation}
 use Rattle.reservations.specs.declared.ReservationState.{ReservationState}
 use Rattle.reservations.specs.declared.ReservationState.the-variants.{Open, Taken, Revoking}
-use Rattle.reservations.specs.declared.Table.{Table}
+use Rattle.reservations.specs.Table.{Table}
 use Rattle.reservations.specs.Find.{rowOf, revokingOf}
 use Rattle.reservations.specs.Rows.{isOpen, isRevoking, blank, live, rangeOf}
 use Rattle.reservations.specs.Operations.{alike, joined, lowerPart, upperPart, takenRow, givenRow}
@@ -23,7 +23,7 @@ use Rattle.reservations.proofs.Cells.{inside-bounds, inside-made}
 use Rattle.reservations.proofs.After.{Replaced}
 use Rattle.reservations.proofs.Kept.{cut-one, cut-two}
 use Rattle.reservations.proofs.Dying.{dyings, none, firstOf, revoking-row, revoking-none, dyings-append, dyings-not}
-use Rattle.revocation.specs.declared.Core.{Core}
+use Rattle.revocation.specs.Core.{Core}
 use Rattle.revocation.specs.Revocation.{revokingRow, collectedRow, running, revoked, dying}
 use Rattle.histories.specs.Inv.{rowAt}
 

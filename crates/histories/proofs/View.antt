@@ -13,10 +13,10 @@ use Rattle.capabilities.proofs.Choice.{pick-yes, at-most}
 use Rattle.pages.specs.declared.Frame.{Frame}
 use Rattle.pages.specs.declared.FrameState.{FrameState}
 use Rattle.pages.specs.declared.FrameState.the-variants.{Dirty, Free, Mapped as Shown}
-use Rattle.pages.specs.declared.PageEntry.{PageEntry}
+use Rattle.pages.specs.Pages.{PageEntry}
 use Rattle.pages.specs.declared.PageState.{PageState}
 use Rattle.pages.specs.declared.PageState.the-variants.{Unmapped, Freed, Mapped}
-use Rattle.pages.specs.declared.Pages.{Pages}
+use Rattle.pages.specs.Pages.{Pages}
 use Rattle.pages.specs.declared.Place.{Place}
 use Rattle.pages.specs.declared.Place.the-variants.{At, Nowhere}
 use Rattle.pages.specs.Entries.{isShown, maps, mapsBelow, pageEntry}
@@ -25,7 +25,7 @@ use Rattle.pages.specs.Mapping.{cleared, lookupOf, placeIn}
 use Rattle.pages.proofs.Formed.{Sound, mapped-once, maps-low}
 use Rattle.pages.proofs.Mappings.{mappings-set}
 use Rattle.pages.proofs.Shows.{cleared-here, cleared-below, cleared-above}
-use Rattle.revocation.specs.declared.Core.{Core}
+use Rattle.revocation.specs.Core.{Core}
 use Rattle.words.specs.declared.Slot.{Slot}
 use Rattle.words.specs.Words.{slot, empty, tagOf, byteOf, wordAt, collectedRegister, collectedMailbox}
 use Rattle.histories.specs.Live.{wordOf, shown}

@@ -10,7 +10,7 @@ use Rattle.capabilities.specs.Capability.{baseOf, lengthOf}
 use Rattle.capabilities.specs.Range.{inside}
 use Rattle.pages.specs.declared.Place.{Place}
 use Rattle.pages.specs.declared.Place.the-variants.{At, Nowhere}
-use Rattle.pages.specs.declared.Pages.{Pages}
+use Rattle.pages.specs.Pages.{Pages}
 use Rattle.pages.specs.Mapping.{lookupOf}
 use Rattle.words.specs.declared.Slot.{Slot}
 use Rattle.words.specs.Words.{empty, wordAt}

@@ -5,8 +5,8 @@ use mathlib.Core.List.{List, [], _∷_}
 use mathlib.Core.Path.{_≡_}
 use lib.ListN.{length}
 use Rattle.calls.specs.declared.Call.{Call}
-use Rattle.machine.specs.declared.State.{State}
-use Rattle.machine.specs.declared.Answered.{Answered}
+use Rattle.machine.specs.State.{State}
+use Rattle.machine.specs.State.{Answered}
 use Rattle.machine.specs.Formed.{startOf}
 use Rattle.machine.specs.Step.{Outcome, stepOf}
 

@@ -9,7 +9,7 @@ use Rattle.capabilities.specs.Refusals.{first, reason}
 use Rattle.pages.specs.Layer.{serves}
 use Rattle.pages.proofs.Memory.{served}
 use Rattle.calls.specs.declared.Call.{Call}
-use Rattle.machine.specs.declared.State.{State}
+use Rattle.machine.specs.State.{State}
 use Rattle.machine.specs.Formed.{wellFormed}
 use Rattle.machine.specs.Reasons.{reads, reasons}
 use Rattle.machine.specs.Effects.{effect}

@@ -12,7 +12,7 @@ use Rattle.capabilities.specs.Refusals.{first}
 use Rattle.capabilities.proofs.Choice.{pick-yes}
 use Rattle.pages.specs.Layer.{serves}
 use Rattle.calls.specs.declared.Call.{Call}
-use Rattle.machine.specs.declared.State.{State}
+use Rattle.machine.specs.State.{State}
 use Rattle.machine.specs.Formed.{wellFormed}
 use Rattle.machine.specs.Step.{Outcome, refused, done, reasonsOn, effectOn, ruled, judged, stepOf}
 use Rattle.machine.specs.Command.{used, commandJudged, commandOf}

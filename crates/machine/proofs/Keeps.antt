@@ -16,7 +16,7 @@ use Rattle.pages.specs.Layer.{inRange, serves}
 use Rattle.pages.proofs.Formed as layer
 use Rattle.reservations.proofs.Sound as table
 use Rattle.reservations.proofs.Truth.{both}
-use Rattle.revocation.specs.declared.Core.{Core}
+use Rattle.revocation.specs.Core.{Core}
 use Rattle.revocation.specs.Revocation.{core, running, dying, coreSound}
 use Rattle.revocation.proofs.CoreKept.{core-facts, core-take, core-split, core-merge, core-give}
 use Rattle.revocation.proofs.Revocations.{core-revoke, core-collect, core-sweep}
@@ -26,7 +26,7 @@ use Rattle.calls.specs.declared.Call.the-variants.{Take, Split, Merge, Give, Re
 use Rattle.words.specs.declared.Slot.{Slot}
 use Rattle.words.specs.Words.{empty, collectedMailbox}
 use Rattle.words.specs.WordReasons.{unnamed, notManager}
-use Rattle.machine.specs.declared.State.{State}
+use Rattle.machine.specs.State.{State}
 use Rattle.machine.specs.Formed.{mailboxSound, mailboxesSound, sized, wellFormed, fresh, startOf}
 use Rattle.machine.specs.Reasons.{Reads, reads, reasons}
 use Rattle.machine.specs.Effects.{MailboxChange, keepMailboxes, putMailbox, collectMailboxes, effect, sweptTo}

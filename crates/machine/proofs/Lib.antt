@@ -8,4 +8,5 @@ pub mod PagesKept
 pub mod Lengths
 pub mod Keeps
 pub mod Commands
+pub mod Unchanged
 pub mod EdgesMet

@@ -18,7 +18,7 @@ use Rattle.reservations.specs.Operations.{openReasons, takeReasons, splitReason
 use Rattle.revocation.specs.Revocation.{revokeReasonsAt, revokeReasons, collectReasons}
 use Rattle.calls.specs.declared.Call.{Call}
 use Rattle.calls.specs.declared.Call.the-variants.{Take, Split, Merge, Give, Revoke, Sweep, Collect, Map, Unmap, Zero, Load, Store, Narrow, Number, Grant, Receive}
-use Rattle.machine.specs.declared.State.{State}
+use Rattle.machine.specs.State.{State}
 use Rattle.machine.specs.Formed.{wellFormed}
 use Rattle.machine.specs.Reasons.{reasons}
 use Rattle.machine.specs.Step.{refused, done, reasonsOn, effectOn, ruled, judged, stepOf}

@@ -15,7 +15,7 @@ use Rattle.capabilities.specs.Refusals.{first}
 use Rattle.capabilities.proofs.Choice.{and-left, and-right}
 use Rattle.capabilities.proofs.Lists.{each-at}
 use Rattle.capabilities.proofs.Refusals.{first-clear}
-use Rattle.pages.specs.declared.Pages.{Pages}
+use Rattle.pages.specs.Pages.{Pages}
 use Rattle.pages.specs.declared.Frame.{Frame}
 use Rattle.pages.specs.declared.VirtualPage.{VirtualPage}
 use Rattle.pages.specs.declared.PageState.{PageState}
@@ -32,7 +32,7 @@ use Rattle.pages.proofs.States.{is-dirty}
 use Rattle.reservations.specs.Find.{revokingOf, rowOf}
 use Rattle.reservations.specs.Tiling.{tableSound}
 use Rattle.reservations.proofs.Truth.{both}
-use Rattle.revocation.specs.declared.Core.{Core}
+use Rattle.revocation.specs.Core.{Core}
 use Rattle.revocation.specs.Revocation.{running, revoked, wholePages, revocationSound, coreSound}
 use Rattle.revocation.proofs.CoreKept.{core-facts, core-made}
 use Rattle.machine.specs.Effects.{withPages}

@@ -15,13 +15,13 @@ use Rattle.pages.specs.declared.Frame.{Frame}
 use Rattle.pages.specs.Layer.{serves}
 use Rattle.pages.specs.Mapping.{cleared}
 use Rattle.sweep.specs.Sweep.{sweptTags, sweepOf}
-use Rattle.revocation.specs.declared.Core.{Core}
+use Rattle.revocation.specs.Core.{Core}
 use Rattle.revocation.specs.Revocation.{core, running, revoked, sweepReasons, coreSwept, passing, sweptCore, sweepCoreOf}
 use Rattle.calls.specs.declared.Call.{Call}
 use Rattle.words.specs.declared.Slot.{Slot}
 use Rattle.words.specs.Words.{empty, byteOf, collectedRegister, collectedMailbox}
-use Rattle.machine.specs.declared.State.{State}
-use Rattle.machine.specs.declared.Answered.{Answered}
+use Rattle.machine.specs.State.{State}
+use Rattle.machine.specs.State.{Answered}
 use Rattle.machine.specs.Formed.{answered}
 use Rattle.machine.specs.Effects.{effectOf, keepRegisters, putRegister, fetchInto, collectRegisters, keepMailboxes, putMailbox, collectMailboxes, keepMemory, writeWord, clearFrame, sweepCells, sweptTo}
 use Rattle.machine.specs.Step.{Outcome, left, fetched, done, registersAfter, mailboxesAfter, cellsAfter, tagsAfter, wordAfter, reasonsOn, effectOn, ruled, judged, refused, withCore}
@@ -124,13 +124,3 @@ pub done-collect :
     ≡ done s (effectOf c collectRegisters collectMailboxes keepMemory empty) cells tags
 unfolding done registersAfter mailboxesAfter cellsAfter tagsAfter wordAfter
 done-collect s c cells tags = refl
-
--- With memory of the right size the rules 4 to 19 decide; with another it is refusal 2.
-module _ (s : State) (c : Call) (cells tags : List ℕ) (x : Outcome) where
-  pub judged-ruled : serves (s .core .pages) (length cells) (length tags) ≡ true → x ≡ ruled s c cells tags → x ≡ judged s c cells tags
-  unfolding judged
-  judged-ruled h e = rw h e
-
-  pub judged-size : serves (s .core .pages) (length cells) (length tags) ≡ false → x ≡ refused 2 s cells tags → x ≡ judged s c cells tags
-  unfolding judged
-  judged-size h e = rw h e

@@ -17,7 +17,7 @@ use Rattle.calls.specs.Commands.{bytesOf}
 use Rattle.calls.specs.Reader.{readOf}
 use Rattle.calls.specs.declared.Reading.the-variants.{Read}
 use Rattle.calls.proofs.RoundTrip.{round-trip}
-use Rattle.machine.specs.declared.State.{State}
+use Rattle.machine.specs.State.{State}
 use Rattle.machine.specs.Formed.{wellFormed}
 use Rattle.machine.specs.Step.{refused, reasonsOn, ruled, judged, stepOf}
 use Rattle.machine.specs.Command.{used, onReading, commandJudged, commandOf}

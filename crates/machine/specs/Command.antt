@@ -8,8 +8,8 @@ use Rattle.pages.specs.Layer.{serves}
 use Rattle.calls.specs.declared.Reading.{Reading}
 use Rattle.calls.specs.declared.Reading.the-variants.{Read, Refused}
 use Rattle.calls.specs.Reader.{readOf}
-use Rattle.machine.specs.declared.State.{State}
-use Rattle.machine.specs.declared.Commanded.{Commanded}
+use Rattle.machine.specs.State.{State}
+use Rattle.machine.specs.State.{Commanded}
 use Rattle.machine.specs.Formed.{wellFormed}
 use Rattle.machine.specs.Step.{Outcome, refused, judged}
 

@@ -8,7 +8,7 @@ use lib.Dec.{eqb}
 use Rattle.calls.specs.declared.Call.{Call}
 use Rattle.calls.specs.declared.Call.the-variants.{Take, Split, Give, Revoke, Sweep, Collect, Map, Zero, Load, Store}
 use Rattle.calls.specs.Commands.{page, frame}
-use Rattle.machine.specs.declared.State.{State}
+use Rattle.machine.specs.State.{State}
 use Rattle.machine.specs.Formed.{startOf}
 use Rattle.machine.specs.Step.{stepOf}
 

@@ -8,13 +8,13 @@ use Rattle.capabilities.specs.declared.Range.{Range}
 use Rattle.capabilities.specs.Capability.{capability, narrowed, permits}
 use Rattle.pages.specs.declared.Frame.{Frame}
 use Rattle.pages.specs.declared.FrameState.the-variants.{Free}
-use Rattle.pages.specs.declared.Pages.{Pages}
+use Rattle.pages.specs.Pages.{Pages}
 use Rattle.pages.specs.Layer.{withFrame}
 use Rattle.pages.specs.Mapping.{mapOf, unmapOf}
 use Rattle.sweep.specs.Sweep.{passed}
-use Rattle.reservations.specs.declared.Table.{Table}
+use Rattle.reservations.specs.Table.{Table}
 use Rattle.reservations.specs.Operations.{takeOf, splitOf, mergeOf, giveOf}
-use Rattle.revocation.specs.declared.Core.{Core}
+use Rattle.revocation.specs.Core.{Core}
 use Rattle.revocation.specs.Revocation.{core, revoked, revokeOf, collectOf}
 use Rattle.calls.specs.declared.Call.{Call}
 use Rattle.calls.specs.declared.Call.the-variants.{Take, Split, Merge, Give, Revoke, Sweep, Collect, Map, Unmap, Zero, Load, Store, Narrow, Number, Grant, Receive}

@@ -9,8 +9,8 @@ use Rattle.pages.specs.Layer.{inRange}
 use Rattle.revocation.specs.Revocation.{freshCore, coreSound}
 use Rattle.words.specs.declared.Slot.{Slot}
 use Rattle.words.specs.Words.{empty}
-use Rattle.machine.specs.declared.State.{State}
-use Rattle.machine.specs.declared.Answered.{Answered}
+use Rattle.machine.specs.State.{State}
+use Rattle.machine.specs.State.{Answered}
 
 -- "One mailbox for one capability, empty and its cell 0 when untagged".
 abbrev pub mailboxSound : ℕ → Slot → Bool

@@ -1,4 +1,5 @@
 -- The rules of document 01, in its order: the state, the reasons against a call, its effect, and one step.
+pub mod State
 pub mod Formed
 pub mod Reasons
 pub mod Effects

@@ -10,12 +10,12 @@ use Rattle.capabilities.specs.Refusals.{Reason, first}
 use Rattle.pages.specs.Layer.{serves}
 use Rattle.pages.specs.Mapping.{cleared}
 use Rattle.sweep.specs.Sweep.{sweptTags}
-use Rattle.revocation.specs.declared.Core.{Core}
+use Rattle.revocation.specs.Core.{Core}
 use Rattle.calls.specs.declared.Call.{Call}
 use Rattle.words.specs.declared.Slot.{Slot}
 use Rattle.words.specs.Words.{empty, byteOf, wordAt, keepTag, collectedRegister, collectedMailbox}
-use Rattle.machine.specs.declared.State.{State}
-use Rattle.machine.specs.declared.Answered.{Answered}
+use Rattle.machine.specs.State.{State}
+use Rattle.machine.specs.State.{Answered}
 use Rattle.machine.specs.Formed.{wellFormed, answered}
 use Rattle.machine.specs.Reasons.{reads, reasons}
 use Rattle.machine.specs.Effects.{RegisterChange, keepRegisters, putRegister, fetchInto, collectRegisters, MailboxChange, keepMailboxes, putMailbox, collectMailboxes, MemoryChange, keepMemory, writeWord, clearFrame, sweepCells, Effect, effect}

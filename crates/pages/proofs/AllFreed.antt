@@ -7,7 +7,7 @@ use lib.ListN.{length, getD}
 use Rattle.capabilities.specs.declared.Range.{Range}
 use Rattle.capabilities.specs.Range.{pageInside}
 use Rattle.capabilities.proofs.Lists.{each-at, each-all, length-mapEach}
-use Rattle.pages.specs.declared.Pages.{Pages}
+use Rattle.pages.specs.Pages.{Pages}
 use Rattle.pages.specs.declared.PageState.{PageState}
 use Rattle.pages.specs.declared.PageState.the-variants.{Unmapped, Freed, Mapped}
 use Rattle.pages.specs.Entries.{isMapped, pageEntry}

@@ -12,9 +12,9 @@ use borrow.Author.Tests.{ltb-true, leb-true, eqb-true, eqb-false, lt-ltb, le-leb
 use Rattle.capabilities.specs.Lists.{pick, each}
 use Rattle.capabilities.proofs.Choice.{pick-yes, pick-twice, and-left, and-right}
 use Rattle.capabilities.proofs.Lists.{each-at, each-all}
-use Rattle.pages.specs.declared.Pages.{Pages}
-use Rattle.pages.specs.declared.PageEntry.{PageEntry}
-use Rattle.pages.specs.declared.FrameEntry.{FrameEntry}
+use Rattle.pages.specs.Pages.{Pages}
+use Rattle.pages.specs.Pages.{PageEntry}
+use Rattle.pages.specs.Pages.{FrameEntry}
 use Rattle.pages.specs.declared.PageState.{PageState}
 use Rattle.pages.specs.declared.PageState.the-variants.{Unmapped}
 use Rattle.pages.specs.declared.FrameState.{FrameState}

@@ -12,8 +12,8 @@ use Rattle.capabilities.specs.Lists.{pick, mapEach}
 use Rattle.capabilities.specs.Range.{inside, pageInside}
 use Rattle.capabilities.proofs.Choice.{pick-yes, pick-twice, and-left, and-right}
 use Rattle.capabilities.proofs.Lists.{each-at, length-mapEach, getD-mapEach}
-use Rattle.pages.specs.declared.Pages.{Pages}
-use Rattle.pages.specs.declared.PageEntry.{PageEntry}
+use Rattle.pages.specs.Pages.{Pages}
+use Rattle.pages.specs.Pages.{PageEntry}
 use Rattle.pages.specs.declared.PageState.{PageState}
 use Rattle.pages.specs.declared.PageState.the-variants.{Unmapped, Freed, Mapped}
 use Rattle.pages.specs.Entries.{isUnmapped, isMapped, maps, pageEntry}

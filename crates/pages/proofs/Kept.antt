@@ -11,7 +11,7 @@ use Rattle.capabilities.specs.Lists.{pick}
 use Rattle.capabilities.specs.Refusals.{first}
 use Rattle.capabilities.proofs.Choice.{pick-yes, or-false, at-most}
 use Rattle.capabilities.proofs.Refusals.{first-clear}
-use Rattle.pages.specs.declared.Pages.{Pages}
+use Rattle.pages.specs.Pages.{Pages}
 use Rattle.pages.specs.declared.Frame.{Frame}
 use Rattle.pages.specs.declared.VirtualPage.{VirtualPage}
 use Rattle.pages.specs.declared.PageState.{PageState}

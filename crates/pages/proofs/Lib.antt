@@ -1,7 +1,6 @@
 pub mod Answers
 pub mod Mappings
 pub mod Memory
-pub mod Replacing
 pub mod Formed
 pub mod Kept
 pub mod States
@@ -9,3 +8,7 @@ pub mod Freeing
 pub mod View
 pub mod Shows
 pub mod AllFreed
+pub mod Reading
+pub mod OnNumbers
+pub mod Filling
+pub mod Testing

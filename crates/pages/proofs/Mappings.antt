@@ -12,7 +12,7 @@ use lib.Dec.{eqb}
 use borrow.Author.Tests.{eqb-true, eqb-false, ne-eqb}
 use Rattle.capabilities.specs.Lists.{pick, mapEach}
 use Rattle.capabilities.proofs.Choice.{pick-yes, pick-no, at-most}
-use Rattle.pages.specs.declared.PageEntry.{PageEntry}
+use Rattle.pages.specs.Pages.{PageEntry}
 use Rattle.pages.specs.declared.PageState.{PageState}
 use Rattle.pages.specs.declared.PageState.the-variants.{Unmapped, Freed, Mapped}
 use Rattle.pages.specs.Entries.{maps, frameNumber}

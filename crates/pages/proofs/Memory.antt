@@ -12,7 +12,7 @@ use Rattle.capabilities.specs.Refusals.{first}
 use Rattle.capabilities.proofs.Choice.{and-left, and-right}
 use Rattle.capabilities.proofs.Refusals.{first-clear}
 use Rattle.pages.specs.declared.Frame.{Frame}
-use Rattle.pages.specs.declared.Pages.{Pages}
+use Rattle.pages.specs.Pages.{Pages}
 use Rattle.pages.specs.declared.FrameState.the-variants.{Dirty, Free}
 use Rattle.pages.specs.Entries.{isDirty}
 use Rattle.pages.specs.Layer.{frameAt, serves, withFrame}
@@ -55,10 +55,6 @@ zero-served s frame cells tags e =
 
 -- The two ways in which zero returns.
 module _ (s : Pages) (frame : Frame) (cells tags : List ℕ) (k : ℕ) (e : k ≡ first (zeroReasons s frame (length cells) (length tags))) where
-  pub zero-refused : (k ≡ 0 → ⊥) → zeroed (record { code = k; pages = s }) cells tags ≡ zeroOf s frame cells tags
-  unfolding zeroOf
-  zero-refused h = rw (← e, ne-eqb k 0 h)
-
   pub zero-granted : k ≡ 0 → zeroed (record { code = 0; pages = withFrame s (frame .0) Free }) (cleared frame cells) (cleared frame tags) ≡ zeroOf s frame cells tags
   unfolding zeroOf
   zero-granted h = rw (← e, h)

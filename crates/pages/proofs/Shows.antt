@@ -9,7 +9,7 @@ use lib.Seq.{getD-take, getD-drop, getD-append-add, length-take-le}
 use lib.Dec.{ltb}
 use borrow.Author.Tests.{lt-ltb}
 use Rattle.capabilities.proofs.Choice.{pick-yes}
-use Rattle.pages.specs.declared.Pages.{Pages}
+use Rattle.pages.specs.Pages.{Pages}
 use Rattle.pages.specs.declared.Frame.{Frame}
 use Rattle.pages.specs.declared.VirtualPage.{VirtualPage}
 use Rattle.pages.specs.declared.PageState.the-variants.{Mapped}

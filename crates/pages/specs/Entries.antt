@@ -7,8 +7,8 @@ use Rattle.pages.specs.declared.PageState.{PageState}
 use Rattle.pages.specs.declared.PageState.the-variants.{Unmapped, Freed, Mapped}
 use Rattle.pages.specs.declared.FrameState.{FrameState}
 use Rattle.pages.specs.declared.FrameState.the-variants.{Dirty, Free, Mapped as Shown}
-use Rattle.pages.specs.declared.PageEntry.{PageEntry}
-use Rattle.pages.specs.declared.FrameEntry.{FrameEntry}
+use Rattle.pages.specs.Pages.{PageEntry}
+use Rattle.pages.specs.Pages.{FrameEntry}
 
 abbrev pub isUnmapped : PageState → Bool
 isUnmapped Unmapped = true

@@ -4,10 +4,10 @@ use mathlib.Core.Bool.{Bool, true, false, not, _||_}
 use Rattle.capabilities.specs.declared.Range.{Range}
 use Rattle.capabilities.specs.Lists.{each}
 use Rattle.capabilities.specs.Range.{pageInside}
-use Rattle.pages.specs.declared.Pages.{Pages}
+use Rattle.pages.specs.Pages.{Pages}
 use Rattle.pages.specs.declared.PageState.{PageState}
 use Rattle.pages.specs.declared.PageState.the-variants.{Unmapped, Freed, Mapped}
-use Rattle.pages.specs.declared.PageEntry.{PageEntry}
+use Rattle.pages.specs.Pages.{PageEntry}
 
 abbrev pub isFreed : PageState → Bool
 isFreed Unmapped = false

@@ -6,9 +6,9 @@ use mathlib.Core.List.{List, [], _∷_}
 use lib.ListN.{length, getD, set, replicate}
 use lib.Dec.{leb, ltb, eqb}
 use Rattle.capabilities.specs.Lists.{pick, each}
-use Rattle.pages.specs.declared.Pages.{Pages}
-use Rattle.pages.specs.declared.PageEntry.{PageEntry}
-use Rattle.pages.specs.declared.FrameEntry.{FrameEntry}
+use Rattle.pages.specs.Pages.{Pages}
+use Rattle.pages.specs.Pages.{PageEntry}
+use Rattle.pages.specs.Pages.{FrameEntry}
 use Rattle.pages.specs.declared.PageState.{PageState}
 use Rattle.pages.specs.declared.PageState.the-variants.{Unmapped}
 use Rattle.pages.specs.declared.FrameState.{FrameState}

@@ -1,4 +1,7 @@
+pub mod Pages
 pub mod Entries
 pub mod Layer
 pub mod Mapping
 pub mod Freed
+pub mod Numbers
+pub mod Sound

@@ -8,11 +8,11 @@ use Rattle.capabilities.specs.declared.Range.{Range}
 use Rattle.capabilities.specs.Lists.{pick, each, mapEach}
 use Rattle.capabilities.specs.Range.{pageInside}
 use Rattle.capabilities.specs.Refusals.{Reason, reason, first}
-use Rattle.pages.specs.declared.Pages.{Pages}
-use Rattle.pages.specs.declared.Paged.{Paged}
+use Rattle.pages.specs.Pages.{Pages}
+use Rattle.pages.specs.Pages.{Paged}
 use Rattle.pages.specs.declared.Frame.{Frame}
 use Rattle.pages.specs.declared.VirtualPage.{VirtualPage}
-use Rattle.pages.specs.declared.PageEntry.{PageEntry}
+use Rattle.pages.specs.Pages.{PageEntry}
 use Rattle.pages.specs.declared.PageState.{PageState}
 use Rattle.pages.specs.declared.PageState.the-variants.{Unmapped, Freed, Mapped}
 use Rattle.pages.specs.declared.FrameState.the-variants.{Dirty, Free, Mapped as Shown}

@@ -2,7 +2,7 @@
 use crate::FrameState;
 use crate::PageState;
 ghost use mathlib.Core.Path.{_≡_};
-ghost use Rattle.pages.specs.Entries.{isUnmapped, isMapped, isDirty, isFree, isShown, mapsBelow, frameNumber};
+ghost use Rattle.pages.specs.Entries.{isUnmapped, isMapped, isDirty, isFree, isShown, frameNumber};
 
 pub fn is_unmapped(state: PageState) -> bool
     ensures { λ r. ⌜ r ≡ isUnmapped state ⌝ }
@@ -21,16 +21,6 @@ pub fn is_mapped(state: PageState) -> bool
         PageState::Unmapped => false,
         PageState::Freed => false,
         PageState::Mapped(_) => true,
-    }
-}
-
-pub fn maps_below(f: u16, state: PageState) -> bool
-    ensures { λ r. ⌜ r ≡ mapsBelow f state ⌝ }
-{
-    match state {
-        PageState::Unmapped => true,
-        PageState::Freed => true,
-        PageState::Mapped(frame) => (frame.0 as u16) < f,
     }
 }
 

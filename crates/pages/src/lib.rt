@@ -1,9 +1,9 @@
 // The page layer: virtual pages, frames, and the cells of lent memory behind them.
 pub mod entry;
-pub mod freed;
 pub mod layer;
-pub mod mapping;
-pub mod ranges;
+pub mod lent;
+pub mod numbers;
+pub mod sound;
 
 // The number of a virtual page. V is at most 256, so a byte holds every one.
 pub struct VirtualPage(pub u8);
@@ -23,28 +23,6 @@ pub enum FrameState {
     Dirty,
     Free,
     Mapped,
-}
-
-pub struct PageEntry {
-    pub state: PageState,
-}
-
-pub struct FrameEntry {
-    pub state: FrameState,
-}
-
-// V pages and F frames; entries at V or F and above are unused.
-pub struct Pages {
-    pub v: u16,
-    pub f: u16,
-    pub pages: [PageEntry; 256],
-    pub frames: [FrameEntry; 128],
-}
-
-// What map, unmap and zero answer: 0 or the refusal's number, and the layer after it.
-pub struct Paged {
-    pub code: u8,
-    pub pages: Pages,
 }
 
 // The place of a virtual cell in lent memory.

@@ -12,7 +12,7 @@ use Rattle.capabilities.specs.Capability.{baseOf, lengthOf}
 use Rattle.capabilities.specs.Lists.{pick}
 use Rattle.capabilities.specs.Range.{inside}
 use Rattle.capabilities.proofs.Choice.{and-left, and-right}
-use Rattle.pages.specs.declared.FrameEntry.{FrameEntry}
+use Rattle.pages.specs.Pages.{FrameEntry}
 use Rattle.pages.specs.declared.Place.the-variants.{At}
 use Rattle.pages.specs.Mapping.{lookupOf}
 use Rattle.pages.proofs.Formed.{Sound}
@@ -21,7 +21,7 @@ use Rattle.reservations.specs.declared.ReservationState.the-variants.{Taken}
 use Rattle.reservations.specs.Rows.{reservation}
 use Rattle.reservations.proofs.Cells.{inside-bounds, inside-made}
 use Rattle.reservations.proofs.Truth.{both}
-use Rattle.revocation.specs.declared.Core.{Core}
+use Rattle.revocation.specs.Core.{Core}
 use Rattle.revocation.specs.Revocation.{dying}
 use Rattle.words.specs.declared.Slot.{Slot}
 use Rattle.words.specs.Words.{slot, empty, registerOf, mailboxOf, wordAt, keepTag, collectedMailbox}

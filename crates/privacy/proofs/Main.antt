@@ -20,7 +20,7 @@ use Rattle.capabilities.proofs.Refusals.{first-clear}
 use Rattle.reservations.specs.Operations.{takeReasons, takeOf, takenRow}
 use Rattle.reservations.specs.Rows.{isOpen, live, rangeOf}
 use Rattle.reservations.proofs.Cells.{inside-made}
-use Rattle.revocation.specs.declared.Core.{Core}
+use Rattle.revocation.specs.Core.{Core}
 use Rattle.revocation.specs.Revocation.{coreSound}
 use Rattle.calls.specs.declared.Call.{Call}
 use Rattle.calls.specs.declared.Call.the-variants.{Take}

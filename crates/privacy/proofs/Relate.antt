@@ -6,7 +6,7 @@ use mathlib.Core.List.{map}
 use mathlib.Core.Path.{_≡_, refl, sym, ap, subst, _∙_}
 use lib.ListN.{length, getD, set, length-set, length-map}
 use Rattle.pages.specs.declared.FrameState.the-variants.{Free}
-use Rattle.pages.specs.declared.Pages.{Pages}
+use Rattle.pages.specs.Pages.{Pages}
 use Rattle.pages.specs.declared.Place.{Place}
 use Rattle.pages.specs.declared.Place.the-variants.{At, Nowhere}
 use Rattle.pages.specs.Layer.{frameAt}

@@ -17,7 +17,7 @@ use Rattle.pages.specs.declared.Frame.{Frame}
 use Rattle.pages.specs.declared.FrameState.the-variants.{Dirty, Free, Mapped as Shown}
 use Rattle.pages.specs.declared.PageState.{PageState}
 use Rattle.pages.specs.declared.PageState.the-variants.{Unmapped, Freed, Mapped}
-use Rattle.pages.specs.declared.Pages.{Pages}
+use Rattle.pages.specs.Pages.{Pages}
 use Rattle.pages.specs.declared.Place.the-variants.{At}
 use Rattle.pages.specs.declared.VirtualPage.{VirtualPage}
 use Rattle.pages.specs.Entries.{isUnmapped}
@@ -29,7 +29,7 @@ use Rattle.pages.proofs.Kept.{Mappable, mappable, unmappable}
 use Rattle.pages.proofs.View.{page-put, page-kept, page-of-frame}
 use Rattle.reservations.specs.Find.{findOf, rowOf}
 use Rattle.reservations.specs.Rows.{rangeOf}
-use Rattle.revocation.specs.declared.Core.{Core}
+use Rattle.revocation.specs.Core.{Core}
 use Rattle.revocation.specs.Revocation.{revoked, revokeReasons, revokeAt, revokeOf, collectReasons, collected, collectOf, coreSound}
 use Rattle.revocation.proofs.CoreKept.{core-facts}
 use Rattle.calls.specs.declared.Call.{Call}

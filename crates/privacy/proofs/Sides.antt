@@ -21,7 +21,7 @@ use Rattle.pages.specs.Mapping.{lookupOf, dirtyReasons, noFrame}
 use Rattle.pages.proofs.Formed.{Sound}
 use Rattle.reservations.proofs.Cells.{inside-made}
 use Rattle.reservations.proofs.Truth.{both, and-yes, or-right}
-use Rattle.revocation.specs.declared.Core.{Core}
+use Rattle.revocation.specs.Core.{Core}
 use Rattle.revocation.specs.Revocation.{dying}
 use Rattle.calls.specs.declared.Call.{Call}
 use Rattle.calls.specs.declared.Call.the-variants.{Take, Split, Merge, Give, Revoke, Sweep, Collect, Map, Unmap, Zero, Load, Store, Narrow, Number, Grant, Receive}
@@ -29,7 +29,7 @@ use Rattle.words.specs.declared.Slot.{Slot}
 use Rattle.words.specs.Words.{slot, named, registerOf, mailboxOf, wordAt, stored}
 use Rattle.words.specs.WordReasons.{unnamed, notManager, mayNotLoad, mayNotStore}
 use Rattle.words.specs.Words.{placeNumber}
-use Rattle.machine.specs.declared.State.{State}
+use Rattle.machine.specs.State.{State}
 use Rattle.machine.specs.Reasons.{Reads, reasons, addressed}
 use Rattle.machine.specs.Effects.{effect}
 use Rattle.machine.specs.Step.{reasonsOn, effectOn}

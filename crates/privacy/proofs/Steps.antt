@@ -28,7 +28,7 @@ use Rattle.words.specs.declared.Slot.{Slot}
 use Rattle.words.specs.Words.{slot, registerOf, wordAt, byteOf, stored}
 use Rattle.words.specs.WordReasons.{unnamed}
 use Rattle.words.specs.Words.{placeNumber}
-use Rattle.machine.specs.declared.State.{State}
+use Rattle.machine.specs.State.{State}
 use Rattle.machine.specs.Formed.{wellFormed, mailboxesSound, sized}
 use Rattle.machine.specs.Reasons.{reads, reasons, addressed}
 use Rattle.machine.specs.Effects.{effect}

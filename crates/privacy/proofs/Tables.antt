@@ -18,7 +18,7 @@ use Rattle.pages.specs.declared.Place.the-variants.{At}
 use Rattle.pages.specs.Mapping.{lookupOf}
 use Rattle.pages.proofs.Formed.{sound}
 use Rattle.reservations.specs.declared.ReservationState.the-variants.{Taken}
-use Rattle.reservations.specs.declared.Table.{Table}
+use Rattle.reservations.specs.Table.{Table}
 use Rattle.reservations.specs.Find.{findOf, rowOf}
 use Rattle.reservations.specs.Operations.{takeReasons, takeOf, takenRow, splitReasons, splitOf, mergeReasons, mergeOf, giveReasons, giveOf}
 use Rattle.reservations.specs.Rows.{isOpen, held, live, rangeOf, reservation}
@@ -29,7 +29,7 @@ use Rattle.reservations.proofs.Kept.{row-live}
 use Rattle.reservations.proofs.Sound.{sound as tableFacts}
 use Rattle.reservations.proofs.Tiled.{tiled-next, tiled-fits, tiled-row, row-some}
 use Rattle.reservations.proofs.Truth.{both}
-use Rattle.revocation.specs.declared.Core.{Core}
+use Rattle.revocation.specs.Core.{Core}
 use Rattle.revocation.specs.Revocation.{revoked, revokeReasons, revokeOf, collectReasons, collectOf, coreSound}
 use Rattle.revocation.proofs.CoreAfter.{revoke-after}
 use Rattle.revocation.proofs.CoreKept.{core-facts}

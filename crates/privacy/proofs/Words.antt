@@ -13,12 +13,12 @@ use Rattle.capabilities.specs.Capability.{baseOf}
 use Rattle.capabilities.specs.Lists.{pick}
 use Rattle.capabilities.specs.Range.{inside}
 use Rattle.capabilities.proofs.Choice.{pick-yes, pick-no, and-right}
-use Rattle.pages.specs.declared.FrameEntry.{FrameEntry}
+use Rattle.pages.specs.Pages.{FrameEntry}
 use Rattle.pages.specs.Mapping.{cleared}
 use Rattle.pages.proofs.Shows.{length-cleared}
 use Rattle.sweep.specs.Sweep.{shownAt, sweptTags}
 use Rattle.sweep.proofs.Sweeping.{doomed, getD-swept, length-swept}
-use Rattle.revocation.specs.declared.Core.{Core}
+use Rattle.revocation.specs.Core.{Core}
 use Rattle.words.specs.declared.Slot.{Slot}
 use Rattle.words.specs.Words.{slot, empty, named, registerOf, tagOf, wordAt, collectedRegister}
 use Rattle.machine.specs.Effects.{MemoryChange, keepMemory, writeWord, clearFrame, sweepCells}

@@ -11,7 +11,7 @@ use Rattle.capabilities.specs.Range.{inside}
 use Rattle.pages.specs.declared.Place.{Place}
 use Rattle.pages.specs.declared.Place.the-variants.{At, Nowhere}
 use Rattle.pages.specs.Mapping.{lookupOf}
-use Rattle.reservations.specs.declared.Table.{Table}
+use Rattle.reservations.specs.Table.{Table}
 use Rattle.reservations.specs.Find.{findOf, rowOf}
 use Rattle.reservations.specs.Rows.{rangeOf}
 use Rattle.revocation.specs.Revocation.{revoked}
@@ -19,8 +19,8 @@ use Rattle.calls.specs.declared.Call.{Call}
 use Rattle.calls.specs.declared.Call.the-variants.{Take, Split, Merge, Give, Revoke, Sweep, Collect, Map, Unmap, Zero, Load, Store, Narrow, Number, Grant, Receive}
 use Rattle.words.specs.declared.Slot.{Slot}
 use Rattle.words.specs.Words.{empty, named, registerOf, mailboxOf, wordAt, stored}
-use Rattle.machine.specs.declared.Answered.{Answered}
-use Rattle.machine.specs.declared.State.{State}
+use Rattle.machine.specs.State.{Answered}
+use Rattle.machine.specs.State.{State}
 use Rattle.machine.specs.Reasons.{Reads, reading, reads}
 use Rattle.histories.specs.Runs.{Machine, outcome, next}
 

@@ -13,7 +13,7 @@ use Rattle.capabilities.specs.Lists.{pick}
 use Rattle.capabilities.specs.Refusals.{first}
 use Rattle.capabilities.proofs.Choice.{and-right, pick-yes, pick-twice}
 use Rattle.reservations.specs.declared.Reservation.{Reservation}
-use Rattle.reservations.specs.declared.Table.{Table}
+use Rattle.reservations.specs.Table.{Table}
 use Rattle.reservations.specs.declared.Found.{Found}
 use Rattle.reservations.specs.declared.Found.the-variants.{At, Nowhere}
 use Rattle.reservations.specs.Rows.{isOpen, held, live, blank, reservation, table, spread, gather}

@@ -11,9 +11,9 @@ use Rattle.capabilities.specs.Lists.{pick}
 use Rattle.capabilities.specs.Refusals.{Reason, reason, first}
 use Rattle.capabilities.proofs.Choice.{pick-yes, pick-no, and-left}
 use Rattle.capabilities.proofs.Refusals.{first-clear}
-use Rattle.reservations.specs.declared.Table.{Table}
-use Rattle.reservations.specs.declared.Tabled.{Tabled}
-use Rattle.reservations.specs.declared.Taken.{Taken}
+use Rattle.reservations.specs.Table.{Table}
+use Rattle.reservations.specs.Table.{Tabled}
+use Rattle.reservations.specs.Table.{Taken}
 use Rattle.reservations.specs.declared.Reservation.{Reservation}
 use Rattle.reservations.specs.declared.Found.{Found}
 use Rattle.reservations.specs.Rows.{isOpen}
@@ -27,32 +27,6 @@ module _ {A : Type 0} (code told : ℕ) (e : code ≡ told) (x y : A) where
 
   pub refused : (code ≡ 0 → ⊥) → pick (eqb told 0) x y ≡ y
   refused z = pick-no _ _ _ (ne-eqb told 0 (λ k. z (e ∙ k)))
-
-abbrev answer : ℕ → Table → Tabled
-answer code t = record { code = code; table = t }
-
-module _ (code told : ℕ) (e : code ≡ told) (before after : Table) where
-  pub tabled-refused : (code ≡ 0 → ⊥) → answer code before ≡ tabled told before after
-  tabled-refused z = ap (λ k. answer k before) e ∙ ap (answer told) (sym (refused code told e after before z))
-
-  pub tabled-granted : (t : Table) → code ≡ 0 → t ≡ after → answer code t ≡ tabled told before after
-  tabled-granted t z p = ap (λ k. answer k t) e ∙ ap (answer told) (p ∙ sym (granted code told e after before z))
-
-abbrev take-answer : ℕ → ℕ → Table → Taken
-take-answer code length t = record { code = code; length = length; table = t }
-
-module _ (code told : ℕ) (e : code ≡ told) (before after : Table) (length : ℕ) where
-  pub took-refused : (code ≡ 0 → ⊥) → take-answer code 0 before ≡ take-answer told (pick (eqb told 0) length 0) (pick (eqb told 0) after before)
-  took-refused z =
-      ap (λ k. take-answer k 0 before) e
-      ∙ ap (λ n. take-answer told n before) (sym (refused code told e length 0 z))
-      ∙ ap (take-answer told (pick (eqb told 0) length 0)) (sym (refused code told e after before z))
-
-  pub took-granted : (n : ℕ) (t : Table) → code ≡ 0 → n ≡ length → t ≡ after → take-answer code n t ≡ take-answer told (pick (eqb told 0) length 0) (pick (eqb told 0) after before)
-  took-granted n t z p q =
-      ap (λ k. take-answer k n t) e
-      ∙ ap (λ n. take-answer told n t) (p ∙ sym (granted code told e length 0 z))
-      ∙ ap (take-answer told (pick (eqb told 0) length 0)) (q ∙ sym (granted code told e after before z))
 
 -- What was not refused under 8 fits.
 pub split-fits : (r : Reservation) (len : ℕ) → badSplit r len ≡ false → len ≤ r .length

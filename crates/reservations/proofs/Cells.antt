@@ -12,7 +12,7 @@ use Rattle.capabilities.specs.declared.Range.{Range}
 use Rattle.capabilities.specs.Range.{inside}
 use Rattle.capabilities.proofs.Choice.{and-left, and-right}
 use Rattle.reservations.specs.declared.Reservation.{Reservation}
-use Rattle.reservations.specs.declared.Table.{Table}
+use Rattle.reservations.specs.Table.{Table}
 use Rattle.reservations.specs.Rows.{rangeOf, blank, live}
 use Rattle.reservations.specs.Tiling.{tiles, covered, covers, tableSound}
 use Rattle.reservations.specs.Operations.{takeOf, giveOf, splitOf, mergeOf}

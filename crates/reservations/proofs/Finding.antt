@@ -15,7 +15,7 @@ use Rattle.capabilities.proofs.Choice.{pick-yes, pick-no}
 use Rattle.reservations.specs.declared.Reservation.{Reservation}
 use Rattle.reservations.specs.declared.Found.{Found}
 use Rattle.reservations.specs.declared.Found.the-variants.{At, Nowhere}
-use Rattle.reservations.specs.declared.Table.{Table}
+use Rattle.reservations.specs.Table.{Table}
 use Rattle.reservations.specs.Rows.{live, blank}
 use Rattle.reservations.specs.Find.{seek, missing, nextOf, findOf, begins, inUse}
 

@@ -15,8 +15,8 @@ use Rattle.capabilities.proofs.Choice.{and-left, and-right}
 use Rattle.reservations.specs.declared.Reservation.{Reservation}
 use Rattle.reservations.specs.declared.ReservationState.{ReservationState}
 use Rattle.reservations.specs.declared.ReservationState.the-variants.{Open, Taken, Revoking}
-use Rattle.reservations.specs.declared.Table.{Table}
-use Rattle.reservations.specs.declared.Tabled.{Tabled}
+use Rattle.reservations.specs.Table.{Table}
+use Rattle.reservations.specs.Table.{Tabled}
 use Rattle.reservations.specs.declared.Found.{Found}
 use Rattle.reservations.specs.declared.Found.the-variants.{At, Nowhere}
 use Rattle.reservations.specs.Rows.{isOpen, isBlank, held, live, table, blank, splice, spread, gather}

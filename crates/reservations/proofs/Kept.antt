@@ -15,7 +15,7 @@ use Rattle.capabilities.proofs.Choice.{and-right, pick-yes, pick-no}
 use Rattle.reservations.specs.declared.Reservation.{Reservation}
 use Rattle.reservations.specs.declared.ReservationState.{ReservationState}
 use Rattle.reservations.specs.declared.ReservationState.the-variants.{Open, Taken, Revoking}
-use Rattle.reservations.specs.declared.Table.{Table}
+use Rattle.reservations.specs.Table.{Table}
 use Rattle.reservations.specs.declared.Found.{Found}
 use Rattle.reservations.specs.declared.Found.the-variants.{At, Nowhere}
 use Rattle.reservations.specs.Rows.{isOpen, isRevoking, isBlank, live, table, blank, splice, spread, gather}

@@ -12,3 +12,11 @@ pub mod Dying
 pub mod Unrevoked
 pub mod Refused
 pub mod After
+pub mod Numbers
+pub mod Mapping
+pub mod Reading
+pub mod Shifting
+pub mod Written
+pub mod Leaving
+pub mod Testing
+pub mod RoundTrip

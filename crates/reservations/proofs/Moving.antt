@@ -7,7 +7,7 @@ use mathlib.Core.Path.{_≡_, refl, ap, _∙_}
 use lib.ListN.{length, getD, take, drop, set, length-take, length-drop}
 use lib.Seq.{drop-cons, set-at, getD-take}
 use Rattle.reservations.specs.declared.Reservation.{Reservation}
-use Rattle.reservations.specs.declared.Table.{Table}
+use Rattle.reservations.specs.Table.{Table}
 use Rattle.reservations.specs.Rows.{live, splice, spread, gather, table, blank}
 
 -- The used rows are the first ones of all.
@@ -90,20 +90,3 @@ module _ {A : Type 0} where
   take-own zero l = refl
   take-own (suc n) [] = refl
   take-own (suc n) (x ∷ l) = ap (λ (r : List A). x ∷ r) (take-own n l)
-
--- What the loops leave is what the definitions say.
-pub spread-done : (t : Table) (i : ℕ) (lower upper : Reservation) → i < t .count → t .count < length (t .rows) → table (set (set (raised (t .rows) (i + 1) (t .count)) (i + 1) upper) i lower) (t .count + 1) ≡ spread t i lower upper
-unfolding spread splice live
-spread-done t i lower upper a b = rw (add-one i, add-one (t .count)) (ap (λ l. table l (suc (t .count))) (raise-end (t .rows) i (t .count) lower upper a b))
-
-pub gather-done : (t : Table) (i j : ℕ) (x : Reservation) → i < j → j + 1 ≡ length (live t) → table (set (lowered (set (t .rows) i x) (i + 1) j) j blank) (length (live t) - 1) ≡ gather t i x
-unfolding gather splice
-gather-done t i j x a e =
-    let k : suc j ≡ length (live t) = omega arith in
-    let own : take (length (live t)) (t .rows) ≡ live t = unfold live in take-own (t .count) (t .rows) in
-    let n = length (live t) in
-    rw (add-one i, add-two i)
-    (ap (λ l. table l (n - 1))
-    (lower-end (t .rows) i j x blank a (omega (arith, live-length t))
-    ∙ ap (λ m. (take i (take m (t .rows)) ++ x ∷ drop (suc (suc i)) (take m (t .rows))) ++ blank ∷ drop m (t .rows)) k
-    ∙ ap (λ l. (take i l ++ x ∷ drop (suc (suc i)) l) ++ blank ∷ drop n (t .rows)) own))

@@ -7,7 +7,7 @@ use lib.ListN.{length}
 use Rattle.capabilities.specs.Lists.{pick}
 use Rattle.capabilities.specs.Refusals.{first}
 use Rattle.capabilities.proofs.Choice.{pick-no}
-use Rattle.reservations.specs.declared.Table.{Table}
+use Rattle.reservations.specs.Table.{Table}
 use Rattle.reservations.specs.Find.{findOf, rowOf, withRow}
 use Rattle.reservations.specs.Operations.{takeOf, takeReasons, takenRow, splitOf, splitReasons, splitAt, mergeOf, mergeReasons, mergeAt, giveOf, giveReasons, givenRow}
 

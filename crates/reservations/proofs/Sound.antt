@@ -10,7 +10,7 @@ use lib.ListN.{length, drop, set, length-append, length-set, take-append-drop}
 use lib.Seq.{take-append-seam, drop-append-seam, set-append-left}
 use Rattle.capabilities.proofs.Choice.{and-left, and-right}
 use Rattle.reservations.specs.declared.Reservation.{Reservation}
-use Rattle.reservations.specs.declared.Table.{Table}
+use Rattle.reservations.specs.Table.{Table}
 use Rattle.reservations.specs.declared.Found.the-variants.{At}
 use Rattle.reservations.specs.Rows.{live, table}
 use Rattle.reservations.specs.Find.{withRow}

@@ -10,20 +10,22 @@ use lib.Dec.{eqb}
 use lib.ListN.{length, getD, take, drop, set}
 use lib.Seq.{set-split}
 use Rattle.capabilities.specs.Lists.{pick}
+use Rattle.capabilities.specs.Refusals.{first}
 use Rattle.capabilities.proofs.Choice.{and-right, pick-yes, pick-no}
 use Rattle.reservations.specs.declared.Reservation.{Reservation}
 use Rattle.reservations.specs.declared.ReservationState.{ReservationState}
 use Rattle.reservations.specs.declared.ReservationState.the-variants.{Open, Taken, Revoking}
-use Rattle.reservations.specs.declared.Table.{Table}
+use Rattle.reservations.specs.Table.{Table}
 use Rattle.reservations.specs.declared.Found.{Found}
 use Rattle.reservations.specs.declared.Found.the-variants.{At, Nowhere}
 use Rattle.reservations.specs.Rows.{isOpen, isRevoking, held, blank, live}
 use Rattle.reservations.specs.Find.{missing, findOf, begins, nextOf, rowOf, withRow}
-use Rattle.reservations.specs.Operations.{lowerPart, upperPart, splitAt}
-use Rattle.reservations.specs.Operations.{alike, joined, mergeable, mergeAt}
+use Rattle.reservations.specs.Operations.{openReasons, takeReasons, takenRow, takeOf, giveReasons, givenRow, giveOf}
+use Rattle.reservations.specs.Operations.{lowerPart, upperPart, splitReasonsAt, splitReasons, splitAt, splitOf}
+use Rattle.reservations.specs.Operations.{alike, joined, mergeable, mergeReasonsAt, mergeReasons, mergeAt, mergeOf}
 use Rattle.reservations.specs.Tiling.{tableSound}
 use Rattle.reservations.proofs.Finding.{found-at, next-at, next-below}
-use Rattle.reservations.proofs.Answers.{Splits, merge-next}
+use Rattle.reservations.proofs.Answers.{Splits, open-clear, split-clear, merge-clear, merge-next}
 use Rattle.reservations.proofs.Inverse.{spread-live, gather-live}
 use Rattle.reservations.proofs.Dying.{dyings, dyings-append, dyings-not}
 use Rattle.reservations.proofs.Sound.{Sound, sound, with-made, live-made}
@@ -110,3 +112,30 @@ module _ (cells : ℕ) (t : Table) (ok : tableSound cells t ≡ true) where
       ∙ ap (λ d. dyings (take i l) ++ d) (dyings-not j q (same .0) ∙ sym (dyings-not r (s ∷ q) still-r ∙ dyings-not s q still-s))
       ∙ sym (dyings-append (take i l) (r ∷ s ∷ q)) ∙ sym (ap dyings (cut-two l i h))
   merge-same party Nowhere m = refl
+
+  -- The same of each call, granted or refused.
+  pub take-still : (party base : ℕ) → dyings (live (takeOf t party base .table)) ≡ dyings (live t)
+  unfolding takeOf takeReasons
+  take-still party base =
+      let f = findOf t party base in
+      pick-same (first (openReasons f (rowOf t f))) (withRow t f (takenRow (rowOf t f)))
+      (λ z. with-same party base f (takenRow (rowOf t f)) refl (open-clear f (rowOf t f) z .1) refl)
+
+  pub give-still : (party base to : ℕ) → dyings (live (giveOf t party base to .table)) ≡ dyings (live t)
+  unfolding giveOf giveReasons
+  give-still party base to =
+      let f = findOf t party base in
+      pick-same (first (openReasons f (rowOf t f))) (withRow t f (givenRow (rowOf t f) to))
+      (λ z. let o = open-clear f (rowOf t f) z .1 in with-same party base f (givenRow (rowOf t f) to) refl o (open-still (rowOf t f .state) o))
+
+  pub split-still : (party base len : ℕ) → dyings (live (splitOf t party base len .table)) ≡ dyings (live t)
+  unfolding splitOf splitReasons
+  split-still party base len =
+      let f = findOf t party base in
+      pick-same (first (splitReasonsAt t f len)) (splitAt t f len) (λ z. split-same party base len f refl (split-clear t f len z))
+
+  pub merge-still : (party base : ℕ) → dyings (live (mergeOf t party base .table)) ≡ dyings (live t)
+  unfolding mergeOf mergeReasons
+  merge-still party base =
+      let f = findOf t party base in
+      pick-same (first (mergeReasonsAt t f party)) (mergeAt t f) (λ z. merge-same party f (merge-clear t f party z))

@@ -30,10 +30,6 @@ module _ (l : List Reservation) (i : ℕ) (h : length l ≤ i) where
   unfolding tiles
   tiles-end from upto = rw (drop-of-length-le l h)
 
-  pub blank-end : allBlank (drop i l) ≡ true
-  unfolding allBlank
-  blank-end = rw (drop-of-length-le l h)
-
   pub revokings-end : revokings (drop i l) ≡ 0
   unfolding revokings
   revokings-end = rw (drop-of-length-le l h)

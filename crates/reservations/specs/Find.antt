@@ -6,7 +6,7 @@ use lib.ListN.{length, getD, set}
 use lib.Dec.{eqb, ltb}
 use Rattle.capabilities.specs.Lists.{pick}
 use Rattle.reservations.specs.declared.Reservation.{Reservation}
-use Rattle.reservations.specs.declared.Table.{Table}
+use Rattle.reservations.specs.Table.{Table}
 use Rattle.reservations.specs.declared.Found.{Found}
 use Rattle.reservations.specs.declared.Found.the-variants.{At, Nowhere}
 use Rattle.reservations.specs.Rows.{isRevoking, held, blank, live, table}

@@ -8,9 +8,9 @@ use Rattle.capabilities.specs.Refusals.{Reason, reason, first}
 use Rattle.reservations.specs.declared.Reservation.{Reservation}
 use Rattle.reservations.specs.declared.ReservationState.{ReservationState}
 use Rattle.reservations.specs.declared.ReservationState.the-variants.{Open, Taken}
-use Rattle.reservations.specs.declared.Table.{Table}
-use Rattle.reservations.specs.declared.Tabled.{Tabled}
-use Rattle.reservations.specs.declared.Taken.{Taken as Took}
+use Rattle.reservations.specs.Table.{Table}
+use Rattle.reservations.specs.Table.{Tabled}
+use Rattle.reservations.specs.Table.{Taken as Took}
 use Rattle.reservations.specs.declared.Found.{Found}
 use Rattle.reservations.specs.declared.Found.the-variants.{At, Nowhere}
 use Rattle.reservations.specs.Rows.{isOpen, isTaken, held, reservation, spread, gather}

@@ -8,7 +8,7 @@ use Rattle.capabilities.specs.declared.Range.{Range}
 use Rattle.reservations.specs.declared.ReservationState.{ReservationState}
 use Rattle.reservations.specs.declared.ReservationState.the-variants.{Open, Taken, Revoking}
 use Rattle.reservations.specs.declared.Reservation.{Reservation}
-use Rattle.reservations.specs.declared.Table.{Table}
+use Rattle.reservations.specs.Table.{Table}
 
 -- "State (0 Open, 1 Taken, 2 Revoking)".
 abbrev pub stateNumber : ReservationState → ℕ

@@ -9,7 +9,7 @@ use Rattle.capabilities.specs.Lists.{pick}
 use Rattle.capabilities.specs.Range.{inside}
 use Rattle.reservations.specs.declared.Reservation.{Reservation}
 use Rattle.reservations.specs.declared.ReservationState.the-variants.{Open}
-use Rattle.reservations.specs.declared.Table.{Table}
+use Rattle.reservations.specs.Table.{Table}
 use Rattle.reservations.specs.Rows.{isOpen, isRevoking, isBlank, blank, reservation, rangeOf, live, table}
 
 -- "Each has .. length (at least 1) .. Taken and Revoking have holder 0"; a holder is a party, 0 to 7.

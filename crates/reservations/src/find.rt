@@ -1,115 +1,114 @@
-// Which row is meant, and what stands there.
+// Which row is meant, and what stands there, in a lent array of numbers.
 use crate::Found;
 use crate::Reservation;
-use crate::ReservationState;
-use crate::Table;
-use crate::row::begins;
-use crate::row::is_revoking;
+use crate::number::begins_at;
+use crate::number::number_of;
+use crate::number::revoking_at;
+use crate::number::row_of;
 ghost use mathlib.Core.Path.{_≡_};
-ghost use lib.ListN.{length};
-ghost use Rattle.reservations.specs.Rows.{live, blank};
-ghost use Rattle.reservations.specs.Find.{findOf, nextOf, revokingOf, rowOf, withRow};
+ghost use mathlib.Core.List.{map};
+ghost use lib.ListN.{length, getD};
+ghost use Rattle.reservations.specs.Rows.{live};
+ghost use Rattle.reservations.specs.Find.{findOf, nextOf, revokingOf, rowOf};
+ghost use Rattle.reservations.specs.Numbers.{rowFrom, rowCode, tableOf};
+ghost use Rattle.reservations.specs.Lent.{putAt, placeOf};
 
-pub(crate) fn blank() -> Reservation
-    ensures { λ r. ⌜ r ≡ blank ⌝ }
+// How many rows are in use: a count above the number of rows means all of them.
+pub fn used(rows: &[u64], count: usize) -> usize
+    ensures { λ r. ⌜ r ≡ length (live (tableOf (now (rows .entry)) count)) ⌝ }
 {
-    Reservation {
-        base: 0,
-        length: 0,
-        state: ReservationState::Open,
-        holder: 0,
+    if count < rows.len() {
+        count
+    } else {
+        rows.len()
     }
 }
 
-impl Table {
-    // How many rows are in use: a count above 64 means all of them.
-    pub fn used(self) -> usize
-        ensures { λ r. ⌜ r ≡ length (live self) ⌝ }
-    {
-        if self.count < 64 {
-            return self.count;
-        }
-        64
-    }
+// The number of a row; 0 past the end.
+pub fn number_in(rows: &[u64], at: usize) -> u64
+    ensures { λ r. ⌜ r ≡ getD (now (rows .entry)) at 0 ⌝ }
+{
+    if at < rows.len() { rows[at] } else { 0 }
+}
 
-    // The reservation that begins at `base` and is held by the party.
-    pub fn find(self, party: u8, base: u16) -> Found
-        ensures { λ r. ⌜ r ≡ findOf self party base ⌝ }
-    {
-        let n = self.used();
-        let mut i = 0;
-        while i < n {
-            let row = self.rows[i];
-            if begins(party, base, row) {
-                return Found::At(i);
-            }
-            i += 1;
+// The reservation that begins at `base` and is held by the party.
+pub fn find(rows: &[u64], count: usize, party: u8, base: u16) -> Found
+    ensures { λ r. ⌜ r ≡ findOf (tableOf (now (rows .entry)) count) party base ⌝ }
+{
+    let n = used(rows, count);
+    let mut i: usize = 0;
+    while i < n {
+        if begins_at(rows[i], party, base) {
+            return Found::At(i);
         }
-        Found::Nowhere
+        i += 1;
     }
+    Found::Nowhere
+}
 
-    // The Revoking reservation, if one is.
-    pub fn revoking(self) -> Found
-        ensures { λ r. ⌜ r ≡ revokingOf self ⌝ }
-    {
-        let n = self.used();
-        let mut i = 0;
-        while i < n {
-            let row = self.rows[i];
-            let state = row.state;
-            if is_revoking(state) {
-                return Found::At(i);
-            }
-            i += 1;
+// The Revoking reservation, if one is.
+pub fn revoking(rows: &[u64], count: usize) -> Found
+    ensures { λ r. ⌜ r ≡ revokingOf (tableOf (now (rows .entry)) count) ⌝ }
+{
+    let n = used(rows, count);
+    let mut i: usize = 0;
+    while i < n {
+        if revoking_at(rows[i]) {
+            return Found::At(i);
         }
-        Found::Nowhere
+        i += 1;
     }
+    Found::Nowhere
+}
 
-    // The next reservation above.
-    pub fn next(self, found: Found) -> Found
-        ensures { λ r. ⌜ r ≡ nextOf self found ⌝ }
-    {
-        let n = self.used();
-        match found {
-            Found::At(i) => {
-                if i < 64 {
-                    if i + 1 < n {
-                        return Found::At(i + 1);
-                    }
+// The next reservation above.
+pub fn next(rows: &[u64], count: usize, found: Found) -> Found
+    ensures { λ r. ⌜ r ≡ nextOf (tableOf (now (rows .entry)) count) found ⌝ }
+{
+    let n = used(rows, count);
+    match found {
+        Found::At(i) => {
+            if i < n {
+                if i + 1 < n {
+                    return Found::At(i + 1);
                 }
-                Found::Nowhere
             }
-            Found::Nowhere => Found::Nowhere,
+            Found::Nowhere
         }
+        Found::Nowhere => Found::Nowhere,
     }
+}
 
-    // What stands in a row; an unused one's content where there is none.
-    pub fn row(self, found: Found) -> Reservation
-        ensures { λ r. ⌜ r ≡ rowOf self found ⌝ }
-    {
-        match found {
-            Found::At(i) => {
-                if i < 64 {
-                    return self.rows[i];
-                }
-                blank()
-            }
-            Found::Nowhere => blank(),
-        }
+// What stands in a row; an unused one's content where there is none.
+pub fn row_in(rows: &[u64], count: usize, found: Found) -> Reservation
+    ensures { λ r. ⌜ r ≡ rowOf (tableOf (now (rows .entry)) count) found ⌝ }
+{
+    match found {
+        Found::At(i) => row_of(number_in(rows, i)),
+        Found::Nowhere => row_of(0),
     }
+}
 
-    // The table with one row put in place of the old one; as it was where there is none.
-    pub fn with_row(mut self, found: Found, row: Reservation) -> Table
-        ensures { λ r. ⌜ r ≡ withRow self found row ⌝ }
-    {
-        match found {
-            Found::At(i) => {
-                if i < 64 {
-                    self.rows[i] = row;
-                }
-                self
+// One row put in place of the old one; where there is none, nothing is written.
+pub fn put_row(rows: &mut [u64], found: Found, row: Reservation)
+    ensures { λ _. ⌜ now (rows .exit) ≡ putAt (now (rows .entry)) found (rowCode row) ⌝ }
+{
+    let number = number_of(row);
+    match found {
+        Found::At(i) => {
+            if i < rows.len() {
+                rows[i] = number;
             }
-            Found::Nowhere => self,
         }
+        Found::Nowhere => {}
+    }
+}
+
+pub fn place_of(found: Found) -> usize
+    ensures { λ r. ⌜ r ≡ placeOf found ⌝ }
+{
+    match found {
+        Found::At(i) => i,
+        Found::Nowhere => 0,
     }
 }

@@ -1,6 +1,8 @@
-// The reservation table.
+// The reservation table, in a lent array of numbers.
 pub mod find;
+pub mod number;
 pub mod operations;
+pub mod parts;
 pub mod row;
 pub mod rows;
 pub mod tiling;
@@ -20,27 +22,21 @@ pub struct Reservation {
     pub holder: u8,
 }
 
-// The reservations in rising base; rows at the count and above are unused.
-pub struct Table {
-    pub rows: [Reservation; 64],
-    pub count: usize,
-}
-
 // The row of a reservation, if there is one.
 pub enum Found {
     At(usize),
     Nowhere,
 }
 
-// What split, merge and give answer: 0 or the refusal's number, and the table after it.
-pub struct Tabled {
-    pub code: u8,
-    pub table: Table,
-}
-
-// What take answers: the same, and the length of what was taken.
-pub struct Taken {
+// What take answers: 0 or the refusal's number, and the length of what was taken.
+pub struct TakeAnswer {
     pub code: u8,
     pub length: u16,
-    pub table: Table,
+}
+
+// What split and merge answer: 0 or the refusal's number, how many rows are in use then, and how many were written.
+pub struct Moved {
+    pub code: u8,
+    pub count: usize,
+    pub writes: usize,
 }

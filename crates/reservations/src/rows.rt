@@ -1,41 +1,23 @@
-// Split and merge, which move rows within the table: each row is written once, in place.
-use crate::Found;
+// Split and merge, which move rows within the table: each row is written once, in place, and the writes are counted.
+use crate::Moved;
 use crate::Reservation;
 use crate::ReservationState;
-use crate::Table;
-use crate::Tabled;
-use crate::find::blank;
-use crate::row::alike;
-use crate::row::held;
-use crate::row::is_open;
-use crate::row::missing;
-use capabilities::refusal::first;
+use crate::find::find;
+use crate::find::next;
+use crate::find::place_of;
+use crate::find::row_in;
+use crate::find::used;
+use crate::number::number_of;
+use crate::parts::joined;
+use crate::parts::lower_part;
+use crate::parts::merge_code;
+use crate::parts::split_code;
 ghost use mathlib.Core.Path.{_≡_};
-ghost use mathlib.Core.Bool.{true, false};
-ghost use Prim.Native.Nat.{_+_, _<_, _≤_};
+ghost use Prim.Native.Nat.{_+_, _-_, _<_, _≤_};
 ghost use lib.ListN.{length};
-ghost use Rattle.capabilities.specs.Refusals.{first};
-ghost use Rattle.reservations.specs.Rows.{live, spread, gather};
-ghost use Rattle.reservations.specs.Find.{missing, nextOf, rowOf, inUse};
-ghost use Rattle.reservations.specs.Operations.{badSplit, full, lowerPart, upperPart, splitReasonsAt, splitAt, splitOf};
-ghost use Rattle.reservations.specs.Operations.{joined, mergeable, mergeReasonsAt, mergeAt, mergeOf};
-
-fn bad_split(row: Reservation, len: u16) -> bool
-    ensures { λ r. ⌜ r ≡ badSplit row len ⌝ }
-{
-    (len == 0) | (row.length <= len)
-}
-
-fn lower_part(row: Reservation, len: u16) -> Reservation
-    ensures { λ r. ⌜ r ≡ lowerPart row len ⌝ }
-{
-    Reservation {
-        base: row.base,
-        length: len,
-        state: ReservationState::Open,
-        holder: row.holder,
-    }
-}
+ghost use Rattle.reservations.specs.Operations.{upperPart, splitOf, mergeOf};
+ghost use Rattle.reservations.specs.Numbers.{tableOf};
+ghost use Rattle.reservations.specs.Lent.{Leaves, fitting, spreadAt, gatherAt, splitWrites, mergeWrites};
 
 fn upper_part(row: Reservation, len: u16) -> Reservation
     requires { ⌜ len ≤ row .length ⌝ }
@@ -50,133 +32,100 @@ fn upper_part(row: Reservation, len: u16) -> Reservation
     }
 }
 
-fn joined(row: Reservation, above: Reservation) -> Reservation
-    ensures { λ r. ⌜ r ≡ joined row above ⌝ }
+// One row more: those above row i move up, from the top down, and the two stand at i and i + 1.
+fn spread(rows: &mut [u64], n: usize, i: usize, lower: u64, upper: u64) -> usize
+    requires { ⌜ (i < n) × (n < length (now rows)) ⌝ }
+    ensures { λ r. ⌜ (now (rows .exit) ≡ spreadAt (now (rows .entry)) n i lower upper) × (r ≡ n - i + 1) ⌝ }
 {
-    let state = row.state;
-    let length = (row.length as u32 + above.length as u32) % 65536;
-    Reservation {
-        base: row.base,
-        length: length as u16,
-        state,
-        holder: row.holder,
+    let mut writes: usize = 0;
+    let mut j = n;
+    while j > i + 1 {
+        rows[j] = rows[j - 1];
+        writes += 1;
+        j -= 1;
+    }
+    rows[i + 1] = upper;
+    rows[i] = lower;
+    writes + 2
+}
+
+// One row less: the joined one stands at i, those above i + 1 move down, and the last row is unused.
+fn gather(rows: &mut [u64], n: usize, i: usize, joined: u64) -> usize
+    requires { ⌜ (i + 1 < n) × (n ≤ length (now rows)) ⌝ }
+    ensures { λ r. ⌜ (now (rows .exit) ≡ gatherAt (now (rows .entry)) n i joined 0) × (r ≡ n - i) ⌝ }
+{
+    rows[i] = joined;
+    let mut writes: usize = 1;
+    let mut j = i + 1;
+    while j + 1 < n {
+        rows[j] = rows[j + 1];
+        writes += 1;
+        j += 1;
+    }
+    rows[j] = 0;
+    writes + 1
+}
+
+// One Open reservation becomes two, the lower of `len` cells.
+pub fn split(rows: &mut [u64], count: usize, party: u8, base: u16, len: u16) -> Moved
+    ensures { λ r. ⌜ Leaves (now (rows .entry)) (now (rows .exit)) (r .code) (r .count) (fitting (now (rows .entry)) count (splitOf (tableOf (now (rows .entry)) count) party base len)) × (r .writes ≡ splitWrites (tableOf (now (rows .entry)) count) party base (r .code)) ⌝ }
+{
+    if rows.len() != 64 {
+        return Moved {
+            code: 1,
+            count,
+            writes: 0,
+        };
+    }
+    let found = find(&rows[..], count, party, base);
+    let row = row_in(&rows[..], count, found);
+    let code = split_code(found, row, len, count);
+    if code != 0 {
+        return Moved {
+            code,
+            count,
+            writes: 0,
+        };
+    }
+    let lower = number_of(lower_part(row, len));
+    let upper = number_of(upper_part(row, len));
+    let writes = spread(rows, count, place_of(found), lower, upper);
+    Moved {
+        code,
+        count: count + 1,
+        writes,
     }
 }
 
-impl Table {
-    // One row more: those above row i move up, from the top down, and the two stand at i and i + 1.
-    fn spread(mut self, i: usize, lower: Reservation, upper: Reservation) -> Table
-        requires { ⌜ (i < self .count) × (self .count < 64) ⌝ }
-        ensures { λ r. ⌜ r ≡ spread self i lower upper ⌝ }
-    {
-        let n = self.count;
-        let mut j = n;
-        while j > i + 1 {
-            self.rows[j] = self.rows[j - 1];
-            j -= 1;
-        }
-        self.rows[i + 1] = upper;
-        self.rows[i] = lower;
-        self.count = n + 1;
-        self
+// The reservation and the next one above become one.
+pub fn merge(rows: &mut [u64], count: usize, party: u8, base: u16) -> Moved
+    ensures { λ r. ⌜ Leaves (now (rows .entry)) (now (rows .exit)) (r .code) (r .count) (fitting (now (rows .entry)) count (mergeOf (tableOf (now (rows .entry)) count) party base)) × (r .writes ≡ mergeWrites (tableOf (now (rows .entry)) count) party base (r .code)) ⌝ }
+{
+    if rows.len() != 64 {
+        return Moved {
+            code: 1,
+            count,
+            writes: 0,
+        };
     }
-
-    // One row less: the joined one stands at i, those above i + 1 move down, and the last row is unused.
-    fn gather(mut self, i: usize, joined: Reservation) -> Table
-        requires { ⌜ i + 1 < length (live self) ⌝ }
-        ensures { λ r. ⌜ r ≡ gather self i joined ⌝ }
-    {
-        let n = self.used();
-        self.rows[i] = joined;
-        let mut j = i + 1;
-        while j + 1 < n {
-            self.rows[j] = self.rows[j + 1];
-            j += 1;
-        }
-        self.rows[j] = blank();
-        self.count = n - 1;
-        self
+    let found = find(&rows[..], count, party, base);
+    let above = next(&rows[..], count, found);
+    let row = row_in(&rows[..], count, found);
+    let other = row_in(&rows[..], count, above);
+    let code = merge_code(found, above, row, other, party);
+    if code != 0 {
+        return Moved {
+            code,
+            count,
+            writes: 0,
+        };
     }
-
-    // 6 if there is no such reservation, 7 if it is not Open, 8 if the length does not fit, 9 if there is no room.
-    fn split_code(self, found: Found, len: u16) -> u8
-        ensures { λ r. ⌜ r ≡ first (splitReasonsAt self found len) ⌝ }
-    {
-        let row = self.row(found);
-        let state = row.state;
-        let room = first(8, bad_split(row, len), first(9, self.count >= 64, 0));
-        first(6, missing(found), first(7, !is_open(state), room))
-    }
-
-    fn split_at(self, found: Found, len: u16) -> Table
-        requires { ⌜ (inUse self found ≡ true) × ((badSplit (rowOf self found) len ≡ false) × (full self ≡ false)) ⌝ }
-        ensures { λ r. ⌜ r ≡ splitAt self found len ⌝ }
-    {
-        let row = self.row(found);
-        match found {
-            Found::At(i) => self.spread(i, lower_part(row, len), upper_part(row, len)),
-            Found::Nowhere => self,
-        }
-    }
-
-    // One Open reservation becomes two, the lower of `len` cells.
-    pub fn split(self, party: u8, base: u16, len: u16) -> Tabled
-        ensures { λ r. ⌜ r ≡ splitOf self party base len ⌝ }
-    {
-        let found = self.find(party, base);
-        let code = self.split_code(found, len);
-        if code != 0 {
-            return Tabled { code, table: self };
-        }
-        let table = self.split_at(found, len);
-        Tabled { code, table }
-    }
-
-    // Whether a next one is held by the party, and both are Open or both Taken.
-    fn mergeable(self, found: Found, party: u8) -> bool
-        ensures { λ r. ⌜ r ≡ mergeable self found party ⌝ }
-    {
-        let next = self.next(found);
-        let row = self.row(found);
-        let above = self.row(next);
-        let a = row.state;
-        let b = above.state;
-        !missing(next) & (held(above, party) & alike(a, b))
-    }
-
-    // 6 if there is no such reservation, 7 if there is none to join it with.
-    fn merge_code(self, found: Found, party: u8) -> u8
-        ensures { λ r. ⌜ r ≡ first (mergeReasonsAt self found party) ⌝ }
-    {
-        first(
-            6,
-            missing(found),
-            first(7, !self.mergeable(found, party), 0),
-        )
-    }
-
-    fn merge_at(self, found: Found) -> Table
-        requires { ⌜ missing (nextOf self found) ≡ false ⌝ }
-        ensures { λ r. ⌜ r ≡ mergeAt self found ⌝ }
-    {
-        let row = self.row(found);
-        let above = self.row(self.next(found));
-        match found {
-            Found::At(i) => self.gather(i, joined(row, above)),
-            Found::Nowhere => self,
-        }
-    }
-
-    // The reservation and the next one above become one.
-    pub fn merge(self, party: u8, base: u16) -> Tabled
-        ensures { λ r. ⌜ r ≡ mergeOf self party base ⌝ }
-    {
-        let found = self.find(party, base);
-        let code = self.merge_code(found, party);
-        if code != 0 {
-            return Tabled { code, table: self };
-        }
-        let table = self.merge_at(found);
-        Tabled { code, table }
+    let n = used(&rows[..], count);
+    let one = number_of(joined(row, other));
+    let writes = gather(rows, n, place_of(found), one);
+    Moved {
+        code,
+        count: n - 1,
+        writes,
     }
 }

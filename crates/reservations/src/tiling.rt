@@ -1,102 +1,78 @@
-// A fresh table, and whether a table is well formed.
-use crate::Reservation;
-use crate::ReservationState;
-use crate::Table;
-use crate::row::is_blank;
-use crate::row::is_revoking;
-use crate::row::row_sound;
+// Whether lent numbers are a well-formed table.
+use crate::find::used;
+use crate::number::revoking_at;
 ghost use mathlib.Core.Path.{_≡_};
-ghost use lib.ListN.{drop};
+ghost use mathlib.Core.Bool.{_&&_};
+ghost use lib.ListN.{take, drop};
 ghost use Rattle.reservations.specs.Rows.{live};
-ghost use Rattle.reservations.specs.Tiling.{follows, tiles, allBlank, revokings, tableSound, freshTable};
+ghost use Rattle.reservations.specs.Tiling.{follows, tiles, revokings};
+ghost use Rattle.reservations.specs.Numbers.{rowFrom, tableOf, written, allWritten};
+ghost use Rattle.reservations.specs.Sound.{soundNumbers, allZero, topSound};
 
-// A sound reservation that begins at a cell.
-fn follows(row: Reservation, from: u32) -> bool
-    ensures { λ r. ⌜ r ≡ follows from row ⌝ }
+// The bits from 32 up are those of a sound reservation: Taken or Revoking with holder 0, or Open with a holder of 0 to 7.
+fn top_sound(top: u64) -> bool
+    ensures { λ r. ⌜ r ≡ topSound top ⌝ }
 {
-    (row.base as u32 == from) & row_sound(row)
+    (top == 1) | ((top == 2) | ((top % 256 == 0) & (top < 2048)))
 }
 
-impl Table {
-    // One Open reservation of all the cells, held by party 0; all zero where there is none.
-    pub fn fresh(cells: u16) -> Table
-        ensures { λ r. ⌜ r ≡ freshTable cells ⌝ }
-    {
-        let zero = Reservation {
-            base: 0,
-            length: 0,
-            state: ReservationState::Open,
-            holder: 0,
-        };
-        let mut rows = [zero; 64];
-        if cells == 0 {
-            return Table { rows, count: 0 };
-        }
-        rows[0] = Reservation {
-            base: 0,
-            length: cells,
-            state: ReservationState::Open,
-            holder: 0,
-        };
-        Table { rows, count: 1 }
-    }
+// The number is one of a sound reservation that begins at a cell.
+fn follows_at(number: u64, from: u32) -> bool
+    ensures { λ r. ⌜ r ≡ (follows from (rowFrom number) && written number) ⌝ }
+{
+    ((number % 65536 == from as u64) & (0 < number / 65536 % 65536))
+        & top_sound(number / 4294967296)
+}
 
-    // The reservations tile the cells from 0 up to an end.
-    pub fn tiled(self, end: u32) -> bool
-        ensures { λ r. ⌜ r ≡ tiles 0 end (live self) ⌝ }
-    {
-        let n = self.used();
-        let mut from: u32 = 0;
-        let mut i = 0;
-        while i < n {
-            let row = self.rows[i];
-            if !follows(row, from) {
-                return false;
-            }
-            from = row.base as u32 + row.length as u32;
-            i += 1;
+// The reservations tile the cells from 0 up to an end.
+fn tiled(rows: &[u64], count: usize, end: u32) -> bool
+    ensures { λ r. ⌜ r ≡ (tiles 0 end (live (tableOf (now (rows .entry)) count)) && allWritten (take count (now (rows .entry)))) ⌝ }
+{
+    let n = used(rows, count);
+    let mut from: u32 = 0;
+    let mut i: usize = 0;
+    while i < n {
+        let number = rows[i];
+        if !follows_at(number, from) {
+            return false;
         }
-        from == end
+        from = (number % 65536) as u32 + (number / 65536 % 65536) as u32;
+        i += 1;
     }
+    from == end
+}
 
-    // The rows at the count and above are 0.
-    pub fn rest_blank(self) -> bool
-        ensures { λ r. ⌜ r ≡ allBlank (drop (self .count) (self .rows)) ⌝ }
-    {
-        let mut i = self.count;
-        while i < 64 {
-            let row = self.rows[i];
-            if !is_blank(row) {
-                return false;
-            }
-            i += 1;
-        }
-        true
+// How many reservations are Revoking.
+fn revokings(rows: &[u64], count: usize) -> usize
+    ensures { λ r. ⌜ r ≡ revokings (live (tableOf (now (rows .entry)) count)) ⌝ }
+{
+    let n = used(rows, count);
+    let mut many: usize = 0;
+    let mut i: usize = 0;
+    while i < n {
+        many += revoking_at(rows[i]) as usize;
+        i += 1;
     }
+    many
+}
 
-    // How many reservations are Revoking.
-    pub fn revokings(self) -> usize
-        ensures { λ r. ⌜ r ≡ revokings (live self) ⌝ }
-    {
-        let n = self.used();
-        let mut many = 0;
-        let mut i = 0;
-        while i < n {
-            let row = self.rows[i];
-            let state = row.state;
-            if is_revoking(state) {
-                many += 1;
-            }
-            i += 1;
-        }
-        many
+// The numbers at the count and above are 0.
+fn rest_zero(rows: &[u64], count: usize) -> bool
+    ensures { λ r. ⌜ r ≡ allZero (drop count (now (rows .entry))) ⌝ }
+{
+    let mut zero = true;
+    let mut i = count;
+    while i < rows.len() {
+        zero = zero & (rows[i] == 0);
+        i += 1;
     }
+    zero
+}
 
-    // The table's part of a well-formed state.
-    pub fn well_formed(self, cells: u32) -> bool
-        ensures { λ r. ⌜ r ≡ tableSound cells self ⌝ }
-    {
-        let sized = (0 < self.count) & (self.count <= 64);
-        (sized & self.tiled(cells)) & (self.rest_blank() & (self.revokings() <= 1))
-    }
+// The table's part of a well-formed state.
+pub fn well_formed(rows: &[u64], count: usize, cells: u32) -> bool
+    ensures { λ r. ⌜ r ≡ soundNumbers cells (now (rows .entry)) count ⌝ }
+{
+    let sized = (rows.len() == 64) & ((0 < count) & (count <= 64));
+    (sized & tiled(rows, count, cells)) & (rest_zero(rows, count) & (revokings(rows, count) <= 1))
 }

@@ -25,7 +25,7 @@ use Rattle.reservations.proofs.Kept.{row-live}
 use Rattle.reservations.proofs.Cells.{inside-bounds, none-lost}
 use Rattle.reservations.proofs.Unrevoked.{with-live}
 use Rattle.reservations.proofs.After.{Replaced}
-use Rattle.revocation.specs.declared.Core.{Core}
+use Rattle.revocation.specs.Core.{Core}
 use Rattle.revocation.specs.Revocation.{core, running, revoked, dying, revokeReasonsAt, revokeReasons, revokingRow, revokeAt, revokeOf, collectReasons, collectedRow, collected, collectOf, coreSound}
 use Rattle.revocation.proofs.CoreKept.{core-facts}
 use Rattle.revocation.proofs.Revocations.{Revokes, revoke-clear, collect-clear, collected-at, core-revoke, core-collect}

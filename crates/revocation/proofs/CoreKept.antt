@@ -3,31 +3,27 @@ use Prim.Native.Nat.{ℕ, _*_, _<_, _≤_}
 use native.Mathlib.Omega.{arith}
 use mathlib.Core.Bool.{Bool, true, not, _&&_}
 use mathlib.Core.List.{List}
-use mathlib.Core.Path.{_≡_, refl, sym, ap, _∙_}
+use mathlib.Core.Path.{_≡_, sym, ap, _∙_}
 use borrow.Author.Tests.{leb-true, le-leb}
 use lib.Dec.{eqb, leb}
 use Rattle.capabilities.specs.Lists.{pick}
-use Rattle.capabilities.specs.Refusals.{first}
 use Rattle.capabilities.proofs.Choice.{and-left, and-right}
-use Rattle.pages.specs.declared.Pages.{Pages}
+use Rattle.pages.specs.Pages.{Pages}
 use Rattle.pages.specs.Freed.{allFreed}
 use Rattle.pages.specs.Layer.{wellFormed}
 use Rattle.pages.proofs.Formed as formed
 use Rattle.reservations.specs.declared.Reservation.{Reservation}
-use Rattle.reservations.specs.declared.Table.{Table}
+use Rattle.reservations.specs.Table.{Table}
 use Rattle.reservations.specs.Rows.{live, rangeOf}
-use Rattle.reservations.specs.Find.{findOf, revokingOf, rowOf, withRow}
-use Rattle.reservations.specs.Operations.{openReasons, takeReasons, takenRow, takeOf, giveReasons, givenRow, giveOf}
-use Rattle.reservations.specs.Operations.{splitReasonsAt, splitReasons, splitAt, splitOf}
-use Rattle.reservations.specs.Operations.{mergeReasonsAt, mergeReasons, mergeAt, mergeOf}
+use Rattle.reservations.specs.Find.{revokingOf, rowOf}
+use Rattle.reservations.specs.Operations.{takeOf, splitOf, mergeOf, giveOf}
 use Rattle.reservations.specs.Tiling.{tableSound}
-use Rattle.reservations.proofs.Unrevoked.{pick-same, with-same, split-same, merge-same}
+use Rattle.reservations.proofs.Unrevoked.{take-still, give-still, split-still, merge-still}
 use Rattle.reservations.proofs.Truth.{both}
-use Rattle.reservations.proofs.Answers.{open-clear, split-clear, merge-clear}
 use Rattle.reservations.proofs.Dying.{dyings, none, firstOf, revoking-row, revoking-none}
 use Rattle.reservations.proofs.Sound.{sound}
-use Rattle.reservations.proofs.Kept.{open-still, take-kept, give-kept, split-kept, merge-kept}
-use Rattle.revocation.specs.declared.Core.{Core}
+use Rattle.reservations.proofs.Kept.{take-kept, give-kept, split-kept, merge-kept}
+use Rattle.revocation.specs.Core.{Core}
 use Rattle.revocation.specs.Revocation.{core, running, revoked, wholePages, revocationSound, coreSound}
 
 -- A well-formed core as plain facts.
@@ -69,6 +65,11 @@ dying-sound c =
     ap (λ b. pick (not b) (wholePages (rowOf (c .table) (revokingOf (c .table))) && allFreed (c .pages) (rangeOf (rowOf (c .table) (revokingOf (c .table))))) (eqb (c .place) 0)) (revoking-none (c .table))
     ∙ ap (λ r. pick (not (none (dyings (live (c .table))))) (wholePages r && allFreed (c .pages) (rangeOf r)) (eqb (c .place) 0)) (revoking-row (c .table))
 
+-- The revoked range is said by the Revoking reservations alone.
+pub revoked-kept : (c : Core) (t : Table) → dyings (live t) ≡ dyings (live (c .table)) → revoked (core (c .pages) t (c .place)) ≡ revoked c
+unfolding revoked
+revoked-kept c t same = ap rangeOf (revoking-row t ∙ ap firstOf same ∙ sym (revoking-row (c .table)))
+
 -- A table with the same Revoking reservations may stand in place of the old one.
 pub table-kept : (c : Core) (t : Table) → coreSound c ≡ true → tableSound (16 * c .pages .v) t ≡ true → dyings (live t) ≡ dyings (live (c .table)) → coreSound (core (c .pages) t (c .place)) ≡ true
 table-kept c t ok rows same =
@@ -82,37 +83,21 @@ module _ (c : Core) (ok : coreSound c ≡ true) where
   facts = core-facts c ok
 
   pub core-take : (party base : ℕ) → coreSound (core (c .pages) (takeOf (c .table) party base .table) (c .place)) ≡ true
-  unfolding takeOf takeReasons
   core-take party base =
-      let t = c .table in
-      let f = findOf t party base in
-      table-kept c (takeOf t party base .table) ok (take-kept (16 * c .pages .v) t (facts .rows) party base)
-      (pick-same (16 * c .pages .v) t (facts .rows) (first (openReasons f (rowOf t f))) (withRow t f (takenRow (rowOf t f)))
-      (λ z. with-same (16 * c .pages .v) t (facts .rows) party base f (takenRow (rowOf t f)) refl (open-clear f (rowOf t f) z .1) refl))
+      table-kept c (takeOf (c .table) party base .table) ok (take-kept (16 * c .pages .v) (c .table) (facts .rows) party base)
+      (take-still (16 * c .pages .v) (c .table) (facts .rows) party base)
 
   pub core-give : (party base to : ℕ) → to ≤ 7 → coreSound (core (c .pages) (giveOf (c .table) party base to .table) (c .place)) ≡ true
-  unfolding giveOf giveReasons
   core-give party base to h =
-      let t = c .table in
-      let f = findOf t party base in
-      table-kept c (giveOf t party base to .table) ok (give-kept (16 * c .pages .v) t (facts .rows) party base to h)
-      (pick-same (16 * c .pages .v) t (facts .rows) (first (openReasons f (rowOf t f))) (withRow t f (givenRow (rowOf t f) to))
-      (λ z. let o = open-clear f (rowOf t f) z .1 in with-same (16 * c .pages .v) t (facts .rows) party base f (givenRow (rowOf t f) to) refl o (open-still (rowOf t f .state) o)))
+      table-kept c (giveOf (c .table) party base to .table) ok (give-kept (16 * c .pages .v) (c .table) (facts .rows) party base to h)
+      (give-still (16 * c .pages .v) (c .table) (facts .rows) party base to)
 
   pub core-split : (party base len : ℕ) → coreSound (core (c .pages) (splitOf (c .table) party base len .table) (c .place)) ≡ true
-  unfolding splitOf splitReasons
   core-split party base len =
-      let t = c .table in
-      let f = findOf t party base in
-      table-kept c (splitOf t party base len .table) ok (split-kept (16 * c .pages .v) t (facts .rows) (facts .fits) party base len)
-      (pick-same (16 * c .pages .v) t (facts .rows) (first (splitReasonsAt t f len)) (splitAt t f len)
-      (λ z. split-same (16 * c .pages .v) t (facts .rows) party base len f refl (split-clear t f len z)))
+      table-kept c (splitOf (c .table) party base len .table) ok (split-kept (16 * c .pages .v) (c .table) (facts .rows) (facts .fits) party base len)
+      (split-still (16 * c .pages .v) (c .table) (facts .rows) party base len)
 
   pub core-merge : (party base : ℕ) → coreSound (core (c .pages) (mergeOf (c .table) party base .table) (c .place)) ≡ true
-  unfolding mergeOf mergeReasons
   core-merge party base =
-      let t = c .table in
-      let f = findOf t party base in
-      table-kept c (mergeOf t party base .table) ok (merge-kept (16 * c .pages .v) t (facts .rows) (facts .fits) party base)
-      (pick-same (16 * c .pages .v) t (facts .rows) (first (mergeReasonsAt t f party)) (mergeAt t f)
-      (λ z. merge-same (16 * c .pages .v) t (facts .rows) party f (merge-clear t f party z)))
+      table-kept c (mergeOf (c .table) party base .table) ok (merge-kept (16 * c .pages .v) (c .table) (facts .rows) (facts .fits) party base)
+      (merge-still (16 * c .pages .v) (c .table) (facts .rows) party base)

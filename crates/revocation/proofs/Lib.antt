@@ -1,4 +1,3 @@
-pub mod Answers
 pub mod CoreKept
 pub mod Revocations
 pub mod Starts

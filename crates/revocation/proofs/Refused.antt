@@ -7,7 +7,7 @@ use Rattle.capabilities.specs.Refusals.{first}
 use Rattle.sweep.specs.Sweep.{sweepOf}
 use Rattle.reservations.specs.Find.{findOf}
 use Rattle.reservations.proofs.Refused.{kept}
-use Rattle.revocation.specs.declared.Core.{Core}
+use Rattle.revocation.specs.Core.{Core}
 use Rattle.revocation.specs.Revocation.{revokeOf, revokeReasons, revokeAt, passing, coreSwept, sweptCore, sweepReasons, sweepCoreOf, revoked, collectOf, collectReasons, collected}
 
 module _ (c : Core) where

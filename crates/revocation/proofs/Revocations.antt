@@ -11,7 +11,7 @@ use Rattle.capabilities.specs.Lists.{pick}
 use Rattle.capabilities.specs.Refusals.{first}
 use Rattle.capabilities.proofs.Choice.{and-right, pick-yes, pick-no}
 use Rattle.capabilities.proofs.Refusals.{first-clear}
-use Rattle.pages.specs.declared.Pages.{Pages}
+use Rattle.pages.specs.Pages.{Pages}
 use Rattle.pages.specs.Freed.{allFreed}
 use Rattle.pages.specs.Layer.{serves}
 use Rattle.pages.specs.Mapping.{anyMapped, freedOf, releasedOf}
@@ -31,7 +31,7 @@ use Rattle.reservations.proofs.Tiled.{row-some, tiled-row, tiled-fits, revoking
 use Rattle.reservations.proofs.Sound.{sound}
 use Rattle.reservations.proofs.Kept.{cut-one, row-live, row-kept}
 use Rattle.reservations.proofs.Unrevoked.{after-dyings}
-use Rattle.revocation.specs.declared.Core.{Core}
+use Rattle.revocation.specs.Core.{Core}
 use Rattle.revocation.specs.Revocation.{core, running, revoked, wholePages, revokeReasonsAt, revokeReasons, revokingRow, revokeAt, revokeOf}
 use Rattle.revocation.specs.Revocation.{Passing, passing, coreSwept, sweepReasons, sweptCore, sweepCoreOf, collectReasons, collectedRow, collected, collectOf, revocationSound, coreSound}
 use Rattle.revocation.proofs.CoreKept.{CoreFacts, core-facts, core-made, dyingSound, dying-sound}

@@ -9,21 +9,21 @@ use Rattle.capabilities.specs.Capability.{baseOf}
 use Rattle.capabilities.specs.Lists.{pick}
 use Rattle.capabilities.specs.Range.{inside}
 use Rattle.capabilities.specs.Refusals.{Reason, reason, first}
-use Rattle.pages.specs.declared.Pages.{Pages}
+use Rattle.pages.specs.Pages.{Pages}
 use Rattle.pages.specs.Freed.{allFreed}
 use Rattle.pages.specs.Layer.{wellFormed, inRange, freshOf, serves}
 use Rattle.pages.specs.Mapping.{anyMapped, freedOf, releasedOf}
 use Rattle.sweep.specs.Sweep.{Passed, sweepOf}
 use Rattle.reservations.specs.declared.Reservation.{Reservation}
 use Rattle.reservations.specs.declared.ReservationState.the-variants.{Open, Revoking}
-use Rattle.reservations.specs.declared.Table.{Table}
+use Rattle.reservations.specs.Table.{Table}
 use Rattle.reservations.specs.declared.Found.{Found}
 use Rattle.reservations.specs.Rows.{isRevoking, reservation, rangeOf}
 use Rattle.reservations.specs.Find.{missing, findOf, revokingOf, rowOf, withRow}
 use Rattle.reservations.specs.Tiling.{tableSound, freshTable}
-use Rattle.revocation.specs.declared.Core.{Core}
-use Rattle.revocation.specs.declared.Cored.{Cored}
-use Rattle.revocation.specs.declared.CoreSwept.{CoreSwept}
+use Rattle.revocation.specs.Core.{Core}
+use Rattle.revocation.specs.Core.{Cored}
+use Rattle.revocation.specs.Core.{CoreSwept}
 
 abbrev pub core : Pages → Table → ℕ → Core
 core pages table place = record { pages = pages; table = table; place = place }

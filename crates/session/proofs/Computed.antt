@@ -22,8 +22,8 @@ use Rattle.machine.specs.Effects.{effect}
 use Rattle.machine.specs.Formed.{mailboxesSound, wellFormed as wellFormed-Formed, fresh, startOf}
 use Rattle.machine.specs.Reasons.{addressed, reasons}
 use Rattle.machine.specs.Step.{registersAfter, mailboxesAfter, cellsAfter, tagsAfter, wordAfter, done, ruled, judged, stepOf, withCore}
-use Rattle.session.specs.Lines.{digits, decimal, lineOf}
-use Rattle.session.specs.Session.{linesFrom, linesRead, linesOf}
+use Rattle.lines.specs.Lines.{digits, decimal, lineOf}
+use Rattle.session_rules.specs.Session.{linesFrom, linesRead, linesOf}
 
 pub document : List ℕ
 document =

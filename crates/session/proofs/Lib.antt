@@ -1,5 +1,2 @@
--- Laws of the session's bytes, for its functions' proofs.
-mod Decimal
-mod Texts
-pub mod Sessions
+-- The definitions run on whole sessions.
 mod Computed

@@ -1,2 +1,3 @@
 pub mod Sweeping
 pub mod Sweeps
+pub mod ByFrames

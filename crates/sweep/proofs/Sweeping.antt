@@ -15,7 +15,7 @@ use Rattle.capabilities.specs.Lists.{pick}
 use Rattle.capabilities.specs.Range.{inside}
 use Rattle.capabilities.proofs.Choice.{pick-twice}
 use Rattle.capabilities.proofs.Lists.{length-mapEach, getD-mapEach, mapEach-same}
-use Rattle.pages.specs.declared.FrameEntry.{FrameEntry}
+use Rattle.pages.specs.Pages.{FrameEntry}
 use Rattle.sweep.specs.Sweep.{shownAt, sweptTag, sweptTags}
 
 pub ltb-next : (j i : ℕ) → (j ≡ i → ⊥) → ltb j (i + 1) ≡ ltb j i
@@ -75,20 +75,3 @@ module _ (frames : List FrameEntry) (r : Range) (from : ℕ) (cells tags : List 
           go false e =
               getD-set-other (sweptTags frames r from i cells tags) i j (pick (doomed frames r cells i) 0 (getD tags i 0)) 0 (eqb-false j i e)
               ∙ getD-swept i j m ∙ rw (← (ltb-next j i (eqb-false j i e))) (sym (getD-swept (i + 1) j m))
-
-  -- A cell whose capability is none that the sweep clears needs no write.
-  pub swept-stay : (i : ℕ) → i < length tags → from ≤ i → doomed frames r cells i ≡ false
-      → sweptTags frames r from i cells tags ≡ sweptTags frames r from (i + 1) cells tags
-  swept-stay i h k e =
-      sym (set-getD (sweptTags frames r from i cells tags) i 0)
-      ∙ ap (λ x. set (sweptTags frames r from i cells tags) i x) (swept-next i h ∙ rw e)
-      ∙ swept-hit i h k
-
-  -- An untagged cell needs no write.
-  pub swept-miss : (i : ℕ) → i < length tags → from ≤ i → getD (sweptTags frames r from i cells tags) i 0 ≡ 0
-      → sweptTags frames r from i cells tags ≡ sweptTags frames r from (i + 1) cells tags
-  swept-miss i h k e =
-      let z : getD tags i 0 ≡ 0 = sym (swept-next i h) ∙ e in
-      sym (set-getD (sweptTags frames r from i cells tags) i 0)
-      ∙ ap (λ x. set (sweptTags frames r from i cells tags) i x) (e ∙ rw z (sym (pick-twice (doomed frames r cells i) 0)))
-      ∙ swept-hit i h k

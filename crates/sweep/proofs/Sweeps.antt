@@ -12,8 +12,8 @@ use lib.Dec.{leb, ltb}
 use borrow.Author.Tests.{ltb-true, ltb-false, lt-ltb, le-leb, lt-leb, leb-false}
 use Rattle.capabilities.specs.declared.Range.{Range}
 use Rattle.capabilities.specs.Lists.{pick}
-use Rattle.pages.specs.declared.FrameEntry.{FrameEntry}
-use Rattle.pages.specs.declared.Pages.{Pages}
+use Rattle.pages.specs.Pages.{FrameEntry}
+use Rattle.pages.specs.Pages.{Pages}
 use Rattle.pages.specs.Layer.{serves}
 use Rattle.sweep.specs.Sweep.{passed, sweptTags, swept, passing, sweepOf}
 use Rattle.sweep.proofs.Sweeping.{doomed, length-swept, getD-swept}

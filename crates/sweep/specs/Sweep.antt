@@ -8,8 +8,8 @@ use Rattle.capabilities.specs.declared.Range.{Range}
 use Rattle.capabilities.specs.Capability.{baseOf}
 use Rattle.capabilities.specs.Lists.{pick, mapEach}
 use Rattle.capabilities.specs.Range.{inside}
-use Rattle.pages.specs.declared.Pages.{Pages}
-use Rattle.pages.specs.declared.FrameEntry.{FrameEntry}
+use Rattle.pages.specs.Pages.{Pages}
+use Rattle.pages.specs.Pages.{FrameEntry}
 use Rattle.pages.specs.declared.FrameState.the-variants.{Dirty}
 use Rattle.pages.specs.Entries.{isShown, frameEntry}
 use Rattle.pages.specs.Layer.{serves}

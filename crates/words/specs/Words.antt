@@ -8,7 +8,7 @@ use lib.Dec.{ltb, eqb}
 use Rattle.capabilities.specs.Lists.{pick}
 use Rattle.pages.specs.declared.Place.{Place}
 use Rattle.pages.specs.declared.Place.the-variants.{At, Nowhere}
-use Rattle.revocation.specs.declared.Core.{Core}
+use Rattle.revocation.specs.Core.{Core}
 use Rattle.revocation.specs.Revocation.{dying}
 use Rattle.words.specs.declared.Slot.{Slot}
 

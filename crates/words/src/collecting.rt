@@ -2,6 +2,7 @@
 use crate::Slot;
 use crate::empty;
 use crate::keep_tag;
+use crate::registers::shorter;
 use capabilities::Range;
 use capabilities::capability::base_of;
 use capabilities::ranges::inside;
@@ -12,46 +13,50 @@ ghost use Rattle.capabilities.specs.Capability.{baseOf};
 ghost use Rattle.capabilities.specs.Lists.{pick};
 ghost use Rattle.capabilities.specs.Range.{inside};
 ghost use Rattle.words.specs.Words.{empty, keepTag};
+ghost use Rattle.words.specs.Lent.{collectedMark, collectedCell, collectedMarks, collectedMail};
 
-// A word that dies loses its tag.
-fn collected_register(running: bool, range: Range, word: Slot) -> Slot
-    ensures { λ r. ⌜ r ≡ keepTag word (not (running && inside range (baseOf (word .cell)))) ⌝ }
+// A tag byte, 0 if the cell beside it has its base in the range. A product and no branch, so that a loop over it stays fast.
+fn collected_mark(range: Range, cell: u64, mark: u8) -> u8
+    ensures { λ r. ⌜ r ≡ collectedMark range cell mark ⌝ }
 {
-    let here = inside(range, base_of(word.cell) as u32);
-    keep_tag(word, !(running & here))
+    let dies = inside(range, base_of(cell) as u32);
+    mark * ((!dies) as u8)
 }
 
-// A mailbox whose capability dies is empty.
-fn collected_mailbox(running: bool, range: Range, word: Slot) -> Slot
-    ensures { λ r. ⌜ r ≡ pick (word .tag && (running && inside range (baseOf (word .cell)))) empty word ⌝ }
+// A mailbox's cell, 0 if it is a capability with its base in the range.
+fn collected_cell(range: Range, flag: u8, cell: u64) -> u64
+    ensures { λ r. ⌜ r ≡ collectedCell range flag cell ⌝ }
 {
-    let here = inside(range, base_of(word.cell) as u32);
-    if word.tag & (running & here) {
-        return empty();
-    }
-    word
+    let here = inside(range, base_of(cell) as u32);
+    let dies = !(flag == 0) & here;
+    cell * ((!dies) as u64)
 }
 
-pub fn collected_registers(running: bool, range: Range, mut words: [Slot; 64]) -> [Slot; 64]
-    ensures { λ r. ⌜ r ≡ map (λ w. keepTag w (not (running && inside range (baseOf (w .cell))))) words ⌝ }
+// The registers' tags: 0 where the register's base lies in the range.
+pub fn collect_words(range: Range, words: &[u64], marks: &mut [u8])
+    ensures { λ _. ⌜ now (marks .exit) ≡ collectedMarks range (now (words .entry)) (now (marks .entry)) ⌝ }
 {
+    let count = shorter(words.len(), marks.len());
     let mut i: usize = 0;
-    while i < 64 {
-        let word = words[i];
-        words[i] = collected_register(running, range, word);
+    while i < count {
+        let mark = marks[i];
+        marks[i] = collected_mark(range, words[i], mark);
         i += 1;
     }
-    words
 }
 
-pub fn collected_mailboxes(running: bool, range: Range, mut words: [Slot; 8]) -> [Slot; 8]
-    ensures { λ r. ⌜ r ≡ map (λ w. pick (w .tag && (running && inside range (baseOf (w .cell)))) empty w) words ⌝ }
+// The mailboxes: cell and tag 0 where a capability has its base in the range.
+pub fn collect_mail(range: Range, mail: &mut [u64], flags: &mut [u8])
+    ensures { λ _. ⌜ now (mail .exit) ≡ collectedMail range (now (mail .entry)) (now (flags .entry)) ⌝ }
+    ensures { λ _. ⌜ now (flags .exit) ≡ collectedMarks range (now (mail .entry)) (now (flags .entry)) ⌝ }
 {
+    let count = shorter(mail.len(), flags.len());
     let mut i: usize = 0;
-    while i < 8 {
-        let word = words[i];
-        words[i] = collected_mailbox(running, range, word);
+    while i < count {
+        let cell = mail[i];
+        let flag = flags[i];
+        mail[i] = collected_cell(range, flag, cell);
+        flags[i] = collected_mark(range, cell, flag);
         i += 1;
     }
-    words
 }

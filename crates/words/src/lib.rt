@@ -8,6 +8,7 @@ ghost use Rattle.words.specs.Words.{empty, keepTag};
 pub mod codes;
 pub mod collecting;
 pub mod memory;
+pub mod registers;
 
 // A word: a cell and its tag. Tagged, it is a capability.
 pub struct Slot {

@@ -1,8 +1,8 @@
 -- `console::show` meets its contract. The session answers no more than the buffer holds; each way ends with its number.
 use lib.Seq.{length-take-le}
 use borrow.Author.Needs.{needs}
-use Rattle.session.specs.Session.{linesOf}
-use Rattle.session.proofs.Sessions.{printed-within}
+use Rattle.session_rules.specs.Session.{linesOf}
+use Rattle.session_rules.proofs.Sessions.{printed-within}
 use Rattle.console.proofs.show.Statement.{statement}
 use Rattle.console.proofs.show.Tie as tie
 

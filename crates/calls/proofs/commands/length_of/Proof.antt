@@ -1,28 +1,89 @@
--- The table is the specification's, and past its end both answer 0.
+-- In each arm the command is the arm's number; in the last it is 0 or past the table's end, and both answer 0.
 use borrow.Author.Needs.{needs}
-use mathlib.Core.Path.{refl, sym}
+use Prim.Native.Nat.{ℕ, zero, suc, _≤_}
+use mathlib.Core.Path.{_≡_, refl, sym}
 use lib.ListN.{List·getD-eq-default}
-use Rattle.calls.specs.Commands.{lengths}
+use native.Mathlib.Omega.{arith}
+use Rattle.calls.specs.Commands.{lengths, lengthOf}
+use Rattle.calls.proofs.Cases.{NoneTo, above}
 use Rattle.calls.proofs.commands.length_of.Statement.{statement}
 use Rattle.calls.proofs.commands.length_of.Tie as tie
 
-mul-result : tie.Need-mul-result
-mul-result c = search needs
-
-array-read-result : tie.Need-array-read-result
-array-read-result c = search needs
+none-left : (k : ℕ) → NoneTo 16 k → 0 ≡ lengthOf k
+none-left zero others = refl
+none-left (suc k) others =
+    let low : 1 ≤ suc k = omega arith in
+    sym (List·getD-eq-default lengths 0 (above 16 low others))
 
 returns : tie.Need-returns
-returns c = refl
+returns c = search needs
 
 returns-2 : tie.Need-returns-2
-returns-2 c = sym (List·getD-eq-default lengths 0 (c .if1 .left))
+returns-2 c = search needs
+
+returns-3 : tie.Need-returns-3
+returns-3 c = search needs
+
+returns-4 : tie.Need-returns-4
+returns-4 c = search needs
+
+returns-5 : tie.Need-returns-5
+returns-5 c = search needs
+
+returns-6 : tie.Need-returns-6
+returns-6 c = search needs
+
+returns-7 : tie.Need-returns-7
+returns-7 c = search needs
+
+returns-8 : tie.Need-returns-8
+returns-8 c = search needs
+
+returns-9 : tie.Need-returns-9
+returns-9 c = search needs
+
+returns-10 : tie.Need-returns-10
+returns-10 c = search needs
+
+returns-11 : tie.Need-returns-11
+returns-11 c = search needs
+
+returns-12 : tie.Need-returns-12
+returns-12 c = search needs
+
+returns-13 : tie.Need-returns-13
+returns-13 c = search needs
+
+returns-14 : tie.Need-returns-14
+returns-14 c = search needs
+
+returns-15 : tie.Need-returns-15
+returns-15 c = search needs
+
+returns-16 : tie.Need-returns-16
+returns-16 c = search needs
+
+returns-17 : tie.Need-returns-17
+returns-17 c = none-left (c .before .args .command) (c .match .rest)
 
 pub length-of-spec : {M : Type 1} → statement M
 length-of-spec =
     tie.close
     (tie.spec
-    mul-result
-    array-read-result
     returns
-    returns-2)
+    returns-2
+    returns-3
+    returns-4
+    returns-5
+    returns-6
+    returns-7
+    returns-8
+    returns-9
+    returns-10
+    returns-11
+    returns-12
+    returns-13
+    returns-14
+    returns-15
+    returns-16
+    returns-17)

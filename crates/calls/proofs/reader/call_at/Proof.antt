@@ -1,57 +1,65 @@
 -- In each arm the command is the arm's number, so that kind's own function answers; in the last arm only 16 is left.
 use borrow.Author.Needs.{needs}
-use Rattle.calls.specs.Commands.{callAt}
+use Prim.Native.Nat.{ℕ, _≤_}
+use mathlib.Core.Path.{_≡_, subst}
+use Rattle.calls.specs.Commands.{callAt, lengthOf}
 use Rattle.calls.proofs.Cases.{in-case, last-case}
 use Rattle.calls.proofs.reader.call_at.Statement.{statement}
 use Rattle.calls.proofs.reader.call_at.Tie as tie
 
+-- An input as long as the command's table says is as long as the arm's number says.
+long-enough : {k j n : ℕ} → k ≡ j → lengthOf k ≤ n → lengthOf j ≤ n
+long-enough {n = n} p h = subst (λ k. lengthOf k ≤ n) p h
+
 take-at-requires : tie.Need-take-at-requires
-take-at-requires c κs = search needs
+take-at-requires c κs = long-enough (c .match .keys1) (c .before .before .pre .1)
 
 split-at-requires : tie.Need-split-at-requires
-split-at-requires c κs = search needs
+split-at-requires c κs = long-enough (c .match .keys2) (c .before .before .pre .1)
 
 merge-at-requires : tie.Need-merge-at-requires
-merge-at-requires c κs = search needs
+merge-at-requires c κs = long-enough (c .match .keys3) (c .before .before .pre .1)
 
 give-at-requires : tie.Need-give-at-requires
-give-at-requires c κs = search needs
+give-at-requires c κs = long-enough (c .match .keys4) (c .before .before .pre .1)
 
 revoke-at-requires : tie.Need-revoke-at-requires
-revoke-at-requires c κs = search needs
+revoke-at-requires c κs = long-enough (c .match .keys5) (c .before .before .pre .1)
 
 sweep-at-requires : tie.Need-sweep-at-requires
-sweep-at-requires c κs = search needs
+sweep-at-requires c κs = long-enough (c .match .keys6) (c .before .before .pre .1)
 
 collect-at-requires : tie.Need-collect-at-requires
-collect-at-requires c κs = search needs
+collect-at-requires c κs = long-enough (c .match .keys7) (c .before .before .pre .1)
 
 map-at-requires : tie.Need-map-at-requires
-map-at-requires c κs = search needs
+map-at-requires c κs = long-enough (c .match .keys8) (c .before .before .pre .1)
 
 unmap-at-requires : tie.Need-unmap-at-requires
-unmap-at-requires c κs = search needs
+unmap-at-requires c κs = long-enough (c .match .keys9) (c .before .before .pre .1)
 
 zero-at-requires : tie.Need-zero-at-requires
-zero-at-requires c κs = search needs
+zero-at-requires c κs = long-enough (c .match .keys10) (c .before .before .pre .1)
 
 load-at-requires : tie.Need-load-at-requires
-load-at-requires c κs = search needs
+load-at-requires c κs = long-enough (c .match .keys11) (c .before .before .pre .1)
 
 store-at-requires : tie.Need-store-at-requires
-store-at-requires c κs = search needs
+store-at-requires c κs = long-enough (c .match .keys12) (c .before .before .pre .1)
 
 narrow-at-requires : tie.Need-narrow-at-requires
-narrow-at-requires c κs = search needs
+narrow-at-requires c κs = long-enough (c .match .keys13) (c .before .before .pre .1)
 
 number-at-requires : tie.Need-number-at-requires
-number-at-requires c κs = search needs
+number-at-requires c κs = long-enough (c .match .keys14) (c .before .before .pre .1)
 
 grant-at-requires : tie.Need-grant-at-requires
-grant-at-requires c κs = search needs
+grant-at-requires c κs = long-enough (c .match .keys15) (c .before .before .pre .1)
 
 receive-at-requires : tie.Need-receive-at-requires
-receive-at-requires c κs = search needs
+receive-at-requires c κs =
+    let pre = c .before .before .pre in
+    long-enough (last-case 15 (pre .0 .0) (pre .0 .1) (c .match .rest)) (pre .1)
 
 returns : tie.Need-returns
 returns c = in-case (λ k. callAt k (c .before .before .before .args .s .now)) (c .before .match .keys1) (c .take-at .ensures)
@@ -103,7 +111,7 @@ returns-16 c =
     let match = c .before .match in
     let a = c .before .before .before .args in
     let pre = c .before .before .before .pre in
-    in-case (λ k. callAt k (a .s .now)) (last-case 15 (pre .0) (pre .1) (match .rest)) (c .receive-at .ensures)
+    in-case (λ k. callAt k (a .s .now)) (last-case 15 (pre .0 .0) (pre .0 .1) (match .rest)) (c .receive-at .ensures)
 
 pub call-at-spec : {M : Type 1} → statement M
 call-at-spec =

@@ -5,15 +5,15 @@ use Rattle.calls.specs.Commands.{frame}
 use Rattle.calls.proofs.reader.frame_at.Statement.{statement}
 use Rattle.calls.proofs.reader.frame_at.Tie as tie
 
-byte-at-requires : tie.Need-byte-at-requires
-byte-at-requires c κs = search needs
+byte-in-requires : tie.Need-byte-in-requires
+byte-in-requires c κs = search needs
 
 returns : tie.Need-returns
-returns c = ap frame (c .byte-at .ensures)
+returns c = ap frame (c .byte-in .ensures)
 
 pub frame-at-spec : {M : Type 1} → statement M
 frame-at-spec =
     tie.close
     (tie.spec
-    byte-at-requires
+    byte-in-requires
     returns)

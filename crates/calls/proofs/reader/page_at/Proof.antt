@@ -5,15 +5,15 @@ use Rattle.calls.specs.Commands.{page}
 use Rattle.calls.proofs.reader.page_at.Statement.{statement}
 use Rattle.calls.proofs.reader.page_at.Tie as tie
 
-byte-at-requires : tie.Need-byte-at-requires
-byte-at-requires c κs = search needs
+byte-in-requires : tie.Need-byte-in-requires
+byte-in-requires c κs = search needs
 
 returns : tie.Need-returns
-returns c = ap page (c .byte-at .ensures)
+returns c = ap page (c .byte-in .ensures)
 
 pub page-at-spec : {M : Type 1} → statement M
 page-at-spec =
     tie.close
     (tie.spec
-    byte-at-requires
+    byte-in-requires
     returns)

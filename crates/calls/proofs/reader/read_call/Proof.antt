@@ -1,10 +1,14 @@
 -- Each return is one of the three ways in which an input is whole or is not.
 use borrow.Author.Needs.{needs}
-use mathlib.Core.Path.{_∙_}
+use Prim.Native.Nat.{ℕ, _≤_}
+use mathlib.Core.Path.{_≡_, _∙_, subst}
 use Rattle.calls.proofs.Inputs as inputs
 use Rattle.calls.proofs.Table.{in-table}
 use Rattle.calls.proofs.reader.read_call.Statement.{statement}
 use Rattle.calls.proofs.reader.read_call.Tie as tie
+
+below : {m k n : ℕ} → m ≡ k → m ≤ n → k ≤ n
+below {n = n} p h = subst (λ k. k ≤ n) p h
 
 byte-at-requires : tie.Need-byte-at-requires
 byte-at-requires c κs = search needs
@@ -22,8 +26,10 @@ returns-2 c =
     (c .before .if1 .left) (c .if2 .taken)
 
 call-at-requires : tie.Need-call-at-requires
-call-at-requires c κs =
-    in-table (c .before .before .before .byte-at .result) (λ z. c .before .if1 .left (c .before .before .length-of .ensures ∙ z))
+call-at-requires c κs = (
+  in-table (c .before .before .before .byte-at .result) (λ z. c .before .if1 .left (c .before .before .length-of .ensures ∙ z)),
+  below (c .before .before .length-of .ensures) (c .if2 .left),
+)
 
 returns-3 : tie.Need-returns-3
 returns-3 c =

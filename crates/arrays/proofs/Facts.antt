@@ -1,0 +1,61 @@
+-- What well-formed arrays are known by: their lengths, and what stands in an entry of the state read. Assumes nothing.
+use Prim.Native.Nat.{ℕ, _*_, _≤_}
+use native.Mathlib.Omega.{arith}
+use mathlib.Core.Bool.{true}
+use mathlib.Core.List.{List, map}
+use mathlib.Core.Path.{_≡_, refl, sym, ap, _∙_}
+use lib.ListN.{length, getD, List·getD-map}
+use Rattle.pages.specs.Pages.{PageEntry}
+use Rattle.pages.specs.Pages.{FrameEntry}
+use Rattle.pages.specs.Layer.{pageAt, frameAt}
+use Rattle.reservations.proofs.Sound as sound
+use Rattle.revocation.specs.Core.{Core}
+use Rattle.revocation.proofs.CoreKept.{core-facts}
+use Rattle.words.specs.declared.Slot.{Slot}
+use Rattle.words.specs.Words.{byteOf}
+use Rattle.machine.specs.State.{State}
+use Rattle.machine.proofs.Keeps.{facts, arrays}
+use Rattle.arrays.specs.declared.Numbers.{Numbers}
+use Rattle.arrays.specs.declared.Arrays.{Arrays}
+use Rattle.pages.specs.Numbers.{pageFrom, frameFrom}
+use Rattle.reservations.specs.Numbers.{stateFrom, rowFrom, rowCode}
+use Rattle.words.specs.Lent.{slotsOf}
+use Rattle.pages.specs.Numbers.{pageIn, frameIn}
+use Rattle.arrays.specs.Reading.{coreOf, stateOf, arraysOf, Formed}
+use Rattle.arrays.proofs.Lists.{length-map}
+
+pub record Lengths (a : Arrays) : Type 0 where
+  pub words : length (a .words) ≡ 64
+  pub marks : length (a .marks) ≡ 64
+  pub mail : length (a .mail) ≡ 8
+  pub flags : length (a .flags) ≡ 8
+  pub rows : length (a .rows) ≡ 64
+  pub pages : length (a .pages) ≡ 256
+  pub frames : length (a .frames) ≡ 128
+  pub count : a .nums .count ≤ 64
+
+pub lengths : (a : Arrays) → Formed a → Lengths a
+unfolding stateOf arraysOf coreOf
+lengths a f =
+    let l = arrays (stateOf a) (f .well) in
+    let c = core-facts (stateOf a .core) (facts (stateOf a) (f .well) .core) in
+    record {
+      words = ap (λ b. length (b .words)) (sym (f .kept)) ∙ length-map (λ (w : Slot). w .cell) (stateOf a .registers) ∙ l .of-registers;
+      marks = ap (λ b. length (b .marks)) (sym (f .kept)) ∙ length-map (λ (w : Slot). byteOf (w .tag)) (stateOf a .registers) ∙ l .of-registers;
+      mail = ap (λ b. length (b .mail)) (sym (f .kept)) ∙ length-map (λ (w : Slot). w .cell) (stateOf a .mailboxes) ∙ l .of-mailboxes;
+      flags = ap (λ b. length (b .flags)) (sym (f .kept)) ∙ length-map (λ (w : Slot). byteOf (w .tag)) (stateOf a .mailboxes) ∙ l .of-mailboxes;
+      rows = sym (length-map rowFrom (a .rows)) ∙ l .of-rows;
+      pages = sym (length-map pageIn (a .pages)) ∙ l .of-pages;
+      frames = sym (length-map frameIn (a .frames)) ∙ l .of-frames;
+      count = sound.sound (16 * stateOf a .core .pages .v) (stateOf a .core .table) (c .rows) .most;
+    }
+
+-- What stands in an entry.
+module _ (n : Numbers) (rows pages frames : List ℕ) where
+  pub page-read : (p : ℕ) → pageAt (coreOf n rows pages frames .pages) p ≡ pageFrom (getD pages p 0)
+  unfolding pageAt coreOf pageFrom
+  page-read p = ap (λ (e : PageEntry). e .state) (List·getD-map pageIn pages p 0)
+
+  pub frame-read : (k : ℕ) → frameAt (coreOf n rows pages frames .pages) k ≡ frameFrom (getD frames k 0)
+  unfolding frameAt coreOf frameFrom
+  frame-read k = ap (λ (e : FrameEntry). e .state) (List·getD-map frameIn frames k 0)

@@ -1,0 +1,5 @@
+pub mod Lists
+pub mod RoundTrip
+pub mod Facts
+pub mod Writing
+pub mod Ruling

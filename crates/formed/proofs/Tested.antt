@@ -1,0 +1,328 @@
+-- The test of arrays: it holds if and only if they are well formed. Between the two stand the facts that are tested, part by part.
+-- Assumes nothing.
+use Prim.Native.Nat.{ℕ, zero, suc, _*_, _≤_}
+use native.Mathlib.Omega.{arith}
+use mathlib.Core.Bool.{Bool, true, false, _&&_, true≢false}
+use mathlib.Core.List.{List, [], _∷_, map}
+use mathlib.Core.Path.{_≡_, refl, sym, ap, subst, _∙_}
+use lib.ListN.{length}
+use lib.Dec.{eqb, leb}
+use borrow.Author.Tests.{eqb-true, eq-eqb, leb-true, le-leb, lt-leb}
+use Rattle.capabilities.specs.Lists.{each}
+use Rattle.capabilities.proofs.Choice.{and-left, and-right}
+use Rattle.pages.specs.Pages.{PageEntry}
+use Rattle.pages.specs.Pages.{FrameEntry}
+use Rattle.pages.specs.Layer.{wellFormed}
+use Rattle.pages.proofs.Formed as layer
+use Rattle.pages.specs.Numbers.{pageFrom, pageCode, frameFrom, frameCode, pageIn, frameIn, layerOf, pageKept, frameKept, layerSound}
+use Rattle.reservations.specs.Tiling.{tableSound}
+use Rattle.reservations.proofs.Truth.{both}
+use Rattle.reservations.specs.Numbers.{rowFrom, rowCode, tableOf, allWritten}
+use Rattle.reservations.specs.Sound.{soundNumbers}
+use Rattle.reservations.proofs.Numbers.{read-sized}
+use Rattle.reservations.proofs.RoundTrip.{AllSized, numbers-back, rows-written}
+use Rattle.revocation.specs.Revocation.{revoked, revocationSound}
+use Rattle.revocation.proofs.CoreKept.{core-facts, core-made}
+use Rattle.words.specs.declared.Slot.{Slot}
+use Rattle.words.specs.Words.{slot, tagOf, byteOf}
+use Rattle.words.specs.Lent.{slotsOf, cellsOf, bytesOf, bit, mailboxSound}
+use Rattle.machine.specs.Formed as rules
+use Rattle.machine.proofs.Keeps.{facts, formed}
+use Rattle.arrays.specs.declared.Arrays.{Arrays}
+use Rattle.arrays.specs.Reading.{arrays, coreOf, numbersOf, stateOf, arraysOf, Formed}
+use Rattle.arrays.proofs.Facts.{lengths}
+use Rattle.arrays.proofs.Lists.{length-map}
+use Rattle.formed.specs.Test.{sized, canonical, cached, formedOf}
+
+pub record Parts (a : Arrays) : Type 0 where
+  pub words : length (a .words) ≡ 64
+  pub marks : length (a .marks) ≡ 64
+  pub mail : length (a .mail) ≡ 8
+  pub flags : length (a .flags) ≡ 8
+  pub layer : layerSound (a .nums .v) (a .nums .f) (a .pages) (a .frames) ≡ true
+  pub table : soundNumbers (16 * a .nums .v) (a .rows) (a .nums .count) ≡ true
+  pub place : a .nums .place ≤ 16 * a .nums .f
+  pub revocation : cached (a .nums) (coreOf (a .nums) (a .rows) (a .pages) (a .frames)) && revocationSound (coreOf (a .nums) (a .rows) (a .pages) (a .frames)) ≡ true
+  pub mark-bits : each bit 0 (a .marks) ≡ true
+  pub flag-bits : each bit 0 (a .flags) ≡ true
+  pub mailboxes : each mailboxSound 0 (slotsOf (a .mail) (a .flags)) ≡ true
+
+-- Every entry is kept if and only if the list, read and written, is the same.
+module _ {A : Type 0} (f : ℕ → A) (g : A → ℕ) where
+  kept-list : (n : ℕ) (l : List ℕ) → each (λ i x. eqb (g (f x)) x) n l ≡ true → map g (map f l) ≡ l
+  unfolding each
+  kept-list n [] e = refl
+  kept-list n (x ∷ l) e =
+      ap (λ y. y ∷ map g (map f l)) (eqb-true (g (f x)) x (and-left (eqb (g (f x)) x) _ e)) ∙ ap (λ k. x ∷ k) (kept-list (suc n) l (and-right (eqb (g (f x)) x) _ e))
+
+  list-kept : (n : ℕ) (l : List ℕ) → map g (map f l) ≡ l → each (λ i x. eqb (g (f x)) x) n l ≡ true
+  unfolding each
+  list-kept n [] e = refl
+  list-kept n (x ∷ l) e = both (eqb (g (f x)) x) _ (eq-eqb (g (f x)) x cc) (list-kept (suc n) l cc)
+
+cells-kept : (cells tags : List ℕ) → length cells ≡ length tags → cellsOf (slotsOf cells tags) ≡ cells
+unfolding slotsOf
+cells-kept [] tags e = refl
+cells-kept (c ∷ cells) [] e = let z : ⊥ = omega arith in absurd z
+cells-kept (c ∷ cells) (t ∷ tags) e = ap (λ l. c ∷ l) (cells-kept cells tags (omega arith))
+
+slots-length : (cells tags : List ℕ) → length cells ≡ length tags → length (slotsOf cells tags) ≡ length cells
+unfolding slotsOf
+slots-length [] tags e = refl
+slots-length (c ∷ cells) [] e = let z : ⊥ = omega arith in absurd z
+slots-length (c ∷ cells) (t ∷ tags) e = ap suc (slots-length cells tags (omega arith))
+
+-- A byte is what its tag is written as if it is 0 or 1.
+bit-byte : (n : ℕ) → leb n 1 ≡ true → byteOf (tagOf n) ≡ n
+bit-byte zero e = refl
+bit-byte (suc zero) e = refl
+bit-byte (suc (suc n)) e = absurd (true≢false (sym e ∙ lt-leb (suc (suc n)) 1 (omega arith)))
+
+byte-bit : (b : Bool) → leb (byteOf b) 1 ≡ true
+byte-bit true = refl
+byte-bit false = refl
+
+bytes-kept : (n : ℕ) (cells tags : List ℕ) → length cells ≡ length tags → each bit n tags ≡ true → bytesOf (slotsOf cells tags) ≡ tags
+unfolding slotsOf each
+bytes-kept n [] [] e b = refl
+bytes-kept n [] (t ∷ tags) e b = let z : ⊥ = omega arith in absurd z
+bytes-kept n (c ∷ cells) [] e b = refl
+bytes-kept n (c ∷ cells) (t ∷ tags) e b =
+    ap (λ x. x ∷ bytesOf (slotsOf cells tags)) (bit-byte t (and-left (leb t 1) (each bit (suc n) tags) b))
+    ∙ ap (λ l. t ∷ l) (bytes-kept (suc n) cells tags (omega arith) (and-right (leb t 1) (each bit (suc n) tags) b))
+
+bytes-bits : (n : ℕ) (l : List Slot) → each bit n (bytesOf l) ≡ true
+unfolding each
+bytes-bits n [] = refl
+bytes-bits n (w ∷ l) = both (leb (byteOf (w .tag)) 1) (each bit (suc n) (bytesOf l)) (byte-bit (w .tag)) (bytes-bits (suc n) l)
+
+read-all : (l : List ℕ) → AllSized (map rowFrom l)
+read-all [] = refl
+read-all (n ∷ l) = (read-sized n, read-all l)
+
+-- Well-formed arrays have all of the parts.
+module _ (a : Arrays) (f : Formed a) where
+  kept-marks : bytesOf (slotsOf (a .words) (a .marks)) ≡ a .marks
+  unfolding arraysOf stateOf
+  kept-marks = ap (λ (b : Arrays). b .marks) (f .kept)
+
+  kept-flags : bytesOf (slotsOf (a .mail) (a .flags)) ≡ a .flags
+  unfolding arraysOf stateOf
+  kept-flags = ap (λ (b : Arrays). b .flags) (f .kept)
+
+  kept-rows : map rowCode (map rowFrom (a .rows)) ≡ a .rows
+  unfolding arraysOf stateOf coreOf
+  kept-rows = ap (λ (b : Arrays). b .rows) (f .kept)
+
+  kept-pages : map (λ (x : PageEntry). pageCode (x .state)) (map pageIn (a .pages)) ≡ a .pages
+  unfolding arraysOf stateOf coreOf
+  kept-pages = ap (λ (b : Arrays). b .pages) (f .kept)
+
+  kept-frames : map (λ (x : FrameEntry). frameCode (x .state)) (map frameIn (a .frames)) ≡ a .frames
+  unfolding arraysOf stateOf coreOf
+  kept-frames = ap (λ (b : Arrays). b .frames) (f .kept)
+
+  kept-base : a .nums .base ≡ revoked (coreOf (a .nums) (a .rows) (a .pages) (a .frames)) .base
+  unfolding arraysOf stateOf numbersOf
+  kept-base = sym (ap (λ (b : Arrays). b .nums .base) (f .kept))
+
+  kept-length : a .nums .length ≡ revoked (coreOf (a .nums) (a .rows) (a .pages) (a .frames)) .length
+  unfolding arraysOf stateOf numbersOf
+  kept-length = sym (ap (λ (b : Arrays). b .nums .length) (f .kept))
+
+  pub parts : Parts a
+  unfolding stateOf coreOf layerSound soundNumbers pageKept frameKept
+  parts =
+      let l = lengths a f in
+      let s = facts (stateOf a) (f .well) in
+      let c = core-facts (coreOf (a .nums) (a .rows) (a .pages) (a .frames)) (s .core) in
+      let n = a .nums in
+      let k = coreOf (a .nums) (a .rows) (a .pages) (a .frames) in
+      record {
+        words = l .words;
+        marks = l .marks;
+        mail = l .mail;
+        flags = l .flags;
+        layer = both (wellFormed (layerOf (n .v) (n .f) (a .pages) (a .frames))) _ (c .layer)
+            (both (each pageKept 0 (a .pages)) _ (list-kept pageIn (λ (x : PageEntry). pageCode (x .state)) 0 (a .pages) kept-pages)
+            (list-kept frameIn (λ (x : FrameEntry). frameCode (x .state)) 0 (a .frames) kept-frames));
+        table = both (tableSound (16 * n .v) (tableOf (a .rows) (n .count))) _ (c .rows)
+            (subst (λ (x : List ℕ). allWritten x ≡ true) kept-rows (rows-written (map rowFrom (a .rows)) (read-all (a .rows))));
+        place = c .place;
+        revocation = both (cached n k) _ (both (eqb (n .base) (revoked k .base)) _ (eq-eqb (n .base) (revoked k .base) kept-base) (eq-eqb (n .length) (revoked k .length) kept-length)) (c .revocation);
+        mark-bits = subst (λ (x : List ℕ). each bit 0 x ≡ true) kept-marks (bytes-bits 0 (slotsOf (a .words) (a .marks)));
+        flag-bits = subst (λ (x : List ℕ). each bit 0 x ≡ true) kept-flags (bytes-bits 0 (slotsOf (a .mail) (a .flags)));
+        mailboxes = s .mailboxes;
+      }
+
+same-arrays : {v f c p b₁ b₂ l₁ l₂ : ℕ} {w₁ w₂ k₁ k₂ m₁ m₂ g₁ g₂ r₁ r₂ p₁ p₂ f₁ f₂ : List ℕ} → b₁ ≡ b₂ → l₁ ≡ l₂ → w₁ ≡ w₂ → k₁ ≡ k₂ → m₁ ≡ m₂ → g₁ ≡ g₂ → r₁ ≡ r₂ → p₁ ≡ p₂ → f₁ ≡ f₂
+    → arrays (record { v = v; f = f; count = c; place = p; base = b₁; length = l₁ }) w₁ k₁ m₁ g₁ r₁ p₁ f₁
+    ≡ arrays (record { v = v; f = f; count = c; place = p; base = b₂; length = l₂ }) w₂ k₂ m₂ g₂ r₂ p₂ f₂
+same-arrays e1 e2 e3 e4 e5 e6 e7 e8 e9 = cc
+
+-- Arrays that have all of the parts are well formed.
+module _ (a : Arrays) (p : Parts a) where
+  kept : arraysOf (stateOf a) ≡ a
+  unfolding arraysOf stateOf coreOf numbersOf layerSound soundNumbers pageKept frameKept
+  kept =
+      let n = a .nums in
+      let k = coreOf (a .nums) (a .rows) (a .pages) (a .frames) in
+      let written = and-right (wellFormed (layerOf (n .v) (n .f) (a .pages) (a .frames))) _ (p .layer) in
+      let cache = and-left (cached n k) _ (p .revocation) in
+      let lw = p .words ∙ sym (p .marks) in
+      let lm = p .mail ∙ sym (p .flags) in
+      same-arrays (sym (eqb-true (n .base) (revoked k .base) (and-left (eqb (n .base) (revoked k .base)) _ cache)))
+      (sym (eqb-true (n .length) (revoked k .length) (and-right (eqb (n .base) (revoked k .base)) _ cache)))
+      (cells-kept (a .words) (a .marks) lw) (bytes-kept 0 (a .words) (a .marks) lw (p .mark-bits))
+      (cells-kept (a .mail) (a .flags) lm) (bytes-kept 0 (a .mail) (a .flags) lm (p .flag-bits))
+      (numbers-back (a .rows) (n .count) (and-right (tableSound (16 * n .v) (tableOf (a .rows) (n .count))) _ (p .table)))
+      (kept-list pageIn (λ (x : PageEntry). pageCode (x .state)) 0 (a .pages) (and-left (each pageKept 0 (a .pages)) _ written))
+      (kept-list frameIn (λ (x : FrameEntry). frameCode (x .state)) 0 (a .frames) (and-right (each pageKept 0 (a .pages)) _ written))
+
+  well : rules.wellFormed (stateOf a) ≡ true
+  unfolding stateOf coreOf layerSound soundNumbers
+  well =
+      let n = a .nums in
+      let k = coreOf (a .nums) (a .rows) (a .pages) (a .frames) in
+      formed (stateOf a)
+      (record {
+        core = core-made k (and-left (wellFormed (layerOf (n .v) (n .f) (a .pages) (a .frames))) _ (p .layer))
+            (and-left (tableSound (16 * n .v) (tableOf (a .rows) (n .count))) _ (p .table)) (p .place) (and-right (cached n k) _ (p .revocation));
+        mailboxes = p .mailboxes;
+        of-registers = slots-length (a .words) (a .marks) (p .words ∙ sym (p .marks)) ∙ p .words;
+        of-mailboxes = slots-length (a .mail) (a .flags) (p .mail ∙ sym (p .flags)) ∙ p .mail;
+      })
+
+  pub whole : Formed a
+  whole = record { well = well; kept = kept }
+
+-- The test and the parts.
+module _ (a : Arrays) where
+  pub tested : formedOf a ≡ true → Formed a
+  unfolding formedOf stateOf coreOf
+  tested e =
+      let n = a .nums in
+      let k = coreOf (a .nums) (a .rows) (a .pages) (a .frames) in
+      let b1 = eqb (length (a .words)) 64 in
+      let b2 = eqb (length (a .marks)) 64 in
+      let b3 = eqb (length (a .mail)) 8 in
+      let b4 = eqb (length (a .flags)) 8 in
+      let b5 = eqb (length (a .rows)) 64 && (eqb (length (a .pages)) 256 && eqb (length (a .frames)) 128) in
+      let size = and-left ((b1 && b2) && (b3 && b4)) b5 (and-left (sized a) _ e) in
+      let one = and-left (b1 && b2) (b3 && b4) size in
+      let two = and-right (b1 && b2) (b3 && b4) size in
+      let rest = and-right (sized a) _ e in
+      let written = and-left (canonical a) _ rest in
+      let tags = and-left (each bit 0 (a .marks) && each bit 0 (a .flags)) _ written in
+      let numbers = and-right (each bit 0 (a .marks) && each bit 0 (a .flags)) _ written in
+      let more = and-right (canonical a) _ rest in
+      let s = facts (stateOf a) (and-right (cached n k) _ more) in
+      let c = core-facts k (s .core) in
+      whole a
+      (record {
+        words = eqb-true (length (a .words)) 64 (and-left b1 b2 one);
+        marks = eqb-true (length (a .marks)) 64 (and-right b1 b2 one);
+        mail = eqb-true (length (a .mail)) 8 (and-left b3 b4 two);
+        flags = eqb-true (length (a .flags)) 8 (and-right b3 b4 two);
+        layer = unfold layerSound in both (wellFormed (layerOf (n .v) (n .f) (a .pages) (a .frames))) _ (c .layer) (and-right (allWritten (a .rows)) _ numbers);
+        table = unfold soundNumbers in both (tableSound (16 * n .v) (tableOf (a .rows) (n .count))) _ (c .rows) (and-left (allWritten (a .rows)) _ numbers);
+        place = c .place;
+        revocation = both (cached n k) _ (and-left (cached n k) _ more) (c .revocation);
+        mark-bits = and-left (each bit 0 (a .marks)) _ tags;
+        flag-bits = and-right (each bit 0 (a .marks)) _ tags;
+        mailboxes = s .mailboxes;
+      })
+
+  passes : Parts a → formedOf a ≡ true
+  unfolding formedOf stateOf coreOf layerSound soundNumbers
+  passes p =
+      let n = a .nums in
+      let k = coreOf (a .nums) (a .rows) (a .pages) (a .frames) in
+      let f = whole a p in
+      let l = lengths a f in
+      both (sized a) _
+      (both ((eqb (length (a .words)) 64 && eqb (length (a .marks)) 64) && (eqb (length (a .mail)) 8 && eqb (length (a .flags)) 8)) _
+      (both (eqb (length (a .words)) 64 && eqb (length (a .marks)) 64) _ (both (eqb (length (a .words)) 64) _ (eq-eqb (length (a .words)) 64 (l .words)) (eq-eqb (length (a .marks)) 64 (l .marks)))
+      (both (eqb (length (a .mail)) 8) _ (eq-eqb (length (a .mail)) 8 (l .mail)) (eq-eqb (length (a .flags)) 8 (l .flags))))
+      (both (eqb (length (a .rows)) 64) _ (eq-eqb (length (a .rows)) 64 (l .rows)) (both (eqb (length (a .pages)) 256) _ (eq-eqb (length (a .pages)) 256 (l .pages)) (eq-eqb (length (a .frames)) 128 (l .frames)))))
+      (both (canonical a) _
+      (both (each bit 0 (a .marks) && each bit 0 (a .flags)) _ (both (each bit 0 (a .marks)) _ (p .mark-bits) (p .flag-bits))
+      (both (allWritten (a .rows)) _ (and-right (tableSound (16 * n .v) (tableOf (a .rows) (n .count))) _ (p .table)) (and-right (wellFormed (layerOf (n .v) (n .f) (a .pages) (a .frames))) _ (p .layer))))
+      (both (cached n k) _ (and-left (cached n k) _ (p .revocation)) (f .well)))
+
+  -- What holds if and only if all of the parts do is the test.
+  pub by-parts : (b : Bool) → (b ≡ true → Parts a) → (Parts a → b ≡ true) → b ≡ formedOf a
+  by-parts b there back = go b refl (formedOf a) refl
+    where
+      go : (x : Bool) → b ≡ x → (y : Bool) → formedOf a ≡ y → b ≡ formedOf a
+      go true e y d = e ∙ sym (passes (there e))
+      go false e false d = e ∙ sym d
+      go false e true d = absurd (true≢false (sym (back (parts a (tested d))) ∙ e))
+
+-- Well-formed arrays pass.
+pub passing : (a : Arrays) → Formed a → formedOf a ≡ true
+passing a f = passes a (parts a f)
+
+-- The test in the code's order: the lengths of registers and mailboxes and the page layer, then the rest.
+module _ (a : Arrays) where
+  abbrev pub lengthsFit : Bool
+  lengthsFit = (eqb (length (a .words)) 64 && eqb (length (a .marks)) 64) && (eqb (length (a .mail)) 8 && eqb (length (a .flags)) 8)
+
+  abbrev pub front : Bool
+  front = lengthsFit && layerSound (a .nums .v) (a .nums .f) (a .pages) (a .frames)
+
+  abbrev pub back : Bool
+  back =
+      (soundNumbers (16 * a .nums .v) (a .rows) (a .nums .count) && leb (a .nums .place) (16 * a .nums .f))
+      && ((cached (a .nums) (coreOf (a .nums) (a .rows) (a .pages) (a .frames)) && revocationSound (coreOf (a .nums) (a .rows) (a .pages) (a .frames)))
+      && ((each bit 0 (a .marks) && each bit 0 (a .flags)) && each mailboxSound 0 (slotsOf (a .mail) (a .flags))))
+
+  front-holds : Parts a → front ≡ true
+  front-holds p =
+      both lengthsFit (layerSound (a .nums .v) (a .nums .f) (a .pages) (a .frames))
+      (both (eqb (length (a .words)) 64 && eqb (length (a .marks)) 64) _ (both (eqb (length (a .words)) 64) _ (eq-eqb (length (a .words)) 64 (p .words)) (eq-eqb (length (a .marks)) 64 (p .marks)))
+      (both (eqb (length (a .mail)) 8) _ (eq-eqb (length (a .mail)) 8 (p .mail)) (eq-eqb (length (a .flags)) 8 (p .flags)))) (p .layer)
+
+  back-holds : Parts a → back ≡ true
+  back-holds p =
+      both (soundNumbers (16 * a .nums .v) (a .rows) (a .nums .count) && leb (a .nums .place) (16 * a .nums .f)) _
+      (both (soundNumbers (16 * a .nums .v) (a .rows) (a .nums .count)) _ (p .table) (le-leb (a .nums .place) (16 * a .nums .f) (p .place)))
+      (both (cached (a .nums) (coreOf (a .nums) (a .rows) (a .pages) (a .frames)) && revocationSound (coreOf (a .nums) (a .rows) (a .pages) (a .frames))) _ (p .revocation)
+      (both (each bit 0 (a .marks) && each bit 0 (a .flags)) _ (both (each bit 0 (a .marks)) _ (p .mark-bits) (p .flag-bits)) (p .mailboxes)))
+
+  all-parts : front ≡ true → back ≡ true → Parts a
+  all-parts e d =
+      let size = and-left lengthsFit _ e in
+      let one = and-left (eqb (length (a .words)) 64 && eqb (length (a .marks)) 64) _ size in
+      let two = and-right (eqb (length (a .words)) 64 && eqb (length (a .marks)) 64) _ size in
+      let table = and-left (soundNumbers (16 * a .nums .v) (a .rows) (a .nums .count) && leb (a .nums .place) (16 * a .nums .f)) _ d in
+      let rest = and-right (soundNumbers (16 * a .nums .v) (a .rows) (a .nums .count) && leb (a .nums .place) (16 * a .nums .f)) _ d in
+      let run = cached (a .nums) (coreOf (a .nums) (a .rows) (a .pages) (a .frames)) && revocationSound (coreOf (a .nums) (a .rows) (a .pages) (a .frames)) in
+      let tags = and-right run _ rest in
+      let bits = and-left (each bit 0 (a .marks) && each bit 0 (a .flags)) _ tags in
+      record {
+        words = eqb-true (length (a .words)) 64 (and-left (eqb (length (a .words)) 64) _ one);
+        marks = eqb-true (length (a .marks)) 64 (and-right (eqb (length (a .words)) 64) _ one);
+        mail = eqb-true (length (a .mail)) 8 (and-left (eqb (length (a .mail)) 8) _ two);
+        flags = eqb-true (length (a .flags)) 8 (and-right (eqb (length (a .mail)) 8) _ two);
+        layer = and-right lengthsFit _ e;
+        table = and-left (soundNumbers (16 * a .nums .v) (a .rows) (a .nums .count)) _ table;
+        place = leb-true (a .nums .place) (16 * a .nums .f) (and-right (soundNumbers (16 * a .nums .v) (a .rows) (a .nums .count)) _ table);
+        revocation = and-left run _ rest;
+        mark-bits = and-left (each bit 0 (a .marks)) _ bits;
+        flag-bits = and-right (each bit 0 (a .marks)) _ bits;
+        mailboxes = and-right (each bit 0 (a .marks) && each bit 0 (a .flags)) _ tags;
+      }
+
+  pub front-fails : front ≡ false → false ≡ formedOf a
+  front-fails e = by-parts a false (λ z. absurd (true≢false (sym z))) (λ p. absurd (true≢false (sym (front-holds p) ∙ e)))
+
+  pub back-decides : front ≡ true → (b : Bool) → b ≡ back → b ≡ formedOf a
+  back-decides e b d = by-parts a b (λ z. all-parts e (sym d ∙ z)) (λ p. d ∙ back-holds p)
+
+-- There are 256 pages in a sound layer.
+pub layer-pages : (v f : ℕ) (pages frames : List ℕ) → layerSound v f pages frames ≡ true → length pages ≡ 256
+unfolding layerSound
+layer-pages v f pages frames e =
+    let w = and-left (wellFormed (layerOf v f pages frames)) _ e in
+    sym (length-map pageIn pages) ∙ layer.sound (layerOf v f pages frames) w .long-pages

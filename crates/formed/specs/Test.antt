@@ -1,0 +1,40 @@
+-- Well-formed arrays, as a test. Assumes nothing.
+use Prim.Native.Nat.{ℕ}
+use mathlib.Core.Bool.{Bool, _&&_}
+use mathlib.Core.List.{List}
+use mathlib.Core.Path.{_≡_}
+use lib.ListN.{length}
+use lib.Dec.{eqb}
+use Rattle.capabilities.specs.Lists.{each}
+use Rattle.revocation.specs.Core.{Core}
+use Rattle.revocation.specs.Revocation.{revoked, revocationSound}
+use Rattle.words.specs.Lent.{bit}
+use Rattle.machine.specs.Formed.{wellFormed}
+use Rattle.arrays.specs.declared.Arrays.{Arrays}
+use Rattle.arrays.specs.declared.Numbers.{Numbers}
+use Rattle.pages.specs.Numbers.{pageKept, frameKept}
+use Rattle.reservations.specs.Numbers.{allWritten}
+use Rattle.arrays.specs.Reading.{coreOf, stateOf}
+
+-- The arrays have the lengths of the machine.
+abbrev pub sized : Arrays → Bool
+sized a =
+    ((eqb (length (a .words)) 64 && eqb (length (a .marks)) 64) && (eqb (length (a .mail)) 8 && eqb (length (a .flags)) 8))
+    && (eqb (length (a .rows)) 64 && (eqb (length (a .pages)) 256 && eqb (length (a .frames)) 128))
+
+-- Every number is one that is written: tags are 0 or 1, and an entry's number is what the entry is written as.
+abbrev pub canonical : Arrays → Bool
+canonical a =
+    (each bit 0 (a .marks) && each bit 0 (a .flags)) && (allWritten (a .rows) && (each pageKept 0 (a .pages) && each frameKept 0 (a .frames)))
+
+-- The range that is kept beside V and F is the one that is being revoked.
+abbrev pub cached : Numbers → Core → Bool
+cached n c = eqb (n .base) (revoked c .base) && eqb (n .length) (revoked c .length)
+
+-- The test of the revocation, which looks at the rows and the pages and at no frame.
+abbrev pub RevocationKept : Bool → Numbers → List ℕ → List ℕ → Type 0
+RevocationKept r n rows pages =
+    (frames : List ℕ) → r ≡ (cached n (coreOf n rows pages frames) && revocationSound (coreOf n rows pages frames))
+
+unfoldable pub formedOf : Arrays → Bool
+formedOf a = sized a && (canonical a && (cached (a .nums) (stateOf a .core) && wellFormed (stateOf a)))

@@ -1,0 +1,87 @@
+// Whether lent arrays are a well-formed state, each number as the state is written.
+use arrays::Numbers;
+use capabilities::Range;
+use capabilities::ranges::inside;
+use pages::sound::layer_sound;
+use reservations::find::revoking;
+use reservations::find::row_in;
+use reservations::row::missing;
+use reservations::tiling::well_formed;
+use revocation::range_of;
+use revocation::whole_pages;
+use words::registers::bits;
+use words::registers::mailboxes_sound;
+ghost use mathlib.Core.Path.{_≡_};
+ghost use mathlib.Core.List.{map};
+ghost use Prim.Native.Nat.{_<_};
+ghost use lib.ListN.{length};
+ghost use Rattle.capabilities.specs.Lists.{each};
+ghost use Rattle.pages.specs.Freed.{freedIn};
+ghost use Rattle.pages.specs.Numbers.{pageIn};
+ghost use Rattle.arrays.specs.Reading.{arrays};
+ghost use Rattle.formed.specs.Test.{RevocationKept, formedOf};
+
+// A page of the range is Freed; one outside may be anything.
+fn freed_in(range: Range, page: usize, number: u16) -> bool
+    requires { ⌜ page < 256 ⌝ }
+    ensures { λ r. ⌜ r ≡ freedIn range page (pageIn number) ⌝ }
+{
+    let here = inside(range, 16 * (page as u32));
+    !here | (number == 1)
+}
+
+fn all_freed(pages: &[u16], range: Range) -> bool
+    requires { ⌜ length (now pages) ≡ 256 ⌝ }
+    ensures { λ r. ⌜ r ≡ each (freedIn range) 0 (map pageIn (now (pages .entry))) ⌝ }
+{
+    let mut all = true;
+    let mut p: usize = 0;
+    while p < 256 {
+        let here = freed_in(range, p, pages[p]);
+        all = all & here;
+        p += 1;
+    }
+    all
+}
+
+// The range that is kept beside V and F is the Revoking reservation's, which is made of whole pages, all Freed; if there is none, the
+// sweep place is 0.
+fn revocation_kept(nums: Numbers, rows: &[u64], pages: &[u16]) -> bool
+    requires { ⌜ length (now pages) ≡ 256 ⌝ }
+    ensures { λ r. ⌜ RevocationKept r nums (now (rows .entry)) (now (pages .entry)) ⌝ }
+{
+    let count = nums.count;
+    let found = revoking(rows, count);
+    let row = row_in(rows, count, found);
+    let kept = (nums.base == row.base) & (nums.length == row.length);
+    if missing(found) {
+        return kept & (nums.place == 0);
+    }
+    kept & (whole_pages(row) & all_freed(pages, range_of(row)))
+}
+
+// Whether arrays are a well-formed state, each number as the state is written.
+pub fn formed(
+    nums: Numbers,
+    words: &[u64],
+    marks: &[u8],
+    mail: &[u64],
+    flags: &[u8],
+    rows: &[u64],
+    pages: &[u16],
+    frames: &[u8],
+) -> bool
+    ensures { λ r. ⌜ r ≡ formedOf (arrays nums (now (words .entry)) (now (marks .entry)) (now (mail .entry)) (now (flags .entry)) (now (rows .entry)) (now (pages .entry)) (now (frames .entry))) ⌝ }
+{
+    let sized = ((words.len() == 64) & (marks.len() == 64))
+        & ((mail.len() == 8) & (flags.len() == 8));
+    let layer = layer_sound(nums.v, nums.f, pages, frames);
+    if !(sized & layer) {
+        return false;
+    }
+    let table = well_formed(rows, nums.count, 16 * (nums.v as u32));
+    let placed = nums.place <= 16 * (nums.f as u32);
+    let kept = revocation_kept(nums, rows, pages);
+    let tags = (bits(marks) & bits(flags)) & mailboxes_sound(mail, flags);
+    (table & placed) & (kept & tags)
+}

@@ -1,0 +1,126 @@
+-- The rules on the layer that lent numbers read as, in terms of the numbers. Assumes nothing.
+use Prim.Native.Nat.{ℕ, _+_, _*_, _/_, _%_, _<_, _≤_, min}
+use native.Mathlib.Nat.{zero-add}
+use native.Mathlib.Omega.{arith}
+use mathlib.Core.Bool.{Bool, true, false, not, _&&_, _||_, false≢true}
+use mathlib.Core.List.{List, map}
+use mathlib.Core.Path.{_≡_, refl, sym, ap, _∙_}
+use lib.ListN.{length, getD, take, length-map, length-take, List·getD-map}
+use lib.Dec.{eqb, leb, ltb}
+use borrow.Author.Tests.{eq-eqb, le-leb, lt-leb, lt-ltb, le-ltb, not-false}
+use Rattle.capabilities.specs.declared.Range.{Range}
+use Rattle.capabilities.specs.Lists.{pick, each}
+use Rattle.capabilities.specs.Range.{inside, pageInside}
+use Rattle.capabilities.specs.Refusals.{first}
+use Rattle.capabilities.proofs.Refusals.{first-clear}
+use Rattle.capabilities.proofs.Lists.{each-more, each-all, each-rest}
+use Rattle.pages.specs.declared.Frame.{Frame}
+use Rattle.pages.specs.declared.VirtualPage.{VirtualPage}
+use Rattle.pages.specs.Pages.{Pages}
+use Rattle.pages.specs.declared.PageState.{PageState}
+use Rattle.pages.specs.declared.PageState.the-variants.{Unmapped, Freed, Mapped}
+use Rattle.pages.specs.declared.FrameState.the-variants.{Dirty}
+use Rattle.pages.specs.declared.Place.the-variants.{Nowhere}
+use Rattle.pages.specs.Entries.{isUnmapped, isMapped, isDirty, isFree, frameNumber}
+use Rattle.pages.specs.Layer.{pageAt, withPage, withFrame}
+use Rattle.pages.specs.Mapping.{noPage, mapReasons, unmapReasons, soiled, unmapped, dirtyReasons, zeroReasons, placeIn, lookupOf, notMappedIn}
+use Rattle.pages.specs.Numbers.{pageFrom, frameFrom, pageIn, layerOf}
+use Rattle.pages.proofs.Reading.{page-read, frame-read}
+
+module _ (v f : ℕ) (pages frames : List ℕ) where
+  pub lookup-read : (cell : ℕ)
+      → lookupOf (layerOf v f pages frames) cell ≡ pick (ltb (cell / 16) v) (placeIn (pageFrom (getD pages (cell / 16) 0)) (cell % 16)) Nowhere
+  unfolding lookupOf
+  lookup-read cell = ap (λ (s : PageState). pick (ltb (cell / 16) v) (placeIn s (cell % 16)) Nowhere) (page-read v f pages frames (cell / 16))
+
+  pub map-read : (page : VirtualPage) (frame : Frame)
+      → first (mapReasons (layerOf v f pages frames) page frame)
+      ≡ pick (leb v (page .0) || leb f (frame .0)) 12
+      (pick (not (isUnmapped (pageFrom (getD pages (page .0) 0)))) 13 (pick (not (isFree (frameFrom (getD frames (frame .0) 0)))) 14 0))
+  unfolding first mapReasons
+  map-read page frame = rw (page-read v f pages frames (page .0), frame-read v f pages frames (frame .0))
+
+  pub unmap-read : (page : VirtualPage)
+      → first (unmapReasons (layerOf v f pages frames) page) ≡ pick (leb v (page .0)) 12 (pick (not (isMapped (pageFrom (getD pages (page .0) 0)))) 13 0)
+  unfolding first unmapReasons
+  unmap-read page = rw (page-read v f pages frames (page .0))
+
+  pub zero-read : (frame : Frame) (cells tags : ℕ)
+      → first (zeroReasons (layerOf v f pages frames) frame cells tags)
+      ≡ pick (not (eqb cells (16 * f) && eqb tags (16 * f))) 2 (pick (leb f (frame .0)) 12 (pick (not (isDirty (frameFrom (getD frames (frame .0) 0)))) 14 0))
+  unfolding first zeroReasons dirtyReasons
+  zero-read frame cells tags = rw (frame-read v f pages frames (frame .0))
+
+-- 09: a granted unmap puts one page and one frame.
+soiled-shown : (s : Pages) (x : PageState) → isMapped x ≡ true → soiled s x ≡ withFrame s (frameNumber x) Dirty
+unfolding soiled
+soiled-shown s Unmapped e = absurd (false≢true e)
+soiled-shown s Freed e = absurd (false≢true e)
+soiled-shown s (Mapped g) e = refl
+
+pub unmap-put : (s : Pages) (page : VirtualPage) → first (unmapReasons s page) ≡ 0
+    → unmapped s page ≡ withFrame (withPage s (page .0) Freed) (frameNumber (pageAt s (page .0))) Dirty
+unfolding unmapped unmapReasons
+unmap-put s page e =
+    let one = first-clear 12 (noPage s page) _ (λ x. omega arith) e in
+    let two = first-clear 13 (not (isMapped (pageAt s (page .0)))) _ (λ x. omega arith) (one .1) in
+    soiled-shown (withPage s (page .0) Freed) (pageAt s (page .0)) (not-false _ (two .0))
+
+-- 0A: with memory of the right size the reasons are those of the frame alone.
+pub zero-reasons : (s : Pages) (frame : Frame) (cells tags : ℕ) → cells ≡ 16 * s .f → tags ≡ 16 * s .f
+    → first (zeroReasons s frame cells tags) ≡ first (dirtyReasons s frame)
+unfolding zeroReasons first
+zero-reasons s frame cells tags a b = rw (eq-eqb cells (16 * s .f) a, eq-eqb tags (16 * s .f) b)
+
+-- The pages of a range are those from one number up to another.
+module _ (r : Range) (k : ℕ) where
+  pub within : (r .base + 15) / 16 ≤ k → k < (r .base + r .length + 15) / 16 → pageInside r k ≡ true
+  unfolding inside
+  within p q = rw (le-leb (r .base) (16 * k) (omega arith), lt-ltb (16 * k) (r .base + r .length) (omega arith))
+
+  pub before : k < (r .base + 15) / 16 → pageInside r k ≡ false
+  unfolding inside
+  before p = rw (lt-leb (r .base) (16 * k) (omega arith))
+
+  pub beyond : (r .base + r .length + 15) / 16 ≤ k → pageInside r k ≡ false
+  unfolding inside
+  beyond p = rw (le-ltb (16 * k) (r .base + r .length) (omega arith)) (no (leb (r .base) (16 * k)))
+    where
+      no : (b : Bool) → b && false ≡ false
+      no true = refl
+      no false = refl
+
+-- A loop over the range's pages alone: the others are not in it.
+module _ (r : Range) (pages : List ℕ) where
+  none-before : each (notMappedIn r) 0 (take ((r .base + 15) / 16) (map pageIn pages)) ≡ true
+  unfolding notMappedIn
+  none-before =
+      each-all (notMappedIn r) 0 (take ((r .base + 15) / 16) (map pageIn pages)) (pageIn 0)
+      (λ i h. rw (zero-add, before r i (omega (arith, length-take ((r .base + 15) / 16) (map pageIn pages)))))
+
+  pub mapped-none : false ≡ not (each (notMappedIn r) 0 (take ((r .base + 15) / 16) (map pageIn pages)))
+  mapped-none = rw none-before
+
+  pub mapped-more : (p : ℕ) (any here : Bool) → (r .base + 15) / 16 ≤ p → p < (r .base + r .length + 15) / 16 → p < length pages
+      → any ≡ not (each (notMappedIn r) 0 (take p (map pageIn pages))) → here ≡ isMapped (pageFrom (getD pages p 0))
+      → (any || here) ≡ not (each (notMappedIn r) 0 (take (p + 1) (map pageIn pages)))
+  unfolding notMappedIn
+  mapped-more p any here a b h e x =
+      let l = map pageIn pages in
+      e2 ∙ sym (ap not (each-more (notMappedIn r) l p (pageIn 0) (omega (arith, length-map pages pageIn)) ∙ ap (λ y. each (notMappedIn r) 0 (take p l) && notMappedIn r p y) (List·getD-map pageIn pages p 0) ∙ ap (λ y. each (notMappedIn r) 0 (take p l) && not (y && isMapped (pageFrom (getD pages p 0)))) (within r p a b)))
+    where
+      turn : (a b : Bool) → (not a || b) ≡ not (a && not b)
+      turn true true = refl
+      turn true false = refl
+      turn false b = refl
+
+      e2 : (any || here) ≡ not (each (notMappedIn r) 0 (take p (map pageIn pages)) && not (isMapped (pageFrom (getD pages p 0))))
+      e2 = rw (e, x) (turn (each (notMappedIn r) 0 (take p (map pageIn pages))) (isMapped (pageFrom (getD pages p 0))))
+
+  pub mapped-all : (p : ℕ) → min ((r .base + r .length + 15) / 16) (length pages) ≤ p
+      → not (each (notMappedIn r) 0 (take p (map pageIn pages))) ≡ not (each (notMappedIn r) 0 (map pageIn pages))
+  unfolding notMappedIn
+  mapped-all p h =
+      ap not
+      (each-rest (notMappedIn r) p (map pageIn pages) (pageIn 0)
+      (λ i a b. rw (beyond r i (omega (arith, length-map pages pageIn)))))

@@ -1,0 +1,2 @@
+-- A whole session: the lines of an input.
+pub mod Session

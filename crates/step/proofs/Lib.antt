@@ -1,0 +1,14 @@
+pub mod Reading
+pub mod Loading
+pub mod Mapping
+pub mod Tabling
+pub mod Revoking
+pub mod Starting
+pub mod Commanding
+pub mod Sweeping
+pub mod Cached
+pub mod Narrowing
+pub mod Mailing
+pub mod Storing
+pub mod Running
+pub mod Collecting

@@ -1,0 +1,37 @@
+-- What stands in the arrays is what stands in the state read. Assumes nothing.
+use Prim.Native.Nat.{ℕ, _+_, _*_}
+use mathlib.Core.Bool.{_&&_}
+use mathlib.Core.List.{List, []}
+use mathlib.Core.Path.{_≡_, sym, ap, _∙_}
+use Rattle.capabilities.specs.Lists.{pick}
+use Rattle.capabilities.specs.Capability.{baseOf}
+use Rattle.pages.specs.Mapping.{lookupOf}
+use Rattle.pages.proofs.OnNumbers as layer
+use Rattle.words.specs.declared.Slot.{Slot}
+use Rattle.words.specs.Words.{empty, named, registerOf, mailboxOf, wordAt}
+use Rattle.words.specs.Lent.{registerIn}
+use Rattle.words.proofs.Lent.{slots-get}
+use Rattle.machine.specs.Reasons.{addressed}
+use Rattle.arrays.specs.declared.Arrays.{Arrays}
+use Rattle.arrays.specs.Reading.{coreOf, stateOf, Formed}
+use Rattle.arrays.proofs.Facts.{lengths}
+use Rattle.step.specs.Parts.{lookupIn}
+
+pub register-read : (a : Arrays) → Formed a → (p r : ℕ) → registerOf (stateOf a .registers) p r ≡ registerIn (a .words) (a .marks) p r
+unfolding registerOf registerIn stateOf
+register-read a f p r =
+    let l = lengths a f in
+    ap (λ w. pick (named p && named r) w empty) (slots-get (a .words) (a .marks) (8 * p + r) (l .words ∙ sym (l .marks)))
+
+pub mailbox-read : (a : Arrays) → Formed a → (p : ℕ) → mailboxOf (stateOf a .mailboxes) p ≡ wordAt (a .mail) (a .flags) p
+unfolding mailboxOf stateOf
+mailbox-read a f p = let l = lengths a f in slots-get (a .mail) (a .flags) p (l .mail ∙ sym (l .flags))
+
+module _ (a : Arrays) where
+  pub lookup-read : (cell : ℕ) → lookupOf (stateOf a .core .pages) cell ≡ lookupIn (a .nums .v) (a .pages) cell
+  unfolding stateOf coreOf
+  lookup-read cell = layer.lookup-read (a .nums .v) (a .nums .f) (a .pages) (a .frames) cell ∙ sym (layer.lookup-read (a .nums .v) 0 (a .pages) [] cell)
+
+  pub addressed-read : (w : Slot) (off : ℕ) → addressed (stateOf a .core) w off ≡ lookupIn (a .nums .v) (a .pages) (baseOf (w .cell) + off)
+  unfolding addressed
+  addressed-read w off = lookup-read (baseOf (w .cell) + off)

@@ -1,0 +1,72 @@
+-- `step::State::start` meets its contract. All numbers are 0 but V, F, the count and the first row.
+use mathlib.Core.Path.{_≡_, sym, _∙_}
+use Rattle.step.proofs.Starting.{start-in, start-out}
+use borrow.Author.Needs.{needs}
+use Rattle.step.proofs.State.start.Statement.{statement}
+use Rattle.step.proofs.State.start.Tie as tie
+use Rattle.step.proofs.State.start.Reads as reads
+use Rattle.step.proofs.State.start.Lts as lts
+use Rattle.pages.proofs.layer.in_range.Reads as in-range-reads
+use Rattle.step.proofs.by_value.bare.Reads as bare-reads
+use Rattle.step.proofs.word_calls.granted.Reads as granted-reads
+use Rattle.step.proofs.word_calls.refused.Reads as refused-reads
+use Rattle.words.proofs.empty.Reads as empty-reads
+
+-- src/by_value.rt:38:12
+in-range-requires : tie.Need-in-range-requires
+in-range-requires c κs = search needs
+
+-- src/by_value.rt:39:23
+mul-rows : tie.Need-mul-rows
+mul-rows c = search needs
+
+-- src/by_value.rt:39:13
+array-write-rows : tie.Need-array-write-rows
+array-write-rows c = search needs
+
+-- src/by_value.rt:48:17
+bare-requires : tie.Need-bare-requires
+bare-requires c κs = search needs
+
+-- src/by_value.rt:49:34
+empty-requires : tie.Need-empty-requires
+empty-requires c κs = search needs
+
+-- src/by_value.rt:49:17
+granted-requires : tie.Need-granted-requires
+granted-requires c κs = search needs
+
+-- src/by_value.rt:50:13
+returns : tie.Need-returns
+returns c =
+    let a = c .before .before .before .before .before .args in
+    rw (c .granted .ensures, c .before .empty .ensures, c .before .before .bare .ensures) (start-in (a .v) (a .f) (sym (c .before .before .before .before .in-range .ensures) ∙ c .before .before .before .if1 .taken))
+
+-- src/by_value.rt:60:13
+bare-requires-2 : tie.Need-bare-requires-2
+bare-requires-2 c κs = search needs
+
+-- src/by_value.rt:61:13
+refused-requires : tie.Need-refused-requires
+refused-requires c κs = search needs
+
+-- src/by_value.rt:34:5
+returns-2 : tie.Need-returns-2
+returns-2 c =
+    let a = c .before .before .before .before .args in
+    rw (c .refused .ensures, c .before .bare2 .ensures) (start-out (a .v) (a .f) (sym (c .before .before .before .in-range .ensures) ∙ c .before .before .if1 .left))
+
+pub start-spec : {M : Type 1} → statement M
+start-spec =
+    tie.close
+    (tie.spec
+    in-range-requires
+    mul-rows
+    array-write-rows
+    bare-requires
+    empty-requires
+    granted-requires
+    returns
+    bare-requires-2
+    refused-requires
+    returns-2)

@@ -1,0 +1,75 @@
+-- 0C in place. Assumes nothing.
+use Prim.Native.Nat.{ℕ, _+_, _*_}
+use mathlib.Core.Bool.{Bool, not}
+use mathlib.Core.List.{List}
+use mathlib.Core.Path.{_≡_, refl, sym, ap, _∙_}
+use lib.ListN.{set}
+use Rattle.capabilities.specs.Capability.{baseOf}
+use Rattle.capabilities.specs.declared.Range.{Range}
+use Rattle.capabilities.specs.Range.{inside}
+use Rattle.capabilities.specs.Refusals.{first}
+use Rattle.pages.specs.declared.Place.{Place}
+use Rattle.revocation.specs.Revocation.{dying}
+use Rattle.calls.specs.declared.Call.{Call}
+use Rattle.calls.specs.declared.Call.the-variants.{Store}
+use Rattle.words.specs.declared.Slot.{Slot}
+use Rattle.words.specs.Words.{empty, byteOf, keepTag, stored, registerOf, placeNumber}
+use Rattle.words.specs.WordReasons.{storeReasons}
+use Rattle.words.specs.Lent.{registerIn}
+use Rattle.machine.specs.Reasons.{addressed, reasons}
+use Rattle.machine.specs.Effects.{effect, effectOf, keepRegisters, keepMailboxes, writeWord}
+use Rattle.machine.specs.Step.{reasonsOn, effectOn, ruled}
+use Rattle.arrays.specs.declared.Arrays.{Arrays}
+use Rattle.arrays.specs.Reading.{stateOf, Formed}
+use Rattle.arrays.specs.Steps.{answer, leaving, leftOf}
+use Rattle.arrays.proofs.Ruling.{down, written}
+use Rattle.step.specs.Parts.{lookupIn}
+use Rattle.step.proofs.Reading.{register-read, addressed-read}
+use Rattle.step.proofs.Cached.{cachedRange, dying-cached}
+
+module _ (b : Arrays) (f : Formed b) (v : ℕ) (range : Range) (pages words marks : List ℕ)
+    (ev : b .nums .v ≡ v) (eb : b .nums .base ≡ range .base) (el : b .nums .length ≡ range .length) (ep : b .pages ≡ pages) (ew : b .words ≡ words) (em : b .marks ≡ marks)
+    (p a off s : ℕ) (to from : Slot) (place : Place)
+    (e1 : to ≡ registerIn words marks p a) (e2 : from ≡ registerIn words marks p s) (e3 : place ≡ lookupIn v pages (baseOf (to .cell) + off)) where
+  abbrev call : Call
+  call = Store p a off s
+
+  register-is : (r : ℕ) → registerIn words marks p r ≡ registerOf (stateOf b .registers) p r
+  register-is r = ap (λ (l : List ℕ). registerIn l marks p r) (sym ew) ∙ ap (λ (l : List ℕ). registerIn (b .words) l p r) (sym em) ∙ sym (register-read b f p r)
+
+  place-is : place ≡ addressed (stateOf b .core) (registerOf (stateOf b .registers) p a) off
+  place-is =
+      e3 ∙ ap (λ (n : ℕ). lookupIn n pages (baseOf (to .cell) + off)) (sym ev) ∙ ap (λ (l : List ℕ). lookupIn (b .nums .v) l (baseOf (to .cell) + off)) (sym ep)
+      ∙ sym (addressed-read b to off) ∙ ap (λ w. addressed (stateOf b .core) w off) (e1 ∙ register-is a)
+
+  code-is : first (storeReasons p a s to from off place) ≡ first (reasonsOn (stateOf b) call)
+  unfolding reasons
+  code-is =
+      ap (λ w. first (storeReasons p a s w from off place)) (e1 ∙ register-is a)
+      ∙ ap (λ w. first (storeReasons p a s (registerOf (stateOf b .registers) p a) w off place)) (e2 ∙ register-is s)
+      ∙ ap (λ q. first (storeReasons p a s (registerOf (stateOf b .registers) p a) (registerOf (stateOf b .registers) p s) off q)) place-is
+
+  dies-is : (cell : ℕ) → inside range (baseOf cell) ≡ dying (stateOf b .core) cell
+  dies-is cell =
+      ap (λ (n : ℕ). inside (record { base = n; length = range .length }) (baseOf cell)) (sym eb)
+      ∙ ap (λ (n : ℕ). inside (record { base = b .nums .base; length = n }) (baseOf cell)) (sym el) ∙ sym (dying-cached b f cell)
+
+  abbrev word : Slot
+  word = keepTag from (not (inside range (baseOf (from .cell))))
+
+  word-is : word ≡ stored (stateOf b .core) (registerOf (stateOf b .registers) p s)
+  word-is = ap (λ (q : Bool). keepTag from (not q)) (dies-is (from .cell)) ∙ ap (stored (stateOf b .core)) (e2 ∙ register-is s)
+
+  effect-is : effectOn (stateOf b) call ≡ effectOf (stateOf b .core) keepRegisters keepMailboxes (writeWord (placeNumber place) word) empty
+  unfolding effect
+  effect-is =
+      sym (ap (λ w. effectOf (stateOf b .core) keepRegisters keepMailboxes (writeWord (placeNumber place) w) empty) word-is
+      ∙ ap (λ q. effectOf (stateOf b .core) keepRegisters keepMailboxes (writeWord (placeNumber q) (stored (stateOf b .core) (registerOf (stateOf b .registers) p s))) empty) place-is)
+
+  module _ (k : ℕ) (e : k ≡ first (storeReasons p a s to from off place)) (cells tags : List ℕ) where
+    pub store-down : (k ≡ 0 → ⊥) → leaving (answer k empty) b cells tags ≡ leftOf (ruled (stateOf b) call cells tags)
+    store-down = down b f call k (e ∙ code-is) cells tags
+
+    pub store-done : k ≡ 0
+        → leaving (answer 0 empty) b (set cells (placeNumber place) (word .cell)) (set tags (placeNumber place) (byteOf (word .tag))) ≡ leftOf (ruled (stateOf b) call cells tags)
+    store-done z = written b f call k (e ∙ code-is) cells tags (placeNumber place) word z effect-is

@@ -1,0 +1,44 @@
+-- Refused under 4, or else what the table's own call leaves, which is the rule's table written.
+use Rattle.arrays.specs.Steps.{withRows}
+use Rattle.step.proofs.Tabling.{give-unknown, give-judged}
+use borrow.Author.Needs.{needs}
+use Rattle.step.proofs.table_calls.give.Statement.{statement}
+use Rattle.step.proofs.table_calls.give.Tie as tie
+use Rattle.step.proofs.table_calls.give.Reads as reads
+use Rattle.step.proofs.table_calls.give.Lts as lts
+use Rattle.reservations.proofs.operations.give.Reads as give-reads
+use Rattle.step.proofs.table_calls.coded.Reads as coded-reads
+use Rattle.step.proofs.word_calls.refused.Reads as refused-reads
+
+-- src/table_calls.rt:94:9
+refused-requires : tie.Need-refused-requires
+refused-requires c κs = search needs
+
+-- src/table_calls.rt:94:9
+returns : tie.Need-returns
+returns c =
+    let a = c .before .before .before .args in
+    λ m ec f cells tags. rw (c .refused .ensures) (give-unknown (withRows m (a .rows .now)) f (a .count) ec (a .party) (a .base) (a .to) cells tags (c .before .if1 .taken))
+
+-- src/table_calls.rt:96:11
+give-requires : tie.Need-give-requires
+give-requires c κs = search needs
+
+-- src/table_calls.rt:96:5
+coded-requires : tie.Need-coded-requires
+coded-requires c κs = search needs
+
+-- src/table_calls.rt:90:1
+same-length : tie.Need-same-length
+same-length c = search needs
+
+-- src/table_calls.rt:90:1
+returns-2 : tie.Need-returns-2
+returns-2 c =
+    let a = c .before .before .before .before .before .before .before .args in
+    λ m ec f cells tags. rw (c .coded .ensures) (give-judged (withRows m (a .rows .now)) f (a .count) ec (a .party) (a .base) (a .to) cells tags (c .before .before .before .before .before .if1 .left) _ _ (c .before .before .before .give .ensures))
+
+pub give-spec : {M : Type 1} → statement M
+give-spec =
+    tie.close
+    (tie.spec refused-requires returns give-requires coded-requires same-length returns-2)

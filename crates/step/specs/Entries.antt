@@ -1,0 +1,66 @@
+-- What the entries promise: a call or a command on arrays is the rule on the state read, written back. Assumes nothing.
+use Prim.Native.Nat.{ℕ}
+use mathlib.Core.List.{List}
+use Rattle.capabilities.specs.Lists.{pick}
+use Rattle.calls.specs.declared.Call.{Call}
+use Rattle.words.specs.Words.{empty}
+use Rattle.machine.specs.Formed.{startOf}
+use Rattle.machine.specs.Step.{Outcome, left, ruled, judged}
+use Rattle.machine.specs.Command.{Ran, commandJudged}
+use Rattle.arrays.specs.declared.Arrays.{Arrays}
+use Rattle.arrays.specs.declared.Answer.{Answer}
+use Rattle.arrays.specs.declared.Numbers.{Numbers}
+use Rattle.step.specs.declared.Stepped.{Stepped}
+use Rattle.step.specs.declared.State.{State}
+use Rattle.step.specs.declared.Commanded.{Commanded}
+use Rattle.arrays.specs.Reading.{stateOf, arraysOf}
+use Rattle.arrays.specs.Steps.{Left, answer, leaving, leftOf}
+use Rattle.formed.specs.Test.{formedOf}
+
+abbrev pub stepped : Answer → Numbers → Stepped
+stepped r n = record { answer = r; nums = n }
+
+-- A call on well-formed arrays, by refusals 4 to 19; and by refusal 2 first.
+unfoldable pub ruledOn : Arrays → Call → List ℕ → List ℕ → Left
+ruledOn a c cells tags = leftOf (ruled (stateOf a) c cells tags)
+
+unfoldable pub judgedOn : Arrays → Call → List ℕ → List ℕ → Left
+judgedOn a c cells tags = leftOf (judged (stateOf a) c cells tags)
+
+-- A call on any arrays: those that are not well formed get refusal 1 and are kept, every number.
+unfoldable pub stepOn : Arrays → Call → List ℕ → List ℕ → Left
+stepOn a c cells tags = pick (formedOf a) (judgedOn a c cells tags) (leaving (answer 1 empty) a cells tags)
+
+-- What a command leaves, and how many bytes it used.
+pub record Told : Type 0 where
+  pub left : Left
+  pub used : ℕ
+
+abbrev pub telling : Left → ℕ → Told
+telling l n = record { left = l; used = n }
+
+unfoldable pub toldOf : Ran → Told
+toldOf r = telling (leftOf (left (r .command .answered) (r .cells) (r .tags))) (r .command .used)
+
+-- The command at a place of the input, on well-formed arrays; and on any.
+unfoldable pub commandJudgedOn : Arrays → List ℕ → ℕ → List ℕ → List ℕ → Told
+commandJudgedOn a input at cells tags = toldOf (commandJudged (stateOf a) input at cells tags)
+
+unfoldable pub commandOn : Arrays → List ℕ → ℕ → List ℕ → List ℕ → Told
+commandOn a input at cells tags =
+    pick (formedOf a) (commandJudgedOn a input at cells tags) (telling (leaving (answer 1 empty) a cells tags) 0)
+
+-- A command by value: its answer, the bytes used and the state.
+abbrev pub commanding : Answer → ℕ → State → Commanded
+commanding r n s = record { answer = r; used = n; state = s }
+
+-- A start: its answer, and the arrays that the state is written as.
+pub record Begun : Type 0 where
+  pub answer : Answer
+  pub arrays : Arrays
+
+abbrev pub beginning : Answer → Arrays → Begun
+beginning r a = record { answer = r; arrays = a }
+
+unfoldable pub startOn : ℕ → ℕ → Begun
+startOn v f = beginning (answer (startOf v f .code) empty) (arraysOf (startOf v f .state))

@@ -1,0 +1,71 @@
+// Pages and frames: the layer's own functions, after the refusals of every manager's command.
+use crate::word_calls::refused;
+use arrays::Answer;
+use pages::Frame;
+use pages::Place;
+use pages::VirtualPage;
+use words::codes::manager_code;
+ghost use mathlib.Core.Path.{_≡_};
+ghost use Rattle.calls.specs.declared.Call.the-variants.{Map, Unmap, Zero};
+ghost use Rattle.step.specs.Parts.{lookupIn, OnPages, OnFrames};
+
+pub(crate) fn lookup(v: u16, pages: &[u16], cell: u32) -> Place
+    ensures { λ r. ⌜ r ≡ lookupIn v (now (pages .entry)) cell ⌝ }
+{
+    pages::lent::lookup(v, pages, cell)
+}
+
+// 08. Nothing is told but the code: 0, or the refusal.
+pub(crate) fn map(
+    v: u16,
+    f: u16,
+    pages: &mut [u16],
+    frames: &mut [u8],
+    party: u8,
+    page: VirtualPage,
+    frame: Frame,
+) -> Answer
+    ensures { λ r. ⌜ OnPages v f r (now (pages .entry)) (now (frames .entry)) (now (pages .exit)) (now (frames .exit)) (Map party page frame) ⌝ }
+{
+    let early = manager_code(party, 0);
+    if early != 0 {
+        return refused(early);
+    }
+    refused(pages::lent::map(v, f, pages, frames, page, frame))
+}
+
+// 09.
+pub(crate) fn unmap(
+    v: u16,
+    f: u16,
+    pages: &mut [u16],
+    frames: &mut [u8],
+    party: u8,
+    page: VirtualPage,
+) -> Answer
+    ensures { λ r. ⌜ OnPages v f r (now (pages .entry)) (now (frames .entry)) (now (pages .exit)) (now (frames .exit)) (Unmap party page) ⌝ }
+{
+    let early = manager_code(party, 0);
+    if early != 0 {
+        return refused(early);
+    }
+    refused(pages::lent::unmap(v, pages, frames, page))
+}
+
+// 0A.
+pub(crate) fn zero(
+    f: u16,
+    frames: &mut [u8],
+    party: u8,
+    frame: Frame,
+    cells: &mut [u64],
+    tags: &mut [u8],
+) -> Answer
+    ensures { λ r. ⌜ OnFrames f r (now (frames .entry)) (now (cells .entry)) (now (tags .entry)) (now (frames .exit)) (now (cells .exit)) (now (tags .exit)) (Zero party frame) ⌝ }
+{
+    let early = manager_code(party, 0);
+    if early != 0 {
+        return refused(early);
+    }
+    refused(pages::lent::zero(f, frames, frame, cells, tags))
+}

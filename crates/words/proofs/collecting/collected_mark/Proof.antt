@@ -1,0 +1,30 @@
+-- `words::collecting::collected_mark` meets its contract: a product with a flag is the number or 0 (`times-kept`).
+use borrow.Author.Needs.{needs}
+use native.Mathlib.Omega.{arith}
+use mathlib.Core.Path.{_≡_, sym, ap, _∙_}
+use Rattle.capabilities.specs.Lists.{pick}
+use Rattle.words.specs.Words.{tagOf}
+use Rattle.words.proofs.Lent.{times-kept, times-most}
+use Rattle.words.proofs.collecting.collected_mark.Statement.{statement}
+use Rattle.words.proofs.collecting.collected_mark.Tie as tie
+
+base-of-requires : tie.Need-base-of-requires
+base-of-requires c κs = search needs
+
+cast-inside : tie.Need-cast-inside
+cast-inside c = search needs
+
+inside-requires : tie.Need-inside-requires
+inside-requires c κs = search needs
+
+cast-result : tie.Need-cast-result
+cast-result c = search needs
+
+mul-result : tie.Need-mul-result
+mul-result c = omega (arith, times-most (c .inside .result) (c .before .before .args .mark))
+
+returns : tie.Need-returns
+returns c = times-kept (c .inside .result) (c .before .before .args .mark) ∙ rw (c .inside .ensures, c .before .base-of .ensures)
+
+pub collected-mark-spec : {M : Type 1} → statement M
+collected-mark-spec = tie.close (tie.spec base-of-requires cast-inside inside-requires cast-result mul-result returns)
