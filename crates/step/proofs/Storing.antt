@@ -20,6 +20,7 @@ use Rattle.machine.specs.Reasons.{addressed, reasons}
 use Rattle.machine.specs.Effects.{effect, effectOf, keepRegisters, keepMailboxes, writeWord}
 use Rattle.machine.specs.Step.{reasonsOn, effectOn, ruled}
 use Rattle.arrays.specs.declared.Arrays.{Arrays}
+use Rattle.arrays.specs.declared.Numbers.{Numbers}
 use Rattle.arrays.specs.Reading.{stateOf, Formed}
 use Rattle.arrays.specs.Steps.{answer, leaving, leftOf}
 use Rattle.arrays.proofs.Ruling.{down, written}
@@ -27,10 +28,10 @@ use Rattle.step.specs.Parts.{lookupIn}
 use Rattle.step.proofs.Reading.{register-read, addressed-read}
 use Rattle.step.proofs.Cached.{cachedRange, dying-cached}
 
-module _ (b : Arrays) (f : Formed b) (v : ℕ) (range : Range) (pages words marks : List ℕ)
-    (ev : b .nums .v ≡ v) (eb : b .nums .base ≡ range .base) (el : b .nums .length ≡ range .length) (ep : b .pages ≡ pages) (ew : b .words ≡ words) (em : b .marks ≡ marks)
+module _ (b : Arrays) (f : Formed b) (n : Numbers) (pages words marks : List ℕ)
+    (en : b .nums ≡ n) (ep : b .pages ≡ pages) (ew : b .words ≡ words) (em : b .marks ≡ marks)
     (p a off s : ℕ) (to from : Slot) (place : Place)
-    (e1 : to ≡ registerIn words marks p a) (e2 : from ≡ registerIn words marks p s) (e3 : place ≡ lookupIn v pages (baseOf (to .cell) + off)) where
+    (e1 : to ≡ registerIn words marks p a) (e2 : from ≡ registerIn words marks p s) (e3 : place ≡ lookupIn (n .v) pages (baseOf (to .cell) + off)) where
   abbrev call : Call
   call = Store p a off s
 
@@ -39,7 +40,7 @@ module _ (b : Arrays) (f : Formed b) (v : ℕ) (range : Range) (pages words mark
 
   place-is : place ≡ addressed (stateOf b .core) (registerOf (stateOf b .registers) p a) off
   place-is =
-      e3 ∙ ap (λ (n : ℕ). lookupIn n pages (baseOf (to .cell) + off)) (sym ev) ∙ ap (λ (l : List ℕ). lookupIn (b .nums .v) l (baseOf (to .cell) + off)) (sym ep)
+      e3 ∙ ap (λ (o : Numbers). lookupIn (o .v) pages (baseOf (to .cell) + off)) (sym en) ∙ ap (λ (l : List ℕ). lookupIn (b .nums .v) l (baseOf (to .cell) + off)) (sym ep)
       ∙ sym (addressed-read b to off) ∙ ap (λ w. addressed (stateOf b .core) w off) (e1 ∙ register-is a)
 
   code-is : first (storeReasons p a s to from off place) ≡ first (reasonsOn (stateOf b) call)
@@ -49,13 +50,14 @@ module _ (b : Arrays) (f : Formed b) (v : ℕ) (range : Range) (pages words mark
       ∙ ap (λ w. first (storeReasons p a s (registerOf (stateOf b .registers) p a) w off place)) (e2 ∙ register-is s)
       ∙ ap (λ q. first (storeReasons p a s (registerOf (stateOf b .registers) p a) (registerOf (stateOf b .registers) p s) off q)) place-is
 
-  dies-is : (cell : ℕ) → inside range (baseOf cell) ≡ dying (stateOf b .core) cell
-  dies-is cell =
-      ap (λ (n : ℕ). inside (record { base = n; length = range .length }) (baseOf cell)) (sym eb)
-      ∙ ap (λ (n : ℕ). inside (record { base = b .nums .base; length = n }) (baseOf cell)) (sym el) ∙ sym (dying-cached b f cell)
+  abbrev range : Numbers → Range
+  range o = record { base = o .base; length = o .length }
+
+  dies-is : (cell : ℕ) → inside (range n) (baseOf cell) ≡ dying (stateOf b .core) cell
+  dies-is cell = ap (λ (o : Numbers). inside (range o) (baseOf cell)) (sym en) ∙ sym (dying-cached b f cell)
 
   abbrev word : Slot
-  word = keepTag from (not (inside range (baseOf (from .cell))))
+  word = keepTag from (not (inside (range n) (baseOf (from .cell))))
 
   word-is : word ≡ stored (stateOf b .core) (registerOf (stateOf b .registers) p s)
   word-is = ap (λ (q : Bool). keepTag from (not q)) (dies-is (from .cell)) ∙ ap (stored (stateOf b .core)) (e2 ∙ register-is s)

@@ -68,10 +68,10 @@ OnMemory v pages r words marks words′ marks′ cells tags c =
     (m : Arrays) → m .nums .v ≡ v → m .pages ≡ pages → Formed (withWords m words marks)
     → leaving r (withWords m words′ marks′) cells tags ≡ leftOf (ruled (stateOf (withWords m words marks)) c cells tags)
 
--- One that reads them and changes lent memory, while this range is revoked.
-abbrev pub OnStore : ℕ → Range → List ℕ → List ℕ → List ℕ → Answer → List ℕ → List ℕ → List ℕ → List ℕ → Call → Type 0
-OnStore v range pages words marks r cells tags cells′ tags′ c =
-    (m : Arrays) → m .nums .v ≡ v → m .nums .base ≡ range .base → m .nums .length ≡ range .length → m .pages ≡ pages → m .words ≡ words → m .marks ≡ marks → Formed m
+-- One that reads them and the small numbers, and changes lent memory.
+abbrev pub OnStore : Numbers → List ℕ → List ℕ → List ℕ → Answer → List ℕ → List ℕ → List ℕ → List ℕ → Call → Type 0
+OnStore n pages words marks r cells tags cells′ tags′ c =
+    (m : Arrays) → m .nums ≡ n → m .pages ≡ pages → m .words ≡ words → m .marks ≡ marks → Formed m
     → leaving r m cells′ tags′ ≡ leftOf (ruled (stateOf m) c cells tags)
 
 -- One on registers and mailboxes.

@@ -22,8 +22,8 @@ ghost use Rattle.step.specs.Parts.{collectedRows, releasedPages, OnColle
 fn open_row(rows: &mut [u64], count: usize)
     ensures { λ _. ⌜ now (rows .exit) ≡ collectedRows (now (rows .entry)) count ⌝ }
 {
-    let found = revoking(&rows[..], count);
-    let row = row_in(&rows[..], count, found);
+    let found = revoking(rows, count);
+    let row = row_in(rows, count, found);
     put_row(rows, found, collected_row(row));
 }
 

@@ -28,16 +28,7 @@ pub fn call_in(
 ) -> Stepped
     ensures { λ r. ⌜ leaving (r .answer) (arrays (r .nums) (now (words .exit)) (now (marks .exit)) (now (mail .exit)) (now (flags .exit)) (now (rows .exit)) (now (pages .exit)) (now (frames .exit))) (now (cells .exit)) (now (tags .exit)) ≡ stepOn (arrays nums (now (words .entry)) (now (marks .entry)) (now (mail .entry)) (now (flags .entry)) (now (rows .entry)) (now (pages .entry)) (now (frames .entry))) call (now (cells .entry)) (now (tags .entry)) ⌝ }
 {
-    if !formed(
-        nums,
-        &words[..],
-        &marks[..],
-        &mail[..],
-        &flags[..],
-        &rows[..],
-        &pages[..],
-        &frames[..],
-    ) {
+    if !formed(nums, words, marks, mail, flags, rows, pages, frames) {
         let answer = refused(1);
         return Stepped { answer, nums };
     }
@@ -78,16 +69,7 @@ pub fn command_in(
 ) -> Ended
     ensures { λ r. ⌜ telling (leaving (r .answer) (arrays (r .nums) (now (words .exit)) (now (marks .exit)) (now (mail .exit)) (now (flags .exit)) (now (rows .exit)) (now (pages .exit)) (now (frames .exit))) (now (cells .exit)) (now (tags .exit))) (r .used) ≡ commandOn (arrays nums (now (words .entry)) (now (marks .entry)) (now (mail .entry)) (now (flags .entry)) (now (rows .entry)) (now (pages .entry)) (now (frames .entry))) (now (input .entry)) at (now (cells .entry)) (now (tags .entry)) ⌝ }
 {
-    if !formed(
-        nums,
-        &words[..],
-        &marks[..],
-        &mail[..],
-        &flags[..],
-        &rows[..],
-        &pages[..],
-        &frames[..],
-    ) {
+    if !formed(nums, words, marks, mail, flags, rows, pages, frames) {
         let answer = refused(1);
         let used = 0;
         return Ended { answer, nums, used };

@@ -23,7 +23,6 @@ use arrays::Numbers;
 use calls::Call;
 use calls::Reading;
 use calls::read_at;
-use capabilities::Range;
 ghost use mathlib.Core.Path.{_≡_};
 ghost use Prim.Native.Nat.{_*_};
 ghost use lib.ListN.{length};
@@ -105,10 +104,8 @@ fn step(
         Call::Merge { party, base } => merge(nums, rows, party, base),
         Call::Give { party, base, to } => with(nums, give(nums.count, rows, party, base, to)),
         Call::Revoke { party, base } => revoke(nums, rows, pages, party, base),
-        Call::Sweep { party, n } => sweep(nums, &frames[..], party, n, &cells[..], tags),
-        Call::Collect { party } => {
-            collect(nums, rows, pages, &words[..], marks, mail, flags, party)
-        }
+        Call::Sweep { party, n } => sweep(nums, frames, party, n, cells, tags),
+        Call::Collect { party } => collect(nums, rows, pages, words, marks, mail, flags, party),
         Call::Map { party, page, frame } => {
             with(nums, map(nums.v, nums.f, pages, frames, party, page, frame))
         }
@@ -117,38 +114,11 @@ fn step(
         }
         Call::Zero { party, frame } => with(nums, zero(nums.f, frames, party, frame, cells, tags)),
         Call::Load { party, a, off, d } => {
-            let answer = load(
-                words,
-                marks,
-                nums.v,
-                &pages[..],
-                party,
-                a,
-                off,
-                d,
-                &cells[..],
-                &tags[..],
-            );
+            let answer = load(words, marks, nums.v, pages, party, a, off, d, cells, tags);
             with(nums, answer)
         }
         Call::Store { party, a, off, s } => {
-            let range = Range {
-                base: nums.base,
-                length: nums.length,
-            };
-            let answer = store(
-                &words[..],
-                &marks[..],
-                nums.v,
-                &pages[..],
-                range,
-                party,
-                a,
-                off,
-                s,
-                cells,
-                tags,
-            );
+            let answer = store(words, marks, nums, pages, party, a, off, s, cells, tags);
             with(nums, answer)
         }
         Call::Narrow {
@@ -160,13 +130,8 @@ fn step(
             d,
         } => with(nums, narrow(words, marks, party, s, off, len, mask, d)),
         Call::Number { party, d, value } => with(nums, number(words, marks, party, d, value)),
-        Call::Grant { party, s, to } => {
-            with(
-                nums,
-                grant(&words[..], &marks[..], mail, flags, party, s, to),
-            )
-        }
-        Call::Receive { party, d } => { with(nums, receive(words, marks, mail, flags, party, d)) }
+        Call::Grant { party, s, to } => with(nums, grant(words, marks, mail, flags, party, s, to)),
+        Call::Receive { party, d } => with(nums, receive(words, marks, mail, flags, party, d)),
     }
 }
 

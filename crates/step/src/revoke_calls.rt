@@ -46,9 +46,9 @@ pub(crate) fn revoke(
     ensures { λ r. ⌜ OnRange nums r (now (rows .entry)) (now (pages .entry)) (now (rows .exit)) (now (pages .exit)) (Revoke party base) ⌝ }
 {
     let count = nums.count;
-    let found = find(&rows[..], count, party, base);
-    let row = row_in(&rows[..], count, found);
-    let mapped = pages::lent::any_mapped(&pages[..], range_of(row));
+    let found = find(rows, count, party, base);
+    let row = row_in(rows, count, found);
+    let mapped = pages::lent::any_mapped(pages, range_of(row));
     let code = manager_code(party, revoke_code(found, row, nums.length, mapped));
     if code != 0 {
         let answer = refused(code);

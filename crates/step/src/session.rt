@@ -43,16 +43,7 @@ fn one(
     ensures { λ r. ⌜ telling (leaving (r .answer) (arrays (r .nums) (now (words .exit)) (now (marks .exit)) (now (mail .exit)) (now (flags .exit)) (now (rows .exit)) (now (pages .exit)) (now (frames .exit))) (now (cells .exit)) (now (tags .exit))) (r .used) ≡ commandJudgedOn (arrays nums (now (words .entry)) (now (marks .entry)) (now (mail .entry)) (now (flags .entry)) (now (rows .entry)) (now (pages .entry)) (now (frames .entry))) (now (input .entry)) at (now (cells .entry)) (now (tags .entry)) ⌝ }
 {
     if checked {
-        if !formed(
-            nums,
-            &words[..],
-            &marks[..],
-            &mail[..],
-            &flags[..],
-            &rows[..],
-            &pages[..],
-            &frames[..],
-        ) {
+        if !formed(nums, words, marks, mail, flags, rows, pages, frames) {
             let answer = refused(1);
             return Ended {
                 answer,

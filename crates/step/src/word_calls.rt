@@ -1,6 +1,7 @@
 // Calls on registers, mailboxes and single words of lent memory.
 use crate::page_calls::lookup;
 use arrays::Answer;
+use arrays::Numbers;
 use capabilities::Range;
 use capabilities::capability::base_of;
 use capabilities::capability::narrowed;
@@ -77,7 +78,7 @@ pub(crate) fn load(
 ) -> Answer
     ensures { λ r. ⌜ OnMemory v (now (pages .entry)) r (now (words .entry)) (now (marks .entry)) (now (words .exit)) (now (marks .exit)) (now (cells .entry)) (now (tags .entry)) (Load party a off d) ⌝ }
 {
-    let from = register_in(&words[..], &marks[..], party, a);
+    let from = register_in(words, marks, party, a);
     let place = lookup(v, pages, base_of(from.cell) as u32 + off as u32);
     let code = load_code(party, a, d, from, off, place);
     if code != 0 {
@@ -89,13 +90,12 @@ pub(crate) fn load(
     granted(word)
 }
 
-// 0C. The range is the revoked one, empty where no revocation runs.
+// 0C. The range of the small numbers is the revoked one, empty where no revocation runs.
 pub(crate) fn store(
     words: &[u64],
     marks: &[u8],
-    v: u16,
+    nums: Numbers,
     pages: &[u16],
-    range: Range,
     party: u8,
     a: u8,
     off: u16,
@@ -103,15 +103,19 @@ pub(crate) fn store(
     cells: &mut [u64],
     tags: &mut [u8],
 ) -> Answer
-    ensures { λ r. ⌜ OnStore v range (now (pages .entry)) (now (words .entry)) (now (marks .entry)) r (now (cells .entry)) (now (tags .entry)) (now (cells .exit)) (now (tags .exit)) (Store party a off s) ⌝ }
+    ensures { λ r. ⌜ OnStore nums (now (pages .entry)) (now (words .entry)) (now (marks .entry)) r (now (cells .entry)) (now (tags .entry)) (now (cells .exit)) (now (tags .exit)) (Store party a off s) ⌝ }
 {
     let to = register_in(words, marks, party, a);
     let from = register_in(words, marks, party, s);
-    let place = lookup(v, pages, base_of(to.cell) as u32 + off as u32);
+    let place = lookup(nums.v, pages, base_of(to.cell) as u32 + off as u32);
     let code = store_code(party, a, s, to, from, off, place);
     if code != 0 {
         return refused(code);
     }
+    let range = Range {
+        base: nums.base,
+        length: nums.length,
+    };
     let dies = inside(range, base_of(from.cell) as u32);
     put_word(cells, tags, place_number(place), stored(from, dies));
     granted(empty())
@@ -130,7 +134,7 @@ pub(crate) fn narrow(
 ) -> Answer
     ensures { λ r. ⌜ OnWords r (now (words .entry)) (now (marks .entry)) (now (words .exit)) (now (marks .exit)) (Narrow party s off len mask d) ⌝ }
 {
-    let from = register_in(&words[..], &marks[..], party, s);
+    let from = register_in(words, marks, party, s);
     let code = narrow_code(party, s, d, from, off, len);
     if code != 0 {
         return refused(code);
@@ -157,7 +161,7 @@ pub(crate) fn grant(
     ensures { λ r. ⌜ OnMail r (now (words .entry)) (now (marks .entry)) (now (mail .entry)) (now (flags .entry)) (now (words .entry)) (now (marks .entry)) (now (mail .exit)) (now (flags .exit)) (Grant party s to) ⌝ }
 {
     let from = register_in(words, marks, party, s);
-    let here = word_at(&mail[..], &flags[..], to as usize);
+    let here = word_at(mail, flags, to as usize);
     let code = grant_code(party, s, to, from, here);
     if code != 0 {
         return refused(code);
@@ -177,7 +181,7 @@ pub(crate) fn receive(
 ) -> Answer
     ensures { λ r. ⌜ OnMail r (now (words .entry)) (now (marks .entry)) (now (mail .entry)) (now (flags .entry)) (now (words .exit)) (now (marks .exit)) (now (mail .exit)) (now (flags .exit)) (Receive party d) ⌝ }
 {
-    let here = word_at(&mail[..], &flags[..], party as usize);
+    let here = word_at(mail, flags, party as usize);
     let code = receive_code(party, d, here);
     if code != 0 {
         return refused(code);

@@ -16,38 +16,30 @@ use Rattle.reservations.proofs.tiling.well_formed.Reads as well-formed-reads
 use Rattle.words.proofs.registers.bits.Reads as bits-reads
 use Rattle.words.proofs.registers.mailboxes_sound.Reads as mailboxes-sound-reads
 
--- src/lib.rt:77:9
 layer-sound-requires : tie.Need-layer-sound-requires
 layer-sound-requires c κs = search needs
 
--- src/lib.rt:79:9
 returns : tie.Need-returns
 returns c =
     let a = c .before .before .before .before .before .before .before .before .before .args in
     let m = arrays (a .nums) (a .words .now) (a .marks .now) (a .mail .now) (a .flags .now) (a .rows .now) (a .pages .now) (a .frames .now) in
     front-fails m (ap (λ (x : Bool). lengthsFit m && x) (sym (c .before .layer-sound .ensures)) ∙ not-true _ (c .if1 .taken))
 
--- src/lib.rt:81:53
 cast-well-formed : tie.Need-cast-well-formed
 cast-well-formed c = search needs
 
--- src/lib.rt:81:47
 mul-well-formed : tie.Need-mul-well-formed
 mul-well-formed c = search needs
 
--- src/lib.rt:81:9
 well-formed-requires : tie.Need-well-formed-requires
 well-formed-requires c κs = search needs
 
--- src/lib.rt:82:38
 cast-placed : tie.Need-cast-placed
 cast-placed c = search needs
 
--- src/lib.rt:82:32
 mul-placed : tie.Need-mul-placed
 mul-placed c = search needs
 
--- src/lib.rt:83:9
 revocation-kept-requires : tie.Need-revocation-kept-requires
 revocation-kept-requires c κs =
     let a = c .before .before .before .before .before .before .before .before .before .before .before .before .before .args in
@@ -55,19 +47,15 @@ revocation-kept-requires c κs =
     let e = not-false _ (c .before .before .before .before .if1 .left) in
     layer-pages (a .nums .v) (a .nums .f) (a .pages .now) (a .frames .now) (sym (c .before .before .before .before .before .layer-sound .ensures) ∙ and-right (lengthsFit m) _ e)
 
--- src/lib.rt:84:17
 bits-requires : tie.Need-bits-requires
 bits-requires c κs = search needs
 
--- src/lib.rt:84:31
 bits-requires-2 : tie.Need-bits-requires-2
 bits-requires-2 c κs = search needs
 
--- src/lib.rt:84:46
 mailboxes-sound-requires : tie.Need-mailboxes-sound-requires
 mailboxes-sound-requires c κs = search needs
 
--- src/lib.rt:64:1
 returns-2 : tie.Need-returns-2
 returns-2 c =
     let a = c .before .before .before .before .before .before .before .before .before .before .before .before .before .before .before .before .before .args in

@@ -8,19 +8,15 @@ use Rattle.formed.proofs.freed_in.Reads as reads
 use Rattle.formed.proofs.freed_in.Lts as lts
 use Rattle.capabilities.proofs.ranges.inside.Reads as inside-reads
 
--- src/lib.rt:21:36
 cast-inside : tie.Need-cast-inside
 cast-inside c = search needs
 
--- src/lib.rt:21:30
 mul-inside : tie.Need-mul-inside
 mul-inside c = search needs
 
--- src/lib.rt:21:9
 inside-requires : tie.Need-inside-requires
 inside-requires c κs = search needs
 
--- src/lib.rt:17:1
 returns : tie.Need-returns
 unfolding freedIn
 returns c = rw (c .inside .ensures, freed-one (c .before .args .number))

@@ -21,19 +21,15 @@ use Rattle.revocation.proofs.whole_pages.Reads as whole-pages-reads
 use Rattle.reservations.proofs.find.revoking.Reads as revoking-reads
 use Rattle.reservations.proofs.find.row_in.Reads as row-in-reads
 
--- src/lib.rt:49:9
 revoking-requires : tie.Need-revoking-requires
 revoking-requires c κs = search needs
 
--- src/lib.rt:50:9
 row-in-requires : tie.Need-row-in-requires
 row-in-requires c κs = search needs
 
--- src/lib.rt:52:8
 missing-requires : tie.Need-missing-requires
 missing-requires c κs = search needs
 
--- src/lib.rt:53:9
 returns : tie.Need-returns
 returns c =
     let a = c .before .before .before .before .before .before .before .before .before .before .before .args in
@@ -41,19 +37,15 @@ returns c =
     let row = c .before .before .before .before .before .before .before .row-in in
     λ frames. none-runs (a .nums) (a .rows .now) (a .pages .now) frames (found .result) (row .result) (found .ensures) (row .ensures) (sym (c .before .before .missing .ensures) ∙ c .before .if1 .taken)
 
--- src/lib.rt:55:13
 whole-pages-requires : tie.Need-whole-pages-requires
 whole-pages-requires c κs = search needs
 
--- src/lib.rt:55:49
 range-of-requires : tie.Need-range-of-requires
 range-of-requires c κs = search needs
 
--- src/lib.rt:55:32
 all-freed-requires : tie.Need-all-freed-requires
 all-freed-requires c κs = search needs
 
--- src/lib.rt:44:1
 returns-2 : tie.Need-returns-2
 returns-2 c =
     let a = c .before .before .before .before .before .before .before .before .before .before .before .before .before .args in

@@ -11,63 +11,48 @@ use Rattle.calls.proofs.read_at.Reads as read-at-reads
 use Rattle.step.proofs.step.Reads as step-reads
 use Rattle.step.proofs.word_calls.refused.Reads as refused-reads
 
--- src/entries.rt:34:11
 read-at-requires : tie.Need-read-at-requires
 read-at-requires c κs = search needs
 
--- src/entries.rt:35:25
 enum-known-call : tie.Need-enum-known-call
 enum-known-call c = search needs
 
--- src/entries.rt:36:17
 step-requires : tie.Need-step-requires
 step-requires c κs = search needs
 
--- src/entries.rt:48:17
 enum-told : tie.Need-enum-told
 enum-told c = search needs
 
--- src/entries.rt:48:17
 refused-requires : tie.Need-refused-requires
 refused-requires c κs = search needs
 
--- src/entries.rt:16:1
 same-length : tie.Need-same-length
 same-length c = search needs
 
--- src/entries.rt:16:1
 same-length-2 : tie.Need-same-length-2
 same-length-2 c = search needs
 
--- src/entries.rt:16:1
 same-length-3 : tie.Need-same-length-3
 same-length-3 c = search needs
 
--- src/entries.rt:16:1
 same-length-4 : tie.Need-same-length-4
 same-length-4 c = search needs
 
--- src/entries.rt:16:1
 same-length-5 : tie.Need-same-length-5
 same-length-5 c = search needs
 
--- src/entries.rt:16:1
 same-length-6 : tie.Need-same-length-6
 same-length-6 c = search needs
 
--- src/entries.rt:16:1
 same-length-7 : tie.Need-same-length-7
 same-length-7 c = search needs
 
--- src/entries.rt:16:1
 same-length-8 : tie.Need-same-length-8
 same-length-8 c = search needs
 
--- src/entries.rt:16:1
 same-length-9 : tie.Need-same-length-9
 same-length-9 c = search needs
 
--- src/entries.rt:16:1
 returns : tie.Need-returns
 returns c =
     let a = c .before .before .before .before .before .before .before .before .before .before .before .before .before .before .before .before .before .before .before .before .before .before .before .before .before .before .before .before .before .before .before .before .before .before .before .before .before .before .before .before .before .before .before .before .args in
@@ -76,7 +61,6 @@ returns c =
     let m = arrays (a .nums) (a .words .now) (a .marks .now) (a .mail .now) (a .flags .now) (a .rows .now) (a .pages .now) (a .frames .now) in
     command-reads m (a .cells .now) (a .tags .now) (fitting m (a .cells .now) (a .tags .now) (pre .1 .0) (pre .1 .1)) (a .input .now) (a .at) _ _ read _ (c .before .before .before .before .before .before .before .before .before .before .before .before .before .before .before .before .before .before .before .before .step .ensures)
 
--- src/entries.rt:16:1
 returns-2 : tie.Need-returns-2
 returns-2 c =
     let a = c .before .before .before .before .before .before .before .before .before .before .before .before .before .before .args in

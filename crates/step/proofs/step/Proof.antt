@@ -25,191 +25,144 @@ use Rattle.step.proofs.word_calls.number.Reads as number-reads
 use Rattle.step.proofs.word_calls.receive.Reads as receive-reads
 use Rattle.step.proofs.word_calls.store.Reads as store-reads
 
--- src/step.rt:55:22
 enum-known-call : tie.Need-enum-known-call
 enum-known-call c = search needs
 
--- src/step.rt:56:24
 take-requires : tie.Need-take-requires
 take-requires c κs = search needs
 
--- src/step.rt:56:13
 with-requires : tie.Need-with-requires
 with-requires c κs = search needs
 
--- src/step.rt:58:23
 enum-known-call-2 : tie.Need-enum-known-call-2
 enum-known-call-2 c = search needs
 
--- src/step.rt:58:45
 split-requires : tie.Need-split-requires
 split-requires c κs = search needs
 
--- src/step.rt:59:23
 enum-known-call-3 : tie.Need-enum-known-call-3
 enum-known-call-3 c = search needs
 
--- src/step.rt:59:40
 merge-requires : tie.Need-merge-requires
 merge-requires c κs = search needs
 
--- src/step.rt:60:22
 enum-known-call-4 : tie.Need-enum-known-call-4
 enum-known-call-4 c = search needs
 
--- src/step.rt:60:54
 give-requires : tie.Need-give-requires
 give-requires c κs = search needs
 
--- src/step.rt:60:43
 with-requires-2 : tie.Need-with-requires-2
 with-requires-2 c κs = search needs
 
--- src/step.rt:61:24
 enum-known-call-5 : tie.Need-enum-known-call-5
 enum-known-call-5 c = search needs
 
--- src/step.rt:61:41
 revoke-requires : tie.Need-revoke-requires
 revoke-requires c κs = search needs
 
--- src/step.rt:62:23
 enum-known-call-6 : tie.Need-enum-known-call-6
 enum-known-call-6 c = search needs
 
--- src/step.rt:62:37
 sweep-requires : tie.Need-sweep-requires
 sweep-requires c κs = search needs
 
--- src/step.rt:63:25
 enum-known-call-7 : tie.Need-enum-known-call-7
 enum-known-call-7 c = search needs
 
--- src/step.rt:64:13
 collect-requires : tie.Need-collect-requires
 collect-requires c κs = search needs
 
--- src/step.rt:66:21
 enum-known-call-8 : tie.Need-enum-known-call-8
 enum-known-call-8 c = search needs
 
--- src/step.rt:67:24
 map-requires : tie.Need-map-requires
 map-requires c κs = search needs
 
--- src/step.rt:67:13
 with-requires-3 : tie.Need-with-requires-3
 with-requires-3 c κs = search needs
 
--- src/step.rt:69:23
 enum-known-call-9 : tie.Need-enum-known-call-9
 enum-known-call-9 c = search needs
 
--- src/step.rt:70:24
 unmap-requires : tie.Need-unmap-requires
 unmap-requires c κs = search needs
 
--- src/step.rt:70:13
 with-requires-4 : tie.Need-with-requires-4
 with-requires-4 c κs = search needs
 
--- src/step.rt:72:22
 enum-known-call-10 : tie.Need-enum-known-call-10
 enum-known-call-10 c = search needs
 
--- src/step.rt:72:51
 zero-requires : tie.Need-zero-requires
 zero-requires c κs = search needs
 
--- src/step.rt:72:40
 with-requires-5 : tie.Need-with-requires-5
 with-requires-5 c κs = search needs
 
--- src/step.rt:73:22
 enum-known-call-11 : tie.Need-enum-known-call-11
 enum-known-call-11 c = search needs
 
--- src/step.rt:74:17
 load-requires : tie.Need-load-requires
 load-requires c κs = search needs
 
--- src/step.rt:86:13
 with-requires-6 : tie.Need-with-requires-6
 with-requires-6 c κs = search needs
 
--- src/step.rt:88:23
 enum-known-call-12 : tie.Need-enum-known-call-12
 enum-known-call-12 c = search needs
 
--- src/step.rt:93:17
 store-requires : tie.Need-store-requires
 store-requires c κs = search needs
 
--- src/step.rt:106:13
 with-requires-7 : tie.Need-with-requires-7
 with-requires-7 c κs = search needs
 
--- src/step.rt:109:13
 enum-known-call-13 : tie.Need-enum-known-call-13
 enum-known-call-13 c = search needs
 
--- src/step.rt:115:25
 narrow-requires : tie.Need-narrow-requires
 narrow-requires c κs = search needs
 
--- src/step.rt:115:14
 with-requires-8 : tie.Need-with-requires-8
 with-requires-8 c κs = search needs
 
--- src/step.rt:116:24
 enum-known-call-14 : tie.Need-enum-known-call-14
 enum-known-call-14 c = search needs
 
--- src/step.rt:116:56
 number-requires : tie.Need-number-requires
 number-requires c κs = search needs
 
--- src/step.rt:116:45
 with-requires-9 : tie.Need-with-requires-9
 with-requires-9 c κs = search needs
 
--- src/step.rt:117:23
 enum-known-call-15 : tie.Need-enum-known-call-15
 enum-known-call-15 c = search needs
 
--- src/step.rt:118:24
 grant-requires : tie.Need-grant-requires
 grant-requires c κs = search needs
 
--- src/step.rt:118:13
 with-requires-10 : tie.Need-with-requires-10
 with-requires-10 c κs = search needs
 
--- src/step.rt:120:25
 enum-known-call-16 : tie.Need-enum-known-call-16
 enum-known-call-16 c = search needs
 
--- src/step.rt:121:24
 receive-requires : tie.Need-receive-requires
 receive-requires c κs = search needs
 
--- src/step.rt:121:13
 with-requires-11 : tie.Need-with-requires-11
 with-requires-11 c κs = search needs
 
--- src/step.rt:37:1
 same-length : tie.Need-same-length
 same-length c = search needs
 
--- src/step.rt:37:1
 same-length-2 : tie.Need-same-length-2
 same-length-2 c = search needs
 
--- src/step.rt:37:1
 same-length-3 : tie.Need-same-length-3
 same-length-3 c = search needs
 
--- src/step.rt:37:1
 returns : tie.Need-returns
 unfolding ruledOn
 returns c =
@@ -217,11 +170,9 @@ returns c =
     let m = arrays (a .nums) (a .words .now) (a .marks .now) (a .mail .now) (a .flags .now) (a .rows .now) (a .pages .now) (a .frames .now) in
     rw (c .with .ensures, c .before .before .before .before .before .before .before .before .before .before .before .before .call .given .1) (c .before .before .before .before .before .before .before .take .ensures m refl (c .before .before .before .before .before .before .before .before .before .before .before .before .before .before .before .before .before .before .before .before .before .before .before .pre .0) (a .cells .now) (a .tags .now))
 
--- src/step.rt:37:1
 same-length-4 : tie.Need-same-length-4
 same-length-4 c = search needs
 
--- src/step.rt:37:1
 returns-2 : tie.Need-returns-2
 unfolding ruledOn
 returns-2 c =
@@ -229,11 +180,9 @@ returns-2 c =
     let m = arrays (a .nums) (a .words .now) (a .marks .now) (a .mail .now) (a .flags .now) (a .rows .now) (a .pages .now) (a .frames .now) in
     rw (c .before .before .before .before .before .call2 .given .1) (c .before .before .split .ensures m (c .before .before .before .before .before .before .before .before .before .before .before .before .before .before .before .before .pre .0) (a .cells .now) (a .tags .now))
 
--- src/step.rt:37:1
 same-length-5 : tie.Need-same-length-5
 same-length-5 c = search needs
 
--- src/step.rt:37:1
 returns-3 : tie.Need-returns-3
 unfolding ruledOn
 returns-3 c =
@@ -241,11 +190,9 @@ returns-3 c =
     let m = arrays (a .nums) (a .words .now) (a .marks .now) (a .mail .now) (a .flags .now) (a .rows .now) (a .pages .now) (a .frames .now) in
     rw (c .before .before .before .before .before .call3 .given .1) (c .before .before .merge .ensures m (c .before .before .before .before .before .before .before .before .before .before .before .before .before .before .before .before .pre .0) (a .cells .now) (a .tags .now))
 
--- src/step.rt:37:1
 same-length-6 : tie.Need-same-length-6
 same-length-6 c = search needs
 
--- src/step.rt:37:1
 returns-4 : tie.Need-returns-4
 unfolding ruledOn
 returns-4 c =
@@ -253,15 +200,12 @@ returns-4 c =
     let m = arrays (a .nums) (a .words .now) (a .marks .now) (a .mail .now) (a .flags .now) (a .rows .now) (a .pages .now) (a .frames .now) in
     rw (c .with2 .ensures, c .before .before .before .before .before .before .call4 .given .1) (c .before .before .before .give .ensures m refl (c .before .before .before .before .before .before .before .before .before .before .before .before .before .before .before .before .before .pre .0) (a .cells .now) (a .tags .now))
 
--- src/step.rt:37:1
 same-length-7 : tie.Need-same-length-7
 same-length-7 c = search needs
 
--- src/step.rt:37:1
 same-length-8 : tie.Need-same-length-8
 same-length-8 c = search needs
 
--- src/step.rt:37:1
 returns-5 : tie.Need-returns-5
 unfolding ruledOn
 returns-5 c =
@@ -269,19 +213,15 @@ returns-5 c =
     let m = arrays (a .nums) (a .words .now) (a .marks .now) (a .mail .now) (a .flags .now) (a .rows .now) (a .pages .now) (a .frames .now) in
     rw (c .before .before .before .before .before .before .before .before .call5 .given .1) (c .before .before .before .before .revoke .ensures m (c .before .before .before .before .before .before .before .before .before .before .before .before .before .before .before .before .before .before .before .pre .0) (a .cells .now) (a .tags .now))
 
--- src/step.rt:37:1
 same-length-9 : tie.Need-same-length-9
 same-length-9 c = search needs
 
--- src/step.rt:37:1
 same-length-10 : tie.Need-same-length-10
 same-length-10 c = search needs
 
--- src/step.rt:37:1
 same-length-11 : tie.Need-same-length-11
 same-length-11 c = search needs
 
--- src/step.rt:37:1
 returns-6 : tie.Need-returns-6
 unfolding ruledOn
 returns-6 c =
@@ -289,31 +229,24 @@ returns-6 c =
     let m = arrays (a .nums) (a .words .now) (a .marks .now) (a .mail .now) (a .flags .now) (a .rows .now) (a .pages .now) (a .frames .now) in
     rw (c .before .before .before .before .before .before .before .call6 .given .1) (c .before .before .sweep .ensures m refl (c .before .before .before .before .before .before .before .before .before .before .before .before .before .before .before .before .before .before .pre .1 .0) (c .before .before .before .before .before .before .before .before .before .before .before .before .before .before .before .before .before .before .pre .1 .1) (c .before .before .before .before .before .before .before .before .before .before .before .before .before .before .before .before .before .before .pre .0))
 
--- src/step.rt:37:1
 same-length-12 : tie.Need-same-length-12
 same-length-12 c = search needs
 
--- src/step.rt:37:1
 same-length-13 : tie.Need-same-length-13
 same-length-13 c = search needs
 
--- src/step.rt:37:1
 same-length-14 : tie.Need-same-length-14
 same-length-14 c = search needs
 
--- src/step.rt:37:1
 same-length-15 : tie.Need-same-length-15
 same-length-15 c = search needs
 
--- src/step.rt:37:1
 same-length-16 : tie.Need-same-length-16
 same-length-16 c = search needs
 
--- src/step.rt:37:1
 same-length-17 : tie.Need-same-length-17
 same-length-17 c = search needs
 
--- src/step.rt:37:1
 returns-7 : tie.Need-returns-7
 unfolding ruledOn
 returns-7 c =
@@ -321,15 +254,12 @@ returns-7 c =
     let m = arrays (a .nums) (a .words .now) (a .marks .now) (a .mail .now) (a .flags .now) (a .rows .now) (a .pages .now) (a .frames .now) in
     rw (c .before .before .before .before .before .before .before .before .before .before .before .before .before .before .before .before .before .before .call7 .given .1) (c .before .before .before .before .before .before .before .before .before .before .collect .ensures (a .frames .now) (c .before .before .before .before .before .before .before .before .before .before .before .before .before .before .before .before .before .before .before .before .before .before .before .before .before .before .before .before .before .pre .0) (a .cells .now) (a .tags .now))
 
--- src/step.rt:37:1
 same-length-18 : tie.Need-same-length-18
 same-length-18 c = search needs
 
--- src/step.rt:37:1
 same-length-19 : tie.Need-same-length-19
 same-length-19 c = search needs
 
--- src/step.rt:37:1
 returns-8 : tie.Need-returns-8
 unfolding ruledOn
 returns-8 c =
@@ -337,15 +267,12 @@ returns-8 c =
     let m = arrays (a .nums) (a .words .now) (a .marks .now) (a .mail .now) (a .flags .now) (a .rows .now) (a .pages .now) (a .frames .now) in
     rw (c .with3 .ensures, c .before .before .before .before .before .before .before .before .before .call8 .given .1) (c .before .before .before .before .before .map .ensures m refl refl (c .before .before .before .before .before .before .before .before .before .before .before .before .before .before .before .before .before .before .before .before .pre .0) (a .cells .now) (a .tags .now))
 
--- src/step.rt:37:1
 same-length-20 : tie.Need-same-length-20
 same-length-20 c = search needs
 
--- src/step.rt:37:1
 same-length-21 : tie.Need-same-length-21
 same-length-21 c = search needs
 
--- src/step.rt:37:1
 returns-9 : tie.Need-returns-9
 unfolding ruledOn
 returns-9 c =
@@ -353,19 +280,15 @@ returns-9 c =
     let m = arrays (a .nums) (a .words .now) (a .marks .now) (a .mail .now) (a .flags .now) (a .rows .now) (a .pages .now) (a .frames .now) in
     rw (c .with4 .ensures, c .before .before .before .before .before .before .before .before .before .call9 .given .1) (c .before .before .before .before .before .unmap .ensures m refl refl (c .before .before .before .before .before .before .before .before .before .before .before .before .before .before .before .before .before .before .before .before .pre .0) (a .cells .now) (a .tags .now))
 
--- src/step.rt:37:1
 same-length-22 : tie.Need-same-length-22
 same-length-22 c = search needs
 
--- src/step.rt:37:1
 same-length-23 : tie.Need-same-length-23
 same-length-23 c = search needs
 
--- src/step.rt:37:1
 same-length-24 : tie.Need-same-length-24
 same-length-24 c = search needs
 
--- src/step.rt:37:1
 returns-10 : tie.Need-returns-10
 unfolding ruledOn
 returns-10 c =
@@ -373,27 +296,21 @@ returns-10 c =
     let m = arrays (a .nums) (a .words .now) (a .marks .now) (a .mail .now) (a .flags .now) (a .rows .now) (a .pages .now) (a .frames .now) in
     rw (c .with5 .ensures, c .before .before .before .before .before .before .before .before .before .before .before .before .call10 .given .1) (c .before .before .before .before .before .before .before .zero .ensures m refl (c .before .before .before .before .before .before .before .before .before .before .before .before .before .before .before .before .before .before .before .before .before .before .before .pre .1 .0) (c .before .before .before .before .before .before .before .before .before .before .before .before .before .before .before .before .before .before .before .before .before .before .before .pre .1 .1) (c .before .before .before .before .before .before .before .before .before .before .before .before .before .before .before .before .before .before .before .before .before .before .before .pre .0))
 
--- src/step.rt:37:1
 same-length-25 : tie.Need-same-length-25
 same-length-25 c = search needs
 
--- src/step.rt:37:1
 same-length-26 : tie.Need-same-length-26
 same-length-26 c = search needs
 
--- src/step.rt:37:1
 same-length-27 : tie.Need-same-length-27
 same-length-27 c = search needs
 
--- src/step.rt:37:1
 same-length-28 : tie.Need-same-length-28
 same-length-28 c = search needs
 
--- src/step.rt:37:1
 same-length-29 : tie.Need-same-length-29
 same-length-29 c = search needs
 
--- src/step.rt:37:1
 returns-11 : tie.Need-returns-11
 unfolding ruledOn
 returns-11 c =
@@ -401,43 +318,34 @@ returns-11 c =
     let m = arrays (a .nums) (a .words .now) (a .marks .now) (a .mail .now) (a .flags .now) (a .rows .now) (a .pages .now) (a .frames .now) in
     rw (c .with6 .ensures, c .before .before .before .before .before .before .before .before .before .before .before .before .call11 .given .1) (c .before .before .before .before .before .load .ensures m refl refl (c .before .before .before .before .before .before .before .before .before .before .before .before .before .before .before .before .before .before .before .before .before .before .before .pre .0))
 
--- src/step.rt:37:1
 same-length-30 : tie.Need-same-length-30
 same-length-30 c = search needs
 
--- src/step.rt:37:1
 same-length-31 : tie.Need-same-length-31
 same-length-31 c = search needs
 
--- src/step.rt:37:1
 same-length-32 : tie.Need-same-length-32
 same-length-32 c = search needs
 
--- src/step.rt:37:1
 same-length-33 : tie.Need-same-length-33
 same-length-33 c = search needs
 
--- src/step.rt:37:1
 same-length-34 : tie.Need-same-length-34
 same-length-34 c = search needs
 
--- src/step.rt:37:1
 returns-12 : tie.Need-returns-12
 unfolding ruledOn
 returns-12 c =
     let a = c .before .before .before .before .before .before .before .before .before .before .before .before .before .before .before .before .before .before .before .before .before .before .before .args in
     let m = arrays (a .nums) (a .words .now) (a .marks .now) (a .mail .now) (a .flags .now) (a .rows .now) (a .pages .now) (a .frames .now) in
-    rw (c .with7 .ensures, c .before .before .before .before .before .before .before .before .before .before .before .before .call12 .given .1) (c .before .before .before .before .before .store .ensures m refl refl refl refl refl refl (c .before .before .before .before .before .before .before .before .before .before .before .before .before .before .before .before .before .before .before .before .before .before .before .pre .0))
+    rw (c .with7 .ensures, c .before .before .before .before .before .before .before .before .before .before .before .before .call12 .given .1) (c .before .before .before .before .before .store .ensures m refl refl refl refl (c .before .before .before .before .before .before .before .before .before .before .before .before .before .before .before .before .before .before .before .before .before .before .before .pre .0))
 
--- src/step.rt:37:1
 same-length-35 : tie.Need-same-length-35
 same-length-35 c = search needs
 
--- src/step.rt:37:1
 same-length-36 : tie.Need-same-length-36
 same-length-36 c = search needs
 
--- src/step.rt:37:1
 returns-13 : tie.Need-returns-13
 unfolding ruledOn
 returns-13 c =
@@ -445,15 +353,12 @@ returns-13 c =
     let m = arrays (a .nums) (a .words .now) (a .marks .now) (a .mail .now) (a .flags .now) (a .rows .now) (a .pages .now) (a .frames .now) in
     rw (c .with8 .ensures, c .before .before .before .before .before .before .before .before .before .call13 .given .1) (c .before .before .before .before .before .narrow .ensures m (c .before .before .before .before .before .before .before .before .before .before .before .before .before .before .before .before .before .before .before .before .pre .0) (a .cells .now) (a .tags .now))
 
--- src/step.rt:37:1
 same-length-37 : tie.Need-same-length-37
 same-length-37 c = search needs
 
--- src/step.rt:37:1
 same-length-38 : tie.Need-same-length-38
 same-length-38 c = search needs
 
--- src/step.rt:37:1
 returns-14 : tie.Need-returns-14
 unfolding ruledOn
 returns-14 c =
@@ -461,23 +366,18 @@ returns-14 c =
     let m = arrays (a .nums) (a .words .now) (a .marks .now) (a .mail .now) (a .flags .now) (a .rows .now) (a .pages .now) (a .frames .now) in
     rw (c .with9 .ensures, c .before .before .before .before .before .before .before .before .before .call14 .given .1) (c .before .before .before .before .before .number .ensures m (c .before .before .before .before .before .before .before .before .before .before .before .before .before .before .before .before .before .before .before .before .pre .0) (a .cells .now) (a .tags .now))
 
--- src/step.rt:37:1
 same-length-39 : tie.Need-same-length-39
 same-length-39 c = search needs
 
--- src/step.rt:37:1
 same-length-40 : tie.Need-same-length-40
 same-length-40 c = search needs
 
--- src/step.rt:37:1
 same-length-41 : tie.Need-same-length-41
 same-length-41 c = search needs
 
--- src/step.rt:37:1
 same-length-42 : tie.Need-same-length-42
 same-length-42 c = search needs
 
--- src/step.rt:37:1
 returns-15 : tie.Need-returns-15
 unfolding ruledOn
 returns-15 c =
@@ -485,23 +385,18 @@ returns-15 c =
     let m = arrays (a .nums) (a .words .now) (a .marks .now) (a .mail .now) (a .flags .now) (a .rows .now) (a .pages .now) (a .frames .now) in
     rw (c .with10 .ensures, c .before .before .before .before .before .before .before .before .before .before .before .call15 .given .1) (c .before .before .before .before .before .grant .ensures m (c .before .before .before .before .before .before .before .before .before .before .before .before .before .before .before .before .before .before .before .before .before .before .pre .0) (a .cells .now) (a .tags .now))
 
--- src/step.rt:37:1
 same-length-43 : tie.Need-same-length-43
 same-length-43 c = search needs
 
--- src/step.rt:37:1
 same-length-44 : tie.Need-same-length-44
 same-length-44 c = search needs
 
--- src/step.rt:37:1
 same-length-45 : tie.Need-same-length-45
 same-length-45 c = search needs
 
--- src/step.rt:37:1
 same-length-46 : tie.Need-same-length-46
 same-length-46 c = search needs
 
--- src/step.rt:37:1
 returns-16 : tie.Need-returns-16
 unfolding ruledOn
 returns-16 c =

@@ -5,17 +5,14 @@ use Rattle.pages.proofs.numbers.frame_from.Tie as tie
 use Rattle.pages.proofs.numbers.frame_from.Reads as reads
 use Rattle.pages.proofs.numbers.frame_from.Lts as lts
 
--- src/lib.rt:57:9
 returns : tie.Need-returns
 unfolding frameFrom
 returns c = first-code _ _ _ _ (c .if1 .taken)
 
--- src/lib.rt:60:9
 returns-2 : tie.Need-returns-2
 unfolding frameFrom
 returns-2 c = second-code _ _ _ _ (c .before .if1 .left) (c .if2 .taken)
 
--- src/lib.rt:53:1
 returns-3 : tie.Need-returns-3
 unfolding frameFrom
 returns-3 c = other-code _ _ _ _ (c .before .if1 .left) (c .if2 .left)

@@ -6,25 +6,20 @@ use Rattle.pages.proofs.numbers.page_from.Tie as tie
 use Rattle.pages.proofs.numbers.page_from.Reads as reads
 use Rattle.pages.proofs.numbers.page_from.Lts as lts
 
--- src/lib.rt:45:9
 returns : tie.Need-returns
 unfolding pageFrom
 returns c = first-code _ _ _ _ (c .if1 .taken)
 
--- src/lib.rt:48:9
 returns-2 : tie.Need-returns-2
 unfolding pageFrom
 returns-2 c = second-code _ _ _ _ (c .before .if1 .left) (c .if2 .taken)
 
--- src/lib.rt:50:31
 sub-t3 : tie.Need-sub-t3
 sub-t3 c = search needs
 
--- src/lib.rt:50:29
 cast-t5 : tie.Need-cast-t5
 cast-t5 c = search needs
 
--- src/lib.rt:41:1
 returns-3 : tie.Need-returns-3
 unfolding pageFrom
 returns-3 c = other-code _ _ _ _ (c .before .if1 .left) (c .if2 .left)

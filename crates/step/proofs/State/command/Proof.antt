@@ -7,51 +7,39 @@ use Rattle.step.proofs.State.command.Lts as lts
 use Rattle.step.proofs.by_value.commanded.Reads as commanded-reads
 use Rattle.step.proofs.entries.command_in.Reads as command-in-reads
 
--- src/by_value.rt:162:13
 slice-aggregate-command-in : tie.Need-slice-aggregate-command-in
 slice-aggregate-command-in c = search needs
 
--- src/by_value.rt:163:13
 slice-aggregate-command-in-2 : tie.Need-slice-aggregate-command-in-2
 slice-aggregate-command-in-2 c = search needs
 
--- src/by_value.rt:164:13
 slice-aggregate-command-in-3 : tie.Need-slice-aggregate-command-in-3
 slice-aggregate-command-in-3 c = search needs
 
--- src/by_value.rt:165:13
 slice-aggregate-command-in-4 : tie.Need-slice-aggregate-command-in-4
 slice-aggregate-command-in-4 c = search needs
 
--- src/by_value.rt:166:13
 slice-aggregate-command-in-5 : tie.Need-slice-aggregate-command-in-5
 slice-aggregate-command-in-5 c = search needs
 
--- src/by_value.rt:167:13
 slice-aggregate-command-in-6 : tie.Need-slice-aggregate-command-in-6
 slice-aggregate-command-in-6 c = search needs
 
--- src/by_value.rt:168:13
 slice-aggregate-command-in-7 : tie.Need-slice-aggregate-command-in-7
 slice-aggregate-command-in-7 c = search needs
 
--- src/by_value.rt:158:13
 command-in-requires : tie.Need-command-in-requires
 command-in-requires c κs = search needs
 
--- src/by_value.rt:185:9
 commanded-requires : tie.Need-commanded-requires
 commanded-requires c κs = search needs
 
--- src/by_value.rt:141:5
 same-length : tie.Need-same-length
 same-length c = search needs
 
--- src/by_value.rt:141:5
 same-length-2 : tie.Need-same-length-2
 same-length-2 c = search needs
 
--- src/by_value.rt:141:5
 returns : tie.Need-returns
 returns c = rw (c .commanded .ensures) (c .before .before .before .before .before .before .before .before .before .before .before .before .before .before .command-in .ensures)
 

@@ -12,45 +12,35 @@ use Rattle.step.proofs.word_calls.granted.Reads as granted-reads
 use Rattle.step.proofs.word_calls.refused.Reads as refused-reads
 use Rattle.words.proofs.empty.Reads as empty-reads
 
--- src/by_value.rt:38:12
 in-range-requires : tie.Need-in-range-requires
 in-range-requires c κs = search needs
 
--- src/by_value.rt:39:23
 mul-rows : tie.Need-mul-rows
 mul-rows c = search needs
 
--- src/by_value.rt:39:13
 array-write-rows : tie.Need-array-write-rows
 array-write-rows c = search needs
 
--- src/by_value.rt:48:17
 bare-requires : tie.Need-bare-requires
 bare-requires c κs = search needs
 
--- src/by_value.rt:49:34
 empty-requires : tie.Need-empty-requires
 empty-requires c κs = search needs
 
--- src/by_value.rt:49:17
 granted-requires : tie.Need-granted-requires
 granted-requires c κs = search needs
 
--- src/by_value.rt:50:13
 returns : tie.Need-returns
 returns c =
     let a = c .before .before .before .before .before .args in
     rw (c .granted .ensures, c .before .empty .ensures, c .before .before .bare .ensures) (start-in (a .v) (a .f) (sym (c .before .before .before .before .in-range .ensures) ∙ c .before .before .before .if1 .taken))
 
--- src/by_value.rt:60:13
 bare-requires-2 : tie.Need-bare-requires-2
 bare-requires-2 c κs = search needs
 
--- src/by_value.rt:61:13
 refused-requires : tie.Need-refused-requires
 refused-requires c κs = search needs
 
--- src/by_value.rt:34:5
 returns-2 : tie.Need-returns-2
 returns-2 c =
     let a = c .before .before .before .before .args in

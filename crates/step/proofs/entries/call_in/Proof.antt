@@ -13,90 +13,69 @@ use Rattle.formed.proofs.formed.Reads as formed-reads
 use Rattle.step.proofs.step.Reads as step-reads
 use Rattle.step.proofs.word_calls.refused.Reads as refused-reads
 
--- src/entries.rt:87:9
 formed-requires : tie.Need-formed-requires
 formed-requires c κs = search needs
 
--- src/entries.rt:88:13
 refused-requires : tie.Need-refused-requires
 refused-requires c κs = search needs
 
--- src/entries.rt:89:9
 same-length : tie.Need-same-length
 same-length c = search needs
 
--- src/entries.rt:89:9
 same-length-2 : tie.Need-same-length-2
 same-length-2 c = search needs
 
--- src/entries.rt:89:9
 same-length-3 : tie.Need-same-length-3
 same-length-3 c = search needs
 
--- src/entries.rt:89:9
 same-length-4 : tie.Need-same-length-4
 same-length-4 c = search needs
 
--- src/entries.rt:89:9
 same-length-5 : tie.Need-same-length-5
 same-length-5 c = search needs
 
--- src/entries.rt:89:9
 same-length-6 : tie.Need-same-length-6
 same-length-6 c = search needs
 
--- src/entries.rt:89:9
 same-length-7 : tie.Need-same-length-7
 same-length-7 c = search needs
 
--- src/entries.rt:89:9
 returns : tie.Need-returns
 returns c =
     let a = c .before .before .before .before .before .before .before .before .before .before .before .before .before .before .before .before .before .before .before .args in
     let m = arrays (a .nums) (a .words .now) (a .marks .now) (a .mail .now) (a .flags .now) (a .rows .now) (a .pages .now) (a .frames .now) in
     rw (c .refused .ensures) (call-unformed m (a .cells .now) (a .tags .now) (a .call) (sym (c .before .before .formed .ensures) ∙ not-true _ (c .before .if1 .taken)))
 
--- src/entries.rt:91:22
 cast-size : tie.Need-cast-size
 cast-size c = search needs
 
--- src/entries.rt:91:16
 mul-size : tie.Need-mul-size
 mul-size c = search needs
 
--- src/entries.rt:93:13
 refused-requires-2 : tie.Need-refused-requires-2
 refused-requires-2 c κs = search needs
 
--- src/entries.rt:94:9
 same-length-8 : tie.Need-same-length-8
 same-length-8 c = search needs
 
--- src/entries.rt:94:9
 same-length-9 : tie.Need-same-length-9
 same-length-9 c = search needs
 
--- src/entries.rt:94:9
 same-length-10 : tie.Need-same-length-10
 same-length-10 c = search needs
 
--- src/entries.rt:94:9
 same-length-11 : tie.Need-same-length-11
 same-length-11 c = search needs
 
--- src/entries.rt:94:9
 same-length-12 : tie.Need-same-length-12
 same-length-12 c = search needs
 
--- src/entries.rt:94:9
 same-length-13 : tie.Need-same-length-13
 same-length-13 c = search needs
 
--- src/entries.rt:94:9
 same-length-14 : tie.Need-same-length-14
 same-length-14 c = search needs
 
--- src/entries.rt:94:9
 returns-2 : tie.Need-returns-2
 returns-2 c =
     let a = c .before .before .before .before .before .before .before .before .before .before .before .before .before .before .before .before .before .before .before .before .before .args in
@@ -104,50 +83,39 @@ returns-2 c =
     let e = sym (c .before .before .before .before .formed .ensures) ∙ not-false _ (c .before .before .before .if1 .left) in
     rw (c .refused2 .ensures) (call-formed m (a .cells .now) (a .tags .now) (a .call) e _ (call-unfit m (tested m e) (a .cells .now) (a .tags .now) (not-true _ (c .before .if2 .taken)) (a .call)))
 
--- src/entries.rt:96:5
 step-requires : tie.Need-step-requires
 step-requires c κs =
     let a = c .before .before .before .before .before .before .before .before .before .before .before .before .before .before .before .before .before .before .before .before .before .before .before .before .before .before .before .before .before .args in
     let m = arrays (a .nums) (a .words .now) (a .marks .now) (a .mail .now) (a .flags .now) (a .rows .now) (a .pages .now) (a .frames .now) in
     (tested m (sym (c .before .before .before .before .before .before .before .before .before .before .before .before .formed .ensures) ∙ not-false _ (c .before .before .before .before .before .before .before .before .before .before .before .if1 .left)), fitted m (a .cells .now) (a .tags .now) (not-false _ (c .before .before .before .before .before .before .before .before .before .if2 .left)))
 
--- src/entries.rt:72:1
 same-length-15 : tie.Need-same-length-15
 same-length-15 c = search needs
 
--- src/entries.rt:72:1
 same-length-16 : tie.Need-same-length-16
 same-length-16 c = search needs
 
--- src/entries.rt:72:1
 same-length-17 : tie.Need-same-length-17
 same-length-17 c = search needs
 
--- src/entries.rt:72:1
 same-length-18 : tie.Need-same-length-18
 same-length-18 c = search needs
 
--- src/entries.rt:72:1
 same-length-19 : tie.Need-same-length-19
 same-length-19 c = search needs
 
--- src/entries.rt:72:1
 same-length-20 : tie.Need-same-length-20
 same-length-20 c = search needs
 
--- src/entries.rt:72:1
 same-length-21 : tie.Need-same-length-21
 same-length-21 c = search needs
 
--- src/entries.rt:72:1
 same-length-22 : tie.Need-same-length-22
 same-length-22 c = search needs
 
--- src/entries.rt:72:1
 same-length-23 : tie.Need-same-length-23
 same-length-23 c = search needs
 
--- src/entries.rt:72:1
 returns-3 : tie.Need-returns-3
 returns-3 c =
     let a = c .before .before .before .before .before .before .before .before .before .before .before .before .before .before .before .before .before .before .before .before .before .before .before .before .before .before .before .before .before .before .before .before .before .before .before .before .before .before .before .before .before .before .before .before .before .before .before .before .args in

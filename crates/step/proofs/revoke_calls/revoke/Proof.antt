@@ -23,43 +23,33 @@ use Rattle.step.proofs.word_calls.refused.Reads as refused-reads
 use Rattle.words.proofs.codes.manager_code.Reads as manager-code-reads
 use Rattle.words.proofs.empty.Reads as empty-reads
 
--- src/revoke_calls.rt:49:9
 find-requires : tie.Need-find-requires
 find-requires c κs = search needs
 
--- src/revoke_calls.rt:50:9
 row-in-requires : tie.Need-row-in-requires
 row-in-requires c κs = search needs
 
--- src/revoke_calls.rt:51:54
 range-of-requires : tie.Need-range-of-requires
 range-of-requires c κs = search needs
 
--- src/revoke_calls.rt:51:9
 any-mapped-requires : tie.Need-any-mapped-requires
 any-mapped-requires c κs = search needs
 
--- src/revoke_calls.rt:52:36
 revoke-code-requires : tie.Need-revoke-code-requires
 revoke-code-requires c κs = search needs
 
--- src/revoke_calls.rt:52:9
 manager-code-requires : tie.Need-manager-code-requires
 manager-code-requires c κs = search needs
 
--- src/revoke_calls.rt:54:13
 refused-requires : tie.Need-refused-requires
 refused-requires c κs = search needs
 
--- src/revoke_calls.rt:55:9
 same-length : tie.Need-same-length
 same-length c = search needs
 
--- src/revoke_calls.rt:55:9
 same-length-2 : tie.Need-same-length-2
 same-length-2 c = search needs
 
--- src/revoke_calls.rt:55:9
 returns : tie.Need-returns
 returns c =
     let a = c .before .before .before .before .before .before .before .before .before .before .before .before .before .args in
@@ -67,47 +57,36 @@ returns c =
     (c .before .before .before .before .before .before .before .before .before .find .ensures) (c .before .before .before .before .before .before .before .row-in .ensures) (c .before .before .before .before .any-mapped .ensures 0 0 [] ∙ ap (anyMapped (layerOf 0 0 (a .pages .now) [])) (c .before .before .before .before .before .range-of .ensures))
     (c .before .before .before .revoke-code .result) (c .before .before .before .revoke-code .ensures) (c .before .before .manager-code .result) (c .before .before .manager-code .ensures) cells tags (c .before .if1 .taken))
 
--- src/revoke_calls.rt:57:16
 cast-from : tie.Need-cast-from
 cast-from c = search needs
 
--- src/revoke_calls.rt:58:23
 cast-upto : tie.Need-cast-upto
 cast-upto c = search needs
 
--- src/revoke_calls.rt:58:16
 add-upto : tie.Need-add-upto
 add-upto c = search needs
 
--- src/revoke_calls.rt:59:5
 fill-requires : tie.Need-fill-requires
 fill-requires c κs = search needs
 
--- src/revoke_calls.rt:60:26
 revoking-row-requires : tie.Need-revoking-row-requires
 revoking-row-requires c κs = search needs
 
--- src/revoke_calls.rt:60:5
 put-row-requires : tie.Need-put-row-requires
 put-row-requires c κs = search needs
 
--- src/revoke_calls.rt:64:26
 empty-requires : tie.Need-empty-requires
 empty-requires c κs = search needs
 
--- src/revoke_calls.rt:64:9
 granted-requires : tie.Need-granted-requires
 granted-requires c κs = search needs
 
--- src/revoke_calls.rt:39:1
 same-length-3 : tie.Need-same-length-3
 same-length-3 c = search needs
 
--- src/revoke_calls.rt:39:1
 same-length-4 : tie.Need-same-length-4
 same-length-4 c = search needs
 
--- src/revoke_calls.rt:39:1
 returns-2 : tie.Need-returns-2
 returns-2 c =
     let a = c .before .before .before .before .before .before .before .before .before .before .before .before .before .before .before .before .before .before .before .before .before .before .before .before .before .args in

@@ -8,39 +8,30 @@ use Rattle.revocation.proofs.whole_pages.Reads as whole-pages-reads
 use Rattle.reservations.proofs.row.is_revoking.Reads as is-revoking-reads
 use Rattle.reservations.proofs.row.missing.Reads as missing-reads
 
--- src/revoke_calls.rt:92:9
 whole-pages-requires : tie.Need-whole-pages-requires
 whole-pages-requires c κs = search needs
 
--- src/revoke_calls.rt:93:60
 first-requires : tie.Need-first-requires
 first-requires c κs = search needs
 
--- src/revoke_calls.rt:93:34
 first-requires-2 : tie.Need-first-requires-2
 first-requires-2 c κs = search needs
 
--- src/revoke_calls.rt:93:9
 first-requires-3 : tie.Need-first-requires-3
 first-requires-3 c κs = search needs
 
--- src/revoke_calls.rt:94:14
 missing-requires : tie.Need-missing-requires
 missing-requires c κs = search needs
 
--- src/revoke_calls.rt:94:39
 is-revoking-requires : tie.Need-is-revoking-requires
 is-revoking-requires c κs = search needs
 
--- src/revoke_calls.rt:94:30
 first-requires-4 : tie.Need-first-requires-4
 first-requires-4 c κs = search needs
 
--- src/revoke_calls.rt:94:5
 first-requires-5 : tie.Need-first-requires-5
 first-requires-5 c κs = search needs
 
--- src/revoke_calls.rt:88:1
 returns : tie.Need-returns
 returns c = rw (c .first5 .ensures, c .before .first4 .ensures, c .before .before .is-revoking .ensures, c .before .before .before .missing .ensures, c .before .before .before .before .first3 .ensures, c .before .before .before .before .before .first2 .ensures, c .before .before .before .before .before .before .first .ensures, c .before .before .before .before .before .before .before .whole-pages .ensures)
 

@@ -10,29 +10,23 @@ use Rattle.reservations.proofs.rows.merge.Reads as merge-reads
 use Rattle.step.proofs.table_calls.coded.Reads as coded-reads
 use Rattle.step.proofs.word_calls.refused.Reads as refused-reads
 
--- src/table_calls.rt:80:13
 refused-requires : tie.Need-refused-requires
 refused-requires c κs = search needs
 
--- src/table_calls.rt:81:9
 returns : tie.Need-returns
 returns c =
     let a = c .before .before .before .args in
     λ m f cells tags. rw (c .refused .ensures) (merge-unknown (withTable m (a .nums) (a .rows .now)) f (a .party) (a .base) cells tags (c .before .if1 .taken))
 
--- src/table_calls.rt:83:9
 merge-requires : tie.Need-merge-requires
 merge-requires c κs = search needs
 
--- src/table_calls.rt:85:9
 coded-requires : tie.Need-coded-requires
 coded-requires c κs = search needs
 
--- src/table_calls.rt:76:1
 same-length : tie.Need-same-length
 same-length c = search needs
 
--- src/table_calls.rt:76:1
 returns-2 : tie.Need-returns-2
 returns-2 c =
     let a = c .before .before .before .before .before .before .before .args in

@@ -10,29 +10,23 @@ use Rattle.reservations.proofs.rows.split.Reads as split-reads
 use Rattle.step.proofs.table_calls.coded.Reads as coded-reads
 use Rattle.step.proofs.word_calls.refused.Reads as refused-reads
 
--- src/table_calls.rt:66:13
 refused-requires : tie.Need-refused-requires
 refused-requires c κs = search needs
 
--- src/table_calls.rt:67:9
 returns : tie.Need-returns
 returns c =
     let a = c .before .before .before .args in
     λ m f cells tags. rw (c .refused .ensures) (split-unknown (withTable m (a .nums) (a .rows .now)) f (a .party) (a .base) cells tags (a .len) (c .before .if1 .taken))
 
--- src/table_calls.rt:69:9
 split-requires : tie.Need-split-requires
 split-requires c κs = search needs
 
--- src/table_calls.rt:71:9
 coded-requires : tie.Need-coded-requires
 coded-requires c κs = search needs
 
--- src/table_calls.rt:62:1
 same-length : tie.Need-same-length
 same-length c = search needs
 
--- src/table_calls.rt:62:1
 returns-2 : tie.Need-returns-2
 returns-2 c =
     let a = c .before .before .before .before .before .before .before .args in

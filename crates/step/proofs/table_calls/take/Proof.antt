@@ -12,71 +12,55 @@ use Rattle.step.proofs.word_calls.granted.Reads as granted-reads
 use Rattle.words.proofs.registers.put_word.Reads as put-word-reads
 use Rattle.step.proofs.word_calls.refused.Reads as refused-reads
 
--- src/table_calls.rt:42:9
 refused-requires : tie.Need-refused-requires
 refused-requires c κs = search needs
 
--- src/table_calls.rt:42:9
 returns : tie.Need-returns
 returns c =
     let a = c .before .before .before .before .before .args in
     λ m ec f cells tags. rw (c .refused .ensures) (take-unknown (withRows (withWords m (a .words .now) (a .marks .now)) (a .rows .now)) f (a .count) ec (a .party) (a .base) (a .reg) cells tags (c .before .if1 .taken))
 
--- src/table_calls.rt:44:9
 take-requires : tie.Need-take-requires
 take-requires c κs = search needs
 
--- src/table_calls.rt:46:9
 refused-requires-2 : tie.Need-refused-requires-2
 refused-requires-2 c κs = search needs
 
--- src/table_calls.rt:46:9
 same-length : tie.Need-same-length
 same-length c = search needs
 
--- src/table_calls.rt:46:9
 returns-2 : tie.Need-returns-2
 returns-2 c =
     let a = c .before .before .before .before .before .before .before .before .before .before .before .args in
     λ m ec f cells tags. rw (c .refused2 .ensures) (take-down (withRows (withWords m (a .words .now) (a .marks .now)) (a .rows .now)) f (a .count) ec (a .party) (a .base) (a .reg) cells tags (c .before .before .before .before .before .before .before .if1 .left) _ _ (c .before .before .before .before .before .take .ensures .0) (c .before .if2 .taken))
 
--- src/table_calls.rt:48:14
 mul-at : tie.Need-mul-at
 mul-at c = search needs
 
--- src/table_calls.rt:48:14
 add-at : tie.Need-add-at
 add-at c = search needs
 
--- src/table_calls.rt:50:15
 capability-requires : tie.Need-capability-requires
 capability-requires c κs = search needs
 
--- src/table_calls.rt:53:5
 put-word-requires : tie.Need-put-word-requires
 put-word-requires c κs = search needs
 
--- src/table_calls.rt:55:15
 cast-t22 : tie.Need-cast-t22
 cast-t22 c = search needs
 
--- src/table_calls.rt:58:5
 granted-requires : tie.Need-granted-requires
 granted-requires c κs = search needs
 
--- src/table_calls.rt:30:1
 same-length-2 : tie.Need-same-length-2
 same-length-2 c = search needs
 
--- src/table_calls.rt:30:1
 same-length-3 : tie.Need-same-length-3
 same-length-3 c = search needs
 
--- src/table_calls.rt:30:1
 same-length-4 : tie.Need-same-length-4
 same-length-4 c = search needs
 
--- src/table_calls.rt:30:1
 returns-3 : tie.Need-returns-3
 returns-3 c =
     let a = c .before .before .before .before .before .before .before .before .before .before .before .before .before .before .before .before .before .before .before .before .args in

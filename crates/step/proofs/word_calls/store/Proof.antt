@@ -39,7 +39,7 @@ returns c =
     let base = c .before .before .before .before .base-of in
     let place = c .before .before .before .lookup in
     let code = c .before .before .store-code in
-    λ m ev eb el ep ew em f. rw (c .refused .ensures) (store-down m f (a .v) (a .range) (a .pages .now) (a .words .now) (a .marks .now) ev eb el ep ew em (a .party) (a .a) (a .off) (a .s) (to .result) (from .result) (place .result) (to .ensures) (from .ensures) (place .ensures ∙ ap (λ n. lookupIn (a .v) (a .pages .now) (n + a .off)) (base .ensures)) (code .result) (code .ensures) (a .cells .now) (a .tags .now) (c .before .if1 .taken))
+    λ m en ep ew em f. rw (c .refused .ensures) (store-down m f (a .nums) (a .pages .now) (a .words .now) (a .marks .now) en ep ew em (a .party) (a .a) (a .off) (a .s) (to .result) (from .result) (place .result) (to .ensures) (from .ensures) (place .ensures ∙ ap (λ n. lookupIn (a .nums .v) (a .pages .now) (n + a .off)) (base .ensures)) (code .result) (code .ensures) (a .cells .now) (a .tags .now) (c .before .if1 .taken))
 
 base-of-requires-2 : tie.Need-base-of-requires-2
 base-of-requires-2 c κs = search needs
@@ -80,8 +80,8 @@ returns-2 c =
     let place = c .before .before .before .before .before .before .before .before .before .before .before .before .before .before .before .lookup in
     let code = c .before .before .before .before .before .before .before .before .before .before .before .before .before .before .store-code in
     let put = c .before .before .before .before .before .before .put-word .ensures in
-    λ m ev eb el ep ew em f. rw (c .granted .ensures, c .before .empty .ensures, put .0, put .1, c .before .before .before .before .before .before .before .stored .ensures, c .before .before .before .before .before .before .before .before .before .before .before .inside .ensures, c .before .before .before .before .before .before .before .before .before .before .before .before .base-of2 .ensures, c .before .before .before .before .before .before .before .before .place-number .ensures)
-    (store-done m f (a .v) (a .range) (a .pages .now) (a .words .now) (a .marks .now) ev eb el ep ew em (a .party) (a .a) (a .off) (a .s) (to .result) (from .result) (place .result) (to .ensures) (from .ensures) (place .ensures ∙ ap (λ n. lookupIn (a .v) (a .pages .now) (n + a .off)) (base .ensures)) (code .result) (code .ensures) (a .cells .now) (a .tags .now) (c .before .before .before .before .before .before .before .before .before .before .before .before .before .if1 .left))
+    λ m en ep ew em f. rw (c .granted .ensures, c .before .empty .ensures, put .0, put .1, c .before .before .before .before .before .before .before .stored .ensures, c .before .before .before .before .before .before .before .before .before .before .before .inside .ensures, c .before .before .before .before .before .before .before .before .before .before .before .before .base-of2 .ensures, c .before .before .before .before .before .before .before .before .place-number .ensures)
+    (store-done m f (a .nums) (a .pages .now) (a .words .now) (a .marks .now) en ep ew em (a .party) (a .a) (a .off) (a .s) (to .result) (from .result) (place .result) (to .ensures) (from .ensures) (place .ensures ∙ ap (λ n. lookupIn (a .nums .v) (a .pages .now) (n + a .off)) (base .ensures)) (code .result) (code .ensures) (a .cells .now) (a .tags .now) (c .before .before .before .before .before .before .before .before .before .before .before .before .before .if1 .left))
 
 pub store-spec : {M : Type 1} → statement M
 store-spec =
