@@ -182,7 +182,8 @@ def try_fault(bench, fault):
 def main():
     with tempfile.TemporaryDirectory() as folder:
         bench = pathlib.Path(folder, "bench")
-        shutil.copytree(ROOT / "bench", bench, ignore=shutil.ignore_patterns("target"))
+        for name in ("bench", "rust"):  # bench names the crate in rust/, though the plain rules need it not
+            shutil.copytree(ROOT / name, pathlib.Path(folder, name), ignore=shutil.ignore_patterns("target"))
         if differing_sessions(bench) != set():
             sys.exit("sessions differ without a fault")
         caught = [try_fault(bench, fault) for fault in FAULTS]

@@ -89,13 +89,42 @@ class Words(unittest.TestCase):
         self.assertEqual(len(words), 1 + 16382 + 1)
         self.assertEqual(words[-1], "the input ends within command 07")
 
+
+class Explained(unittest.TestCase):
+    def explained(self, data, lines):
+        """Exit status, output and error text of tools/hex over these bytes and lines."""
+        with tempfile.NamedTemporaryFile() as held, tempfile.NamedTemporaryFile("w") as text:
+            held.write(bytes.fromhex(data))
+            held.flush()
+            text.write(lines)
+            text.flush()
+            command = [ROOT / "tools/hex", "--explain", held.name, text.name]
+            done = subprocess.run(command, capture_output=True, check=False)
+        return done.returncode, done.stdout.decode(), done.stderr.decode()
+
     def test_lines_stand_beside_their_calls(self):
-        with tempfile.NamedTemporaryFile("w") as lines:
-            lines.write("0 0 0\n11 0 0\n")
-            lines.flush()
-            status, output, _ = hex_tool("000101 0700 0700", "--explain", lines.name)
-        expected = "0 0 0   start with V 1 and F 1\n11 0 0  party 0 collects\n"
-        self.assertEqual((status, output.decode()), (0, expected))
+        lines = "0 0 0\n11 0 0\n"
+        expected = (
+            "0 0 0   start with V 1 and F 1\n"
+            "11 0 0  party 0 collects; refused: no revocation runs, or cells are left to sweep\n"
+        )
+        self.assertEqual(self.explained("000101 0700 0700", lines), (0, expected, ""))
+
+    def test_other_lines_stay(self):
+        lines = "0 0 0\n    a table's line, longer than the answers\n\n0 0 0\n"
+        expected = (
+            "0 0 0  start with V 1 and F 1\n    a table's line, longer than the answers\n\n"
+            "0 0 0  party 0 zeroes frame 0\n"
+        )
+        self.assertEqual(self.explained("000101 0A0000", lines), (0, expected, ""))
+
+    def test_answers_that_no_session_has(self):
+        for lines, fault in (
+            ("0 0 0\n0 0 0\n", "the answer '0 0 0' has no command"),
+            ("2 0 0\n", "start has no refusal 2"),
+        ):
+            status, _, error = self.explained("000101", lines)
+            self.assertEqual((status, error.strip()), (1, fault))
 
 
 if __name__ == "__main__":

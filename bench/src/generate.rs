@@ -83,7 +83,7 @@ fn damaged(random: &mut Random) -> Vec<u8> {
 }
 
 /// Writes calls and keeps the state that they lead to.
-struct Author {
+pub struct Author {
     random: Random,
     state: State,
     cells: Vec<u64>,
@@ -95,6 +95,19 @@ struct Author {
 }
 
 impl Author {
+    /// Calls without an end on one state, which has had its start.
+    pub fn begin(seed: u64, v: u16, f: u8) -> Author {
+        let mut author = Author::new(Random::new(seed), v, f);
+        author.written.clear();
+        author
+    }
+
+    /// The next calls, of `bytes` bytes or at most 500 more.
+    pub fn more(&mut self, bytes: usize) -> Vec<u8> {
+        self.write_calls(bytes);
+        std::mem::take(&mut self.written)
+    }
+
     fn new(mut random: Random, v: u16, f: u8) -> Author {
         let state = State::start(v, f).expect("the generator's sizes are in range");
         let lent = state.pages.lent_cells();
@@ -105,6 +118,11 @@ impl Author {
     }
 
     fn write(mut self, bytes: usize) -> Vec<u8> {
+        self.write_calls(bytes);
+        self.written
+    }
+
+    fn write_calls(&mut self, bytes: usize) {
         while self.written.len() < bytes {
             if self.random.one_in(40) {
                 self.mood = Mood::any(&mut self.random);
@@ -118,7 +136,6 @@ impl Author {
             };
             self.make(call);
         }
-        self.written
     }
 
     fn make(&mut self, call: Call) {

@@ -1,8 +1,13 @@
 //! Document 01's rules in plain Rust, written from the document alone, and what compares and times
-//! them against the proved library: a generator of sessions and a wrapper of the C boundary.
+//! them against the proved libraries, which the crate `cetomuhi` wraps.
 
 pub mod generate;
 pub mod hex;
+#[cfg(feature = "proved")]
+pub mod lent;
+#[cfg(feature = "proved")]
+pub mod odd;
+pub mod operands;
 pub mod plain;
 pub mod proved;
 pub mod tally;

@@ -1,16 +1,25 @@
-//! Stored sessions: those of ../sessions, or of the folder that SESSIONS names.
+//! Stored sessions: those of ../sessions and ../examples, or of the folder that SESSIONS names.
 
-use cetomuhi_bench::hex::stored_sessions;
+use cetomuhi_bench::hex::{stored_sessions, Stored};
 use cetomuhi_bench::plain::{session, session_checked};
 use std::path::Path;
 use std::{env, fs};
 
-const OWN: &str = concat!(env!("CARGO_MANIFEST_DIR"), "/../sessions");
+const OWN: [&str; 2] = [
+    concat!(env!("CARGO_MANIFEST_DIR"), "/../sessions"),
+    concat!(env!("CARGO_MANIFEST_DIR"), "/../examples"),
+];
+
+fn sessions() -> Vec<Stored> {
+    let named = env::var("SESSIONS").map(|folder| vec![folder]);
+    let folders = named.unwrap_or_else(|_| OWN.map(String::from).into());
+    let each = |folder: &String| stored_sessions(Path::new(folder)).expect("it can be read");
+    folders.iter().flat_map(each).collect()
+}
 
 #[test]
 fn every_stored_session_prints_its_lines() {
-    let folder = env::var("SESSIONS").unwrap_or(OWN.into());
-    let sessions = stored_sessions(Path::new(&folder)).expect("the folder can be read");
+    let sessions = sessions();
     assert!(!sessions.is_empty());
     for stored in sessions {
         assert!(session(&stored.input) == stored.lines, "{} differs", stored.name);
@@ -22,11 +31,10 @@ fn every_stored_session_prints_its_lines() {
 
 #[cfg(feature = "proved")]
 #[test]
-fn the_proved_library_prints_the_stored_lines() {
+fn the_proved_sessions_print_the_stored_lines() {
     use cetomuhi_bench::proved::{self, LINES_LIMIT};
-    let folder = env::var("SESSIONS").unwrap_or(OWN.into());
     let mut out = vec![0; LINES_LIMIT];
-    for stored in stored_sessions(Path::new(&folder)).expect("the folder can be read") {
+    for stored in sessions() {
         for run in [proved::session, proved::session_checked] {
             let written = run(&stored.input, &mut out).expect("the buffer holds all lines");
             assert!(out[..written] == stored.lines, "{} differs", stored.name);
@@ -34,10 +42,33 @@ fn the_proved_library_prints_the_stored_lines() {
     }
 }
 
+/// The same commands on a machine of the crate, one by one and in one run.
+#[cfg(feature = "proved")]
+#[test]
+fn the_library_answers_as_stored() {
+    use cetomuhi::Machine;
+    for Stored { name, input, lines } in sessions() {
+        let (v, f) = (u64::from(input[0]) << 8 | u64::from(input[1]), input[2].into());
+        let mut machine = Machine::start(v, f).expect("no stored session has a refused start");
+        let run = machine.commands(&input[3..]);
+        let mut single = Machine::start(v, f).expect("as above");
+        let (mut at, mut printed) = (3, String::from("0 0 0\n"));
+        for done in run.answers {
+            assert_eq!(single.command(&input, at), done, "{name}");
+            let answer = done.answer;
+            let tag = u8::from(answer.tag());
+            printed += &format!("{} {} {tag}\n", answer.code(), answer.number());
+            at += done.used;
+        }
+        assert_eq!(printed.as_bytes(), lines, "{name}");
+        assert!(single == machine && machine.is_well_formed(), "{name}");
+    }
+}
+
 /// A comment `# -> 0 16 0  words` holds the line that its command must print.
 #[test]
 fn the_lines_in_the_comments_are_the_stored_ones() {
-    for stored in stored_sessions(Path::new(OWN)).expect("the folder can be read") {
+    for stored in sessions() {
         let text = fs::read_to_string(&stored.name).unwrap();
         let comments = text.lines().filter_map(|line| line.split_once("# -> "));
         let lines = comments.map(|(_, rest)| rest.splitn(4, ' ').take(3).collect::<Vec<_>>());

@@ -45,6 +45,11 @@ impl Pages {
         }
     }
 
+    /// Any pages and frames, well formed or not.
+    pub fn of(v: u16, f: u8, pages: [Page; PAGES], frames: [FrameUse; FRAMES]) -> Pages {
+        Pages { page_count: v, frame_count: f, pages, frames }
+    }
+
     pub fn pages(&self) -> &[Page] {
         &self.pages[..usize::from(self.page_count)]
     }

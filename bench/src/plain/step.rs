@@ -45,6 +45,12 @@ impl Answer {
         Answer { code: 0, number, tag: false }
     }
 
+    /// The answer and the bytes used as four numbers.
+    #[inline]
+    pub fn numbers(self, used: usize) -> [u64; 4] {
+        [self.code.into(), self.number, self.tag.into(), used as u64]
+    }
+
     fn slot(slot: Slot) -> Answer {
         Answer { code: 0, number: slot.cell, tag: slot.tag }
     }
@@ -89,6 +95,37 @@ impl State {
             Some((call, used)) => (self.step(memory, call), used),
             None => (Refusal::NoCommand.into(), 0),
         }
+    }
+
+    /// Commands from the input's place on, the state tested once, as many as there is room for. Each
+    /// answer is four numbers: code, number, tag and bytes used. Answers how many were done, and
+    /// where the run stands: at the input's end, or where a refusal 1 to 3 ended it.
+    pub fn commands(
+        &mut self,
+        memory: &mut Memory,
+        input: &[u8],
+        mut place: usize,
+        answers: &mut [u64],
+    ) -> (usize, usize) {
+        let trusted = self.trusted(memory);
+        let mut done = 0;
+        for told in answers.chunks_exact_mut(4) {
+            let Some(rest) = input.get(place..).filter(|rest| !rest.is_empty()) else { break };
+            let (answer, used) = match trusted {
+                Err(refusal) => (refusal.into(), 0),
+                Ok(()) => match read(rest) {
+                    Some((call, used)) => (self.step(memory, call), used),
+                    None => (Refusal::NoCommand.into(), 0),
+                },
+            };
+            told.copy_from_slice(&answer.numbers(used));
+            done += 1;
+            place += used;
+            if used == 0 {
+                break;
+            }
+        }
+        (done, place)
     }
 
     /// One call, with refusals 1 and 2.

@@ -47,6 +47,11 @@ impl Table {
         Table { rows, count: 1 }
     }
 
+    /// Any rows, well formed or not; None if more are in use than there are.
+    pub fn of(rows: [Reservation; ROWS], count: usize) -> Option<Table> {
+        (count <= ROWS).then_some(Table { rows, count })
+    }
+
     pub fn rows(&self) -> &[Reservation] {
         &self.rows[..self.count]
     }

@@ -8,9 +8,9 @@ use lib.ListN.{length, getD, List·getD-map}
 use Rattle.pages.specs.Pages.{PageEntry}
 use Rattle.pages.specs.Pages.{FrameEntry}
 use Rattle.pages.specs.Layer.{pageAt, frameAt}
-use Rattle.reservations.proofs.Sound as sound
-use Rattle.revocation.specs.Core.{Core}
-use Rattle.revocation.proofs.CoreKept.{core-facts}
+use Rattle.table.proofs.Sound as sound
+use Rattle.reservations.specs.Core.{Core}
+use Rattle.reservations.proofs.CoreKept.{core-facts}
 use Rattle.words.specs.declared.Slot.{Slot}
 use Rattle.words.specs.Words.{byteOf}
 use Rattle.machine.specs.State.{State}
@@ -18,7 +18,7 @@ use Rattle.machine.proofs.Keeps.{facts, arrays}
 use Rattle.arrays.specs.declared.Numbers.{Numbers}
 use Rattle.arrays.specs.declared.Arrays.{Arrays}
 use Rattle.pages.specs.Numbers.{pageFrom, frameFrom}
-use Rattle.reservations.specs.Numbers.{stateFrom, rowFrom, rowCode}
+use Rattle.table.specs.Numbers.{stateFrom, rowFrom, rowCode}
 use Rattle.words.specs.Lent.{slotsOf}
 use Rattle.pages.specs.Numbers.{pageIn, frameIn}
 use Rattle.arrays.specs.Reading.{coreOf, stateOf, arraysOf, Formed}

@@ -3,3 +3,4 @@ pub mod RoundTrip
 pub mod Facts
 pub mod Writing
 pub mod Ruling
+pub mod Starting

@@ -10,21 +10,21 @@ use borrow.Author.Tests.{eqb-true, ltb-true, leb-true}
 use Rattle.capabilities.specs.Lists.{pick}
 use Rattle.capabilities.proofs.Choice.{and-left, and-right}
 use Rattle.pages.proofs.Reading.{pages-back, frames-back}
-use Rattle.reservations.specs.declared.ReservationState.{ReservationState}
-use Rattle.reservations.specs.declared.ReservationState.the-variants.{Open, Taken, Revoking}
-use Rattle.reservations.specs.declared.Reservation.{Reservation}
-use Rattle.reservations.specs.Table.{Table}
-use Rattle.reservations.specs.Rows.{isOpen, isBlank, blank, reservation, stateNumber, live, table}
-use Rattle.reservations.specs.Tiling.{tiles, allBlank, tableSound}
-use Rattle.reservations.proofs.Sound.{Sound, sound, rows-parts}
-use Rattle.reservations.proofs.Tiled.{tiles-begin, row-holder}
-use Rattle.revocation.specs.Core.{Core}
-use Rattle.revocation.specs.Revocation.{core}
-use Rattle.revocation.proofs.CoreKept.{core-facts}
+use Rattle.table.specs.declared.ReservationState.{ReservationState}
+use Rattle.table.specs.declared.ReservationState.the-variants.{Open, Taken, Revoking}
+use Rattle.table.specs.declared.Reservation.{Reservation}
+use Rattle.table.specs.Table.{Table}
+use Rattle.table.specs.Rows.{isOpen, isBlank, blank, reservation, stateNumber, live, table}
+use Rattle.table.specs.Tiling.{tiles, allBlank, tableSound}
+use Rattle.table.proofs.Sound.{Sound, sound, rows-parts}
+use Rattle.table.proofs.Tiled.{tiles-begin, row-holder}
+use Rattle.reservations.specs.Core.{Core}
+use Rattle.reservations.specs.Revocation.{core}
+use Rattle.reservations.proofs.CoreKept.{core-facts}
 use Rattle.machine.specs.State.{State}
 use Rattle.machine.specs.Formed as rules
 use Rattle.machine.proofs.Keeps.{facts}
-use Rattle.reservations.specs.Numbers.{stateFrom, rowFrom, rowCode}
+use Rattle.table.specs.Numbers.{stateFrom, rowFrom, rowCode}
 use Rattle.words.specs.Lent.{slotsOf}
 use Rattle.pages.specs.Numbers.{pageIn, frameIn}
 use Rattle.arrays.specs.Reading.{numbersOf, coreOf, stateOf, arraysOf, Formed}

@@ -10,19 +10,19 @@ use Rattle.pages.specs.Pages.{PageEntry}
 use Rattle.pages.specs.Pages.{FrameEntry}
 use Rattle.pages.specs.Entries.{pageEntry, frameEntry}
 use Rattle.pages.specs.Layer.{withPage, withFrame}
-use Rattle.reservations.specs.declared.Reservation.{Reservation}
-use Rattle.reservations.specs.Table.{Table}
-use Rattle.reservations.specs.declared.Found.the-variants.{At, Nowhere}
-use Rattle.reservations.specs.Find.{withRow}
-use Rattle.revocation.specs.Core.{Core}
-use Rattle.revocation.specs.Revocation.{core, revoked}
+use Rattle.table.specs.declared.Reservation.{Reservation}
+use Rattle.table.specs.Table.{Table}
+use Rattle.table.specs.declared.Found.the-variants.{At, Nowhere}
+use Rattle.table.specs.Find.{withRow}
+use Rattle.reservations.specs.Core.{Core}
+use Rattle.reservations.specs.Revocation.{core, revoked}
 use Rattle.words.specs.declared.Slot.{Slot}
 use Rattle.words.specs.Words.{byteOf}
 use Rattle.machine.specs.State.{State}
 use Rattle.machine.specs.Step.{withCore}
 use Rattle.arrays.specs.declared.Arrays.{Arrays}
 use Rattle.pages.specs.Numbers.{pageCode, frameCode}
-use Rattle.reservations.specs.Numbers.{rowCode}
+use Rattle.table.specs.Numbers.{rowCode}
 use Rattle.words.specs.Lent.{cellsOf, bytesOf}
 use Rattle.arrays.specs.Reading.{numbersOf, stateOf, arraysOf}
 use Rattle.arrays.specs.Steps.{withWords, withMail, withPages, withMails, withTable, counted}

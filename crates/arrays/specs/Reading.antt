@@ -3,9 +3,9 @@ use Prim.Native.Nat.{ℕ}
 use mathlib.Core.Bool.{Bool, true}
 use mathlib.Core.List.{List, map}
 use mathlib.Core.Path.{_≡_}
-use Rattle.reservations.specs.Rows.{table}
-use Rattle.revocation.specs.Core.{Core}
-use Rattle.revocation.specs.Revocation.{core, revoked}
+use Rattle.table.specs.Rows.{table}
+use Rattle.reservations.specs.Core.{Core}
+use Rattle.reservations.specs.Revocation.{core, revoked}
 use Rattle.words.specs.declared.Slot.{Slot}
 use Rattle.words.specs.Words.{byteOf}
 use Rattle.machine.specs.State.{State}
@@ -13,7 +13,7 @@ use Rattle.machine.specs.Formed.{wellFormed}
 use Rattle.arrays.specs.declared.Numbers.{Numbers}
 use Rattle.arrays.specs.declared.Arrays.{Arrays}
 use Rattle.pages.specs.Numbers.{pageCode, frameCode, pageIn, frameIn, layerOf}
-use Rattle.reservations.specs.Numbers.{rowFrom, rowCode}
+use Rattle.table.specs.Numbers.{rowFrom, rowCode}
 use Rattle.words.specs.Lent.{slotsOf, cellsOf, bytesOf}
 
 abbrev pub arrays : Numbers → List ℕ → List ℕ → List ℕ → List ℕ → List ℕ → List ℕ → List ℕ → Arrays

@@ -11,8 +11,8 @@ use Rattle.calls.specs.declared.Reading.{Reading}
 use Rattle.calls.specs.declared.Reading.the-variants.{Read, Refused}
 
 -- The first byte; 0, which is no command, where there is none.
-abbrev pub first : List ℕ → ℕ
-first s = getD s 0 0
+abbrev pub firstByte : List ℕ → ℕ
+firstByte s = getD s 0 0
 
 -- The first byte is a command, and the input holds all of it.
 unfoldable pub whole : List ℕ → Bool
@@ -21,7 +21,7 @@ whole (k ∷ s) = ltb 0 (lengthOf k) && leb (lengthOf k) (length (k ∷ s))
 
 -- A call and the bytes it used, or the refusal.
 unfoldable pub readOf : List ℕ → Reading
-readOf s = pick (whole s) (Read (callAt (first s) s) (lengthOf (first s))) Refused
+readOf s = pick (whole s) (Read (callAt (firstByte s) s) (lengthOf (firstByte s))) Refused
 
 -- A refusal's number and the bytes used.
 pub record Answer : Type 0 where
@@ -42,4 +42,4 @@ answerOf Refused = refused
 -- What reading `s` promises of its answer.
 pub record Reads (s : List ℕ) (r : Reading) : Type 0 where
   pub is : r ≡ readOf s
-  pub numbers : answerOf r ≡ pick (whole s) (granted (lengthOf (first s))) refused
+  pub numbers : answerOf r ≡ pick (whole s) (granted (lengthOf (firstByte s))) refused

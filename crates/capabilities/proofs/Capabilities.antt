@@ -19,9 +19,9 @@ module _ (base length permissions : ℕ) (b : base < 65536) (l : length < 65536)
   made-small = omega arith
 
 -- The same of a narrowed one, whose permissions are among those it was narrowed from and among the mask's.
-module _ (c off len mask : ℕ) (l : len < 65536) (m : mask < 256) where
+module _ (c off len mask : ℕ) (l : len < 65536) where
   among : bitAnd (permissionsOf c) mask < 256
-  among = omega (arith, and-le-r (permissionsOf c) mask)
+  among = omega (arith, and-le-l (permissionsOf c) mask)
 
   start : (baseOf c + off) % 65536 < 65536
   start = omega arith

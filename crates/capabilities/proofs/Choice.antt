@@ -1,9 +1,11 @@
 -- Laws of `pick`: what a choice by a test comes to, once the test is known. Assumes nothing.
-use Prim.Native.Nat.{_≤_}
+use Prim.Native.Nat.{ℕ, _≤_}
 use native.Mathlib.Omega.{arith}
 use mathlib.Core.Bool.{Bool, true, false, _&&_, _||_, true≢false, false≢true}
 use mathlib.Core.Path.{_≡_, refl, sym}
+use borrow.Author.Tests.{ne-eqb}
 use mir.Val.{boolByte}
+use lib.Dec.{eqb}
 use Rattle.capabilities.specs.Lists.{pick}
 
 module _ {ℓ} {A : Type ℓ} where
@@ -14,6 +16,10 @@ module _ {ℓ} {A : Type ℓ} where
   pub pick-no : (b : Bool) (x y : A) → b ≡ false → pick b x y ≡ y
   pick-no true x y e = absurd (true≢false e)
   pick-no false x y e = refl
+
+  -- What a code other than 0 chooses.
+  pub kept : (code : ℕ) (x y : A) → (code ≡ 0 → ⊥) → pick (eqb code 0) x y ≡ y
+  kept code x y z = pick-no (eqb code 0) x y (ne-eqb code 0 z)
 
   pub pick-twice : (b : Bool) (x : A) → pick b x x ≡ x
   pick-twice true x = refl

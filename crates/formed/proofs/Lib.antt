@@ -1,3 +1,4 @@
 pub mod Freed
 pub mod Revocation
 pub mod Tested
+pub mod Starting

@@ -8,13 +8,13 @@ use Rattle.capabilities.specs.Lists.{pick, each}
 use Rattle.capabilities.proofs.Choice.{pick-yes, pick-no}
 use Rattle.pages.specs.Freed.{freedIn, allFreed}
 use Rattle.pages.specs.Numbers.{pageIn}
-use Rattle.reservations.specs.declared.Reservation.{Reservation}
-use Rattle.reservations.specs.declared.Found.{Found}
-use Rattle.reservations.specs.Rows.{rangeOf}
-use Rattle.reservations.specs.Find.{missing, revokingOf, rowOf}
-use Rattle.reservations.specs.Numbers.{tableOf}
-use Rattle.revocation.specs.Core.{Core}
-use Rattle.revocation.specs.Revocation.{running, revoked, wholePages, revocationSound}
+use Rattle.table.specs.declared.Reservation.{Reservation}
+use Rattle.table.specs.declared.Found.{Found}
+use Rattle.table.specs.Rows.{rangeOf}
+use Rattle.table.specs.Find.{missing, revokingOf, rowOf}
+use Rattle.table.specs.Numbers.{tableOf}
+use Rattle.reservations.specs.Core.{Core}
+use Rattle.reservations.specs.Revocation.{running, revoked, wholePages, revocationSound}
 use Rattle.arrays.specs.declared.Numbers.{Numbers}
 use Rattle.arrays.specs.Reading.{coreOf}
 use Rattle.formed.specs.Test.{cached}

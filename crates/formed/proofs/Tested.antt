@@ -15,14 +15,14 @@ use Rattle.pages.specs.Pages.{FrameEntry}
 use Rattle.pages.specs.Layer.{wellFormed}
 use Rattle.pages.proofs.Formed as layer
 use Rattle.pages.specs.Numbers.{pageFrom, pageCode, frameFrom, frameCode, pageIn, frameIn, layerOf, pageKept, frameKept, layerSound}
-use Rattle.reservations.specs.Tiling.{tableSound}
-use Rattle.reservations.proofs.Truth.{both}
-use Rattle.reservations.specs.Numbers.{rowFrom, rowCode, tableOf, allWritten}
-use Rattle.reservations.specs.Sound.{soundNumbers}
-use Rattle.reservations.proofs.Numbers.{read-sized}
-use Rattle.reservations.proofs.RoundTrip.{AllSized, numbers-back, rows-written}
-use Rattle.revocation.specs.Revocation.{revoked, revocationSound}
-use Rattle.revocation.proofs.CoreKept.{core-facts, core-made}
+use Rattle.table.specs.Tiling.{tableSound}
+use Rattle.table.proofs.Truth.{both}
+use Rattle.table.specs.Numbers.{rowFrom, rowCode, tableOf, allWritten}
+use Rattle.table.specs.Sound.{soundNumbers}
+use Rattle.table.proofs.Numbers.{read-sized}
+use Rattle.table.proofs.RoundTrip.{AllSized, numbers-back, rows-written}
+use Rattle.reservations.specs.Revocation.{revoked, revocationSound}
+use Rattle.reservations.proofs.CoreKept.{core-facts, core-made}
 use Rattle.words.specs.declared.Slot.{Slot}
 use Rattle.words.specs.Words.{slot, tagOf, byteOf}
 use Rattle.words.specs.Lent.{slotsOf, cellsOf, bytesOf, bit, mailboxSound}

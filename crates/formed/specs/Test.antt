@@ -6,14 +6,14 @@ use mathlib.Core.Path.{_≡_}
 use lib.ListN.{length}
 use lib.Dec.{eqb}
 use Rattle.capabilities.specs.Lists.{each}
-use Rattle.revocation.specs.Core.{Core}
-use Rattle.revocation.specs.Revocation.{revoked, revocationSound}
+use Rattle.reservations.specs.Core.{Core}
+use Rattle.reservations.specs.Revocation.{revoked, revocationSound}
 use Rattle.words.specs.Lent.{bit}
 use Rattle.machine.specs.Formed.{wellFormed}
 use Rattle.arrays.specs.declared.Arrays.{Arrays}
 use Rattle.arrays.specs.declared.Numbers.{Numbers}
 use Rattle.pages.specs.Numbers.{pageKept, frameKept}
-use Rattle.reservations.specs.Numbers.{allWritten}
+use Rattle.table.specs.Numbers.{allWritten}
 use Rattle.arrays.specs.Reading.{coreOf, stateOf}
 
 -- The arrays have the lengths of the machine.

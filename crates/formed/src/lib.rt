@@ -3,12 +3,12 @@ use arrays::Numbers;
 use capabilities::Range;
 use capabilities::ranges::inside;
 use pages::sound::layer_sound;
-use reservations::find::revoking;
-use reservations::find::row_in;
-use reservations::row::missing;
-use reservations::tiling::well_formed;
-use revocation::range_of;
-use revocation::whole_pages;
+use reservations::range_of;
+use reservations::whole_pages;
+use table::find::revoking;
+use table::find::row_in;
+use table::row::missing;
+use table::tiling::well_formed;
 use words::registers::bits;
 use words::registers::mailboxes_sound;
 ghost use mathlib.Core.Path.{_≡_};
@@ -20,6 +20,8 @@ ghost use Rattle.pages.specs.Freed.{freedIn};
 ghost use Rattle.pages.specs.Numbers.{pageIn};
 ghost use Rattle.arrays.specs.Reading.{arrays};
 ghost use Rattle.formed.specs.Test.{RevocationKept, formedOf};
+
+pub mod fresh;
 
 // A page of the range is Freed; one outside may be anything.
 fn freed_in(range: Range, page: usize, number: u16) -> bool

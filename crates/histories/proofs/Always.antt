@@ -15,7 +15,7 @@ use Rattle.pages.specs.declared.Place.the-variants.{At}
 use Rattle.pages.specs.Entries.{pageEntry, frameEntry}
 use Rattle.pages.specs.Layer.{pageAt, frameAt, freshOf, inRange, blank}
 use Rattle.pages.specs.Mapping.{lookupOf}
-use Rattle.revocation.specs.Revocation.{freshCore}
+use Rattle.reservations.specs.Revocation.{freshCore}
 use Rattle.calls.specs.declared.Call.{Call}
 use Rattle.words.specs.Words.{empty}
 use Rattle.machine.specs.Formed.{fresh, startOf}

@@ -10,21 +10,16 @@ use Rattle.capabilities.specs.declared.Range.{Range}
 use Rattle.capabilities.specs.Range.{inside}
 use Rattle.capabilities.specs.Refusals.{first}
 use Rattle.capabilities.proofs.Refusals.{first-clear}
-use Rattle.reservations.specs.declared.Reservation.{Reservation}
-use Rattle.reservations.specs.declared.ReservationState.the-variants.{Taken}
-use Rattle.reservations.specs.Table.{Table}
-use Rattle.reservations.specs.Find.{rowOf, findOf}
-use Rattle.reservations.specs.Operations.{takeReasons, takeOf, takenRow, splitReasons, splitOf, mergeReasons, mergeOf, giveReasons, giveOf}
-use Rattle.reservations.specs.Rows.{isOpen, live, rangeOf, reservation}
-use Rattle.reservations.proofs.After.{take-after, split-after, merge-after, give-after}
-use Rattle.reservations.proofs.Answers.{split-clear, split-fits}
-use Rattle.reservations.proofs.Cells.{inside-made, no-shared-cell}
-use Rattle.reservations.proofs.Kept.{row-live}
-use Rattle.reservations.proofs.Sound.{sound}
-use Rattle.reservations.proofs.Tiled.{tiled-row, tiled-next, tiled-fits, row-some}
-use Rattle.revocation.specs.Revocation.{revoked, revokeReasons, revokeOf, coreSound}
-use Rattle.revocation.proofs.CoreAfter.{revoke-after}
-use Rattle.revocation.proofs.CoreKept.{CoreFacts, core-facts}
+use Rattle.table.specs.declared.Reservation.{Reservation}
+use Rattle.table.specs.declared.ReservationState.the-variants.{Taken}
+use Rattle.table.specs.Table.{Table}
+use Rattle.table.specs.Operations.{takeReasons, takeOf, takenRow, splitReasons, splitOf, mergeReasons, mergeOf, giveReasons, giveOf}
+use Rattle.table.specs.Rows.{isOpen, live, rangeOf, reservation}
+use Rattle.table.proofs.Cells.{inside-made, no-shared-cell}
+use Rattle.table.proofs.Sound.{sound}
+use Rattle.table.proofs.Tiled.{tiled-row, row-some}
+use Rattle.reservations.specs.Revocation.{revoked, revokeReasons, revokeOf, coreSound}
+use Rattle.reservations.proofs.CoreKept.{CoreFacts, core-facts}
 use Rattle.calls.specs.declared.Call.{Call}
 use Rattle.calls.specs.declared.Call.the-variants.{Take, Split, Merge, Give, Revoke, Sweep, Collect, Map, Unmap, Zero, Load, Store, Narrow, Number, Grant, Receive}
 use Rattle.words.specs.WordReasons.{unnamed, notManager}
@@ -35,7 +30,8 @@ use Rattle.machine.specs.Step.{done, reasonsOn, effectOn}
 use Rattle.histories.specs.Runs.{Machine, Granted, next, run}
 use Rattle.histories.specs.Inv.{rowAt}
 use Rattle.histories.specs.Lending.{lentRange, Ended, EndedBetween}
-use Rattle.histories.proofs.Table.{Around, Carried, inside-wider, take-carried, give-carried, split-carried, merge-carried, revoke-carried, collect-kept}
+use Rattle.histories.proofs.Table.{Around, Carried, inside-wider, collect-kept}
+use Rattle.histories.proofs.Carrying.{take-kept, split-kept, merge-kept, give-kept, revoke-kept}
 use Rattle.histories.proofs.Granted.{Went, went, went-or-not, went-next, went-core}
 use Rattle.histories.proofs.Calls.{Ends, row-first}
 use Rattle.histories.proofs.Lending.{Lends, lends}
@@ -56,49 +52,24 @@ module _ (s : State) (ok : coreSound (s .core) ≡ true) where
   abbrev t : Table
   t = s .core .table
 
-  abbrev size : ℕ
-  size = 16 * s .core .pages .v
-
-  facts : CoreFacts (s .core)
-  facts = core-facts (s .core) ok
-
-  row-fits : (i : ℕ) → i < length (live t) → rowAt t i .base + rowAt t i .length < 65536
-  row-fits i h = omega (arith, facts .fits, tiled-fits size (live t) 0 i (sound size t (facts .rows) .tiled) h)
-
   pub call-carried : (call : Call) → first (reasonsOn s call) ≡ 0 → Carried t (effectOn s call .core .table) ⊎ IsCollect call
   unfolding reasons effect
   call-carried (Take p base reg) z =
       let clear = first-clear 4 (unnamed p || unnamed reg) (takeReasons t p base) (λ x. omega arith) z .1 in
-      let code : takeOf t p base .code ≡ 0 = unfold takeOf in clear in
-      let (i, o, r) = take-after size t (facts .rows) p base code in
-      inl (take-carried t (takeOf t p base .table) p base i o r)
+      inl (take-kept (s .core) ok p base (unfold takeOf in clear))
   call-carried (Split p base len) z =
       let clear = first-clear 4 (unnamed p) (splitReasons t p base len) (λ x. omega arith) z .1 in
-      let code : splitOf t p base len .code ≡ 0 = unfold splitOf in clear in
-      let (i, o, r) = split-after size t (facts .rows) p base len code in
-      let h : i < length (live t) = omega (arith, r .within) in
-      let fits = split-fits (rowOf t (findOf t p base)) len (split-clear t (findOf t p base) len (unfold splitReasons in clear) .fits) in
-      let row : rowOf t (findOf t p base) ≡ rowAt t i = ap (rowOf t) (r .found) ∙ row-live t i h in
-      inl (split-carried t (splitOf t p base len .table) p base i len (row-fits i h) o r (subst (λ x. len ≤ x .length) row fits))
+      inl (split-kept (s .core) ok p base len (unfold splitOf in clear))
   call-carried (Merge p base) z =
       let clear = first-clear 4 (unnamed p) (mergeReasons t p base) (λ x. omega arith) z .1 in
-      let code : mergeOf t p base .code ≡ 0 = unfold mergeOf in clear in
-      let (i, same, r) = merge-after size t (facts .rows) p base code in
-      let h : i + 1 < length (live t) = omega (arith, r .within) in
-      let n : i + 1 ≡ suc i = omega arith in
-      let seam : rowAt t (i + 1) .base ≡ rowAt t i .base + rowAt t i .length = ap (λ k. rowAt t k .base) n ∙ tiled-next size (live t) 0 i (sound size t (facts .rows) .tiled) (omega arith) in
-      inl (merge-carried t (mergeOf t p base .table) p base i seam (omega (arith, row-fits (i + 1) h)) same r)
+      inl (merge-kept (s .core) ok p base (unfold mergeOf in clear))
   call-carried (Give p base to) z =
       let clear = first-clear 4 (unnamed p || unnamed to) (giveReasons t p base) (λ x. omega arith) z .1 in
-      let code : giveOf t p base to .code ≡ 0 = unfold giveOf in clear in
-      let (i, o, r) = give-after size t (facts .rows) p base to code in
-      inl (give-carried t (giveOf t p base to .table) p base i to o r)
+      inl (give-kept (s .core) ok p base to (unfold giveOf in clear))
   call-carried (Revoke p base) z =
       let one = first-clear 4 (unnamed p) _ (λ x. omega arith) z in
       let clear = first-clear 5 (notManager p) (revokeReasons (s .core) p base) (λ x. omega arith) (one .1) .1 in
-      let code : revokeOf (s .core) p base .code ≡ 0 = unfold revokeOf in clear in
-      let (i, r) = revoke-after (s .core) ok p base code in
-      inl (revoke-carried t (revokeOf (s .core) p base .core .table) p base i r)
+      inl (revoke-kept (s .core) ok p base (unfold revokeOf in clear))
   call-carried (Sweep p n) z = inl (carried-self t)
   call-carried (Collect p) z = inr (p, refl)
   call-carried (Map p page frame) z = inl (carried-self t)
@@ -179,17 +150,21 @@ pub went-granted : (m : Machine) (c : Call) → Went m c → Granted m c
 unfolding done
 went-granted m c w = ap (λ o. o .answer .code) (w .now)
 
-pub run-lent : (calls : List Call) (m : Machine) (r : Reservation) → Around (m .state .core .table) r → Around (run m calls .state .core .table) r ⊎ Ended m calls (rangeOf r)
+-- What a step keeps or ends, a history keeps or ends.
+pub run-until : (P : Machine → Type 0) (r : Reservation) → ((m : Machine) (c : Call) → P m → P (next m c) ⊎ Ending m c r) → (calls : List Call) (m : Machine) → P m → P (run m calls) ⊎ Ended m calls (rangeOf r)
 unfolding run
-run-lent [] m r a = inl a
-run-lent (c ∷ calls) m r a =
+run-until P r step [] m a = inl a
+run-until P r step (c ∷ calls) m a =
     ⊎-elim
     (λ b.
     ⊎-elim inl
     (λ e. inr (record { before = c ∷ e .before; party = e .party; after = e .after; are = ap (λ l. c ∷ l) (e .are); granted = e .granted; from = e .from; upto = e .upto }))
-    (run-lent calls (next m c) r b))
+    (run-until P r step calls (next m c) b))
     (λ e. inr (record { before = []; party = e .party; after = calls; are = ap (λ x. x ∷ calls) (e .is); granted = went-granted m (Collect (e .party)) (e .granted); from = e .from; upto = e .upto }))
-    (step-lent m c r a)
+    (step m c a)
+
+pub run-lent : (calls : List Call) (m : Machine) (r : Reservation) → Around (m .state .core .table) r → Around (run m calls .state .core .table) r ⊎ Ended m calls (rangeOf r)
+run-lent calls m r a = run-until (λ n. Around (n .state .core .table) r) r (λ n c b. step-lent n c r b) calls m a
 
 abbrev lentAs : Range → Reservation
 lentAs r = reservation (r .base) (r .length) Taken 0

@@ -29,28 +29,27 @@ use Rattle.pages.proofs.AllFreed.{freed-none-mapped}
 use Rattle.pages.proofs.Formed.{Sound as Layered, sound as layered}
 use Rattle.pages.proofs.Kept.{mappable, unmappable}
 use Rattle.pages.proofs.States.{is-dirty}
-use Rattle.reservations.specs.declared.Found.{Found}
-use Rattle.reservations.specs.declared.Found.the-variants.{At as Row, Nowhere as NoRow}
-use Rattle.reservations.specs.declared.Reservation.{Reservation}
-use Rattle.reservations.specs.Table.{Table}
-use Rattle.reservations.specs.Find.{findOf, rowOf, withRow, revokingOf, missing}
-use Rattle.reservations.specs.Operations.{takeReasons, takeOf, takenRow, splitReasons, splitOf, lowerPart, upperPart, mergeReasons, mergeOf, joined, giveReasons, giveOf, givenRow}
-use Rattle.reservations.specs.Rows.{isOpen, isRevoking, held, blank, live, rangeOf}
-use Rattle.reservations.proofs.After.{Replaced, take-after, give-after, split-after, merge-after}
-use Rattle.reservations.proofs.Answers.{split-clear, split-fits}
-use Rattle.reservations.proofs.Cells.{inside-made, no-shared-cell}
-use Rattle.reservations.proofs.Unrevoked.{with-live}
-use Rattle.reservations.proofs.Dying.{dyings}
-use Rattle.reservations.proofs.Finding.{found-at}
-use Rattle.reservations.proofs.Kept.{row-live, open-still}
-use Rattle.reservations.proofs.Sound.{sound}
-use Rattle.reservations.proofs.Tiled.{tiled-row, tiled-next, tiled-fits, row-some}
-use Rattle.reservations.proofs.Truth.{and-yes}
-use Rattle.revocation.specs.Core.{Core}
-use Rattle.revocation.specs.Revocation.{core, running, revoked, dying, wholePages, revokeReasons, revokeAt, revokeOf, collectReasons, collectedRow, collected, collectOf, coreSound, revocationSound}
-use Rattle.revocation.proofs.CoreAfter.{revoke-after, dying-inside}
-use Rattle.revocation.proofs.CoreKept.{CoreFacts, core-facts}
-use Rattle.revocation.proofs.Revocations.{collected-at, collect-clear, freed-while}
+use Rattle.table.specs.declared.Found.{Found}
+use Rattle.table.specs.declared.Found.the-variants.{At as Row, Nowhere as NoRow}
+use Rattle.table.specs.declared.Reservation.{Reservation}
+use Rattle.table.specs.Table.{Table}
+use Rattle.table.specs.Find.{findOf, rowOf, withRow, revokingOf, missing}
+use Rattle.table.specs.Operations.{takeReasons, takeOf, takenRow, splitReasons, splitOf, lowerPart, upperPart, mergeReasons, mergeOf, joined, giveReasons, giveOf, givenRow}
+use Rattle.table.specs.Rows.{isOpen, isRevoking, held, blank, live, rangeOf}
+use Rattle.table.proofs.After.{Replaced, take-after, give-after, split-after, merge-after}
+use Rattle.table.proofs.Cells.{inside-made, no-shared-cell}
+use Rattle.table.proofs.Unrevoked.{with-live}
+use Rattle.table.proofs.Dying.{dyings}
+use Rattle.table.proofs.Finding.{found-at}
+use Rattle.table.proofs.Kept.{row-live, open-still}
+use Rattle.table.proofs.Sound.{sound}
+use Rattle.table.proofs.Tiled.{tiled-row, row-some}
+use Rattle.table.proofs.Truth.{and-yes}
+use Rattle.reservations.specs.Core.{Core}
+use Rattle.reservations.specs.Revocation.{core, running, revoked, dying, wholePages, revokeReasons, revokeAt, revokeOf, collectReasons, collectedRow, collected, collectOf, coreSound, revocationSound}
+use Rattle.reservations.proofs.CoreAfter.{dying-inside}
+use Rattle.reservations.proofs.CoreKept.{CoreFacts, core-facts}
+use Rattle.reservations.proofs.Revocations.{collected-at, collect-clear, freed-while}
 use Rattle.calls.specs.declared.Call.{Call}
 use Rattle.calls.specs.declared.Call.the-variants.{Take, Split, Merge, Give, Revoke, Sweep, Collect, Map, Unmap, Zero, Load, Store, Narrow, Number, Grant, Receive}
 use Rattle.words.specs.declared.Slot.{Slot}
@@ -65,7 +64,8 @@ use Rattle.machine.specs.Step.{done, reasonsOn, effectOn, registersAfter, mailb
 use Rattle.histories.specs.Runs.{Machine, machine}
 use Rattle.histories.specs.Inv.{rowAt, Confined, Sound, Memory, Inv}
 use Rattle.histories.proofs.View.{put-each, collected-registers, collected-mailboxes, seen}
-use Rattle.histories.proofs.Table.{Carried, long, mid-row, take-carried, give-carried, split-carried, merge-carried, revoke-carried, dies-same, dyings-one, dyings-two, open-no-dying, alike-still}
+use Rattle.histories.proofs.Table.{Carried, long, mid-row, take-carried, dies-same, dyings-one, dyings-two, open-no-dying, alike-still}
+use Rattle.histories.proofs.Carrying.{row-fits, split-kept, merge-kept, give-kept, revoke-kept}
 use Rattle.histories.proofs.Keep.{Blank, none-sound, carried-sound, place-sound, place-below, keep-table, keep-begun, keep-pages, keep-write, keep-clear, keep-sweep, collect-sound, keep-ended}
 use Rattle.histories.proofs.Granted.{handed}
 use Rattle.histories.proofs.Layer.{map-done, map-view, map-free, unmap-done, unmap-view, unmap-free, freed-shows, freed-free, released-shows, released-free, none-shown}
@@ -112,7 +112,7 @@ made-confined t i base len permissions used lent small short few from upto some 
     at-most-15 : (n : ℕ) → n ≤ 15 → n < 256
     at-most-15 n h = omega arith
 
-less-of : (n : ℕ) → n / 65536 % 65536 < 65536
+pub less-of : (n : ℕ) → n / 65536 % 65536 < 65536
 less-of n = omega arith
 
 le-below : (a b n : ℕ) → a + b ≤ n → n < 65536 → b < 65536
@@ -149,11 +149,11 @@ pub take-length : (t : Table) (p base : ℕ) → takeOf t p base .code ≡ 0 →
 unfolding takeOf
 take-length t p base z = pick-yes (eqb (first (takeReasons t p base)) 0) (rowOf t (findOf t p base) .length) 0 (eq-eqb (first (takeReasons t p base)) 0 z)
 
-not-none : (n : ℕ) → (n ≡ 0 → ⊥) → 1 ≤ n
+pub not-none : (n : ℕ) → (n ≡ 0 → ⊥) → 1 ≤ n
 not-none n h = omega (arith, h)
 
 -- A place that is not nowhere.
-found : (c : Core) (w : Slot) (off : ℕ) → nowhere (addressed c w off) ≡ false → lookupOf (c .pages) (baseOf (w .cell) + off) ≡ At (placeNumber (addressed c w off))
+pub found : (c : Core) (w : Slot) (off : ℕ) → nowhere (addressed c w off) ≡ false → lookupOf (c .pages) (baseOf (w .cell) + off) ≡ At (placeNumber (addressed c w off))
 unfolding addressed
 found c w off e = go (lookupOf (c .pages) (baseOf (w .cell) + off)) e
   where
@@ -161,7 +161,7 @@ found c w off e = go (lookupOf (c .pages) (baseOf (w .cell) + off)) e
     go (At at) q = refl
     go Nowhere q = absurd (true≢false q)
 
-revoke-parts : (c : Core) (p base : ℕ) → revokeOf c p base .code ≡ 0 → revokeOf c p base .core ≡ core (freedOf (c .pages) (rangeOf (rowOf (c .table) (findOf (c .table) p base)))) (revokeOf c p base .core .table) 0
+pub revoke-parts : (c : Core) (p base : ℕ) → revokeOf c p base .code ≡ 0 → revokeOf c p base .core ≡ core (freedOf (c .pages) (rangeOf (rowOf (c .table) (findOf (c .table) p base)))) (revokeOf c p base .core .table) 0
 unfolding revokeOf revokeAt
 revoke-parts c p base z =
     let e = pick-yes (eqb (first (revokeReasons c p base)) 0) (revokeAt c (findOf (c .table) p base)) c (eq-eqb (first (revokeReasons c p base)) 0 z) in
@@ -175,6 +175,7 @@ revoked-row c = refl
 pub record Ends (c : Core) : Type 0 where
   pub row : ℕ
   pub used : row < length (live (c .table))
+  pub dies : isRevoking (rowAt (c .table) row .state) ≡ true
   pub range : revoked c ≡ rangeOf (rowAt (c .table) row)
   pub now : live (collectOf c .core .table) ≡ take row (live (c .table)) ++ collectedRow (rowAt (c .table) row) ∷ drop (row + 1) (live (c .table))
   pub parts : collectOf c .core ≡ core (releasedOf (c .pages) (revoked c)) (collectOf c .core .table) 0
@@ -219,6 +220,7 @@ ends c ok z = go (revokingOf (c .table)) refl
         record {
           row = i;
           used = here .0;
+          dies = here .1;
           range = revoked-row c ∙ ap (λ r. rangeOf r) row;
           now =
               ap (λ x. live (x .table)) (p ∙ collected-at c (Row i) e) ∙ ap (λ r. live (withRow t (Row i) (collectedRow r))) (row-live t i (here .0))
@@ -251,10 +253,6 @@ module _ (s : State) (cells tags : List ℕ) (inv : Inv (machine s cells tags)) 
 
     layer : Layered (s .core .pages)
     layer = layered (s .core .pages) (facts .layer)
-
-    -- Rows end at the last cell.
-    row-fits : (i : ℕ) → i < length (live t) → rowAt t i .base + rowAt t i .length < 65536
-    row-fits i h = omega (arith, facts .fits, tiled-fits size (live t) 0 i (sound size t (facts .rows) .tiled) h)
 
     row-long : (i : ℕ) → i < length (live t) → 0 < rowAt t i .length
     row-long i h = row-some (rowAt t i) (tiled-row size (live t) 0 i (sound size t (facts .rows) .tiled) h)
@@ -289,7 +287,7 @@ module _ (s : State) (cells tags : List ℕ) (inv : Inv (machine s cells tags)) 
         let j = table-change u k d in
         let (used, row) = row-first t u p base i 1 (takenRow (rowAt t i)) [] r in
         let start : rowAt t i .base ≡ base = eqb-true (rowAt t i .base) base (and-left (eqb (rowAt t i .base) base) (held (rowAt t i) p) (r .named)) in
-        let fits = row-fits i h in
+        let fits = row-fits c ok i h in
         let some = row-long i h in
         let b : rowAt u i .base ≡ rowAt t i .base = ap (λ x. x .base) row in
         let l : rowAt u i .length ≡ rowAt t i .length = ap (λ x. x .length) row in
@@ -316,9 +314,7 @@ module _ (s : State) (cells tags : List ℕ) (inv : Inv (machine s cells tags)) 
         let u = splitOf t p base len .table in
         let (i, o, r) = split-after size t (facts .rows) p base len code in
         let h : i < length (live t) = omega (arith, r .within) in
-        let fits = split-fits (rowOf t (findOf t p base)) len (split-clear t (findOf t p base) len (unfold splitReasons in clear) .fits) in
-        let row : rowOf t (findOf t p base) ≡ rowAt t i = ap (rowOf t) (r .found) ∙ row-live t i h in
-        table-change u (split-carried t u p base i len (row-fits i h) o r (subst (λ x. len ≤ x .length) row fits))
+        table-change u (split-kept c ok p base len code)
         (dies-same c (core (c .pages) u (c .place))
         (dyings-one t u i (lowerPart (rowAt t i) len ∷ upperPart (rowAt t i) len ∷ []) h (r .now) (open-still (rowAt t i .state) o) (unfold dyings in refl)))
 
@@ -330,10 +326,8 @@ module _ (s : State) (cells tags : List ℕ) (inv : Inv (machine s cells tags)) 
         let u = mergeOf t p base .table in
         let (i, same, r) = merge-after size t (facts .rows) p base code in
         let h : i + 1 < length (live t) = omega (arith, r .within) in
-        let n : i + 1 ≡ suc i = omega arith in
-        let seam : rowAt t (i + 1) .base ≡ rowAt t i .base + rowAt t i .length = ap (λ k. rowAt t k .base) n ∙ tiled-next size (live t) 0 i (sound size t (facts .rows) .tiled) (omega arith) in
         let still = alike-still (rowAt t i .state) (rowAt t (i + 1) .state) same in
-        table-change u (merge-carried t u p base i seam (omega (arith, row-fits (i + 1) h)) same r)
+        table-change u (merge-kept c ok p base code)
         (dies-same c (core (c .pages) u (c .place))
         (dyings-two t u i (joined (rowAt t i) (rowAt t (i + 1)) ∷ []) h (r .now) (still .0) (still .1) (open-no-dying (joined (rowAt t i) (rowAt t (i + 1))) (still .0))))
 
@@ -346,7 +340,7 @@ module _ (s : State) (cells tags : List ℕ) (inv : Inv (machine s cells tags)) 
         let (i, o, r) = give-after size t (facts .rows) p base to code in
         let h : i < length (live t) = omega (arith, r .within) in
         let still = open-still (rowAt t i .state) o in
-        table-change u (give-carried t u p base i to o r)
+        table-change u (give-kept c ok p base to code)
         (dies-same c (core (c .pages) u (c .place)) (dyings-one t u i (givenRow (rowAt t i) to ∷ []) h (r .now) still (open-no-dying (givenRow (rowAt t i) to) still)))
 
     -- 0D narrow, 0E number, 0F grant, 10 receive.
@@ -477,8 +471,7 @@ module _ (s : State) (cells tags : List ℕ) (inv : Inv (machine s cells tags)) 
         let code : revokeOf c p base .code ≡ 0 = unfold revokeOf in clear in
         let u = revokeOf c p base .core .table in
         let range = rangeOf (rowOf t (findOf t p base)) in
-        let (i, r) = revoke-after c ok p base code in
-        let k = revoke-carried t u p base i r in
+        let k = revoke-kept c ok p base code in
         let pages = keep-pages c cells tags (inv .memory) (freedOf (c .pages) range) (λ v at e. inl (freed-shows (c .pages) layer range v at e)) (freed-free (c .pages) layer range) in
         record {
           registers = λ i. carried-sound t u (getD (s .registers) i empty) k (inv .registers i);

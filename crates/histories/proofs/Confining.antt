@@ -8,11 +8,11 @@ use lib.Dec.{eqb}
 use lib.ListN.{length, getD}
 use Rattle.capabilities.specs.Capability.{baseOf, lengthOf}
 use Rattle.capabilities.specs.Range.{inside}
-use Rattle.reservations.specs.Table.{Table}
-use Rattle.reservations.specs.Rows.{isOpen, live, rangeOf}
-use Rattle.reservations.proofs.Cells.{inside-made, no-shared-cell}
-use Rattle.revocation.specs.Revocation.{coreSound}
-use Rattle.revocation.proofs.CoreKept.{core-facts}
+use Rattle.table.specs.Table.{Table}
+use Rattle.table.specs.Rows.{isOpen, live, rangeOf}
+use Rattle.table.proofs.Cells.{inside-made, no-shared-cell}
+use Rattle.reservations.specs.Revocation.{coreSound}
+use Rattle.reservations.proofs.CoreKept.{core-facts}
 use Rattle.words.specs.Words.{empty, tagOf, wordAt}
 use Rattle.histories.specs.Runs.{Machine}
 use Rattle.histories.specs.Live.{Spot, register, mailbox, virtual, Live, wordIn, NoneInto}

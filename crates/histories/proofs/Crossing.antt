@@ -10,7 +10,7 @@ use Rattle.pages.specs.Mapping.{lookupOf, mapReasons}
 use Rattle.pages.proofs.Formed.{sound as layered}
 use Rattle.pages.proofs.Kept.{mappable}
 use Rattle.pages.proofs.Shows.{map-shows}
-use Rattle.revocation.proofs.CoreKept.{core-facts}
+use Rattle.reservations.proofs.CoreKept.{core-facts}
 use Rattle.calls.specs.declared.Call.the-variants.{Map}
 use Rattle.words.specs.WordReasons.{unnamed, notManager}
 use Rattle.machine.specs.Effects.{effect}

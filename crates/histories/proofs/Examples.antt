@@ -1,79 +1,143 @@
--- One history of fourteen calls, by computing: each is granted, so no theorem here holds for want of a case. Assumes nothing.
+-- Histories by computing, each call with what is seen after it: every call is granted, so no theorem here holds for want of a case.
+-- Two wrong machines stand beside the rule, so that a tag is seen to survive. Assumes nothing.
 use Prim.Native.Nat.{ℕ}
+use mathlib.Core.Bool.{Bool, true, _&&_}
 use mathlib.Core.List.{List, [], _∷_, map}
 use mathlib.Core.Path.{_≡_, refl}
-use lib.ListN.{length, getD, replicate}
-use Rattle.capabilities.specs.Lists.{each, mapEach}
-use Rattle.capabilities.specs.Range.{inside}
-use Rattle.capabilities.specs.Refusals.{first}
-use Rattle.pages.specs.Freed.{freedIn, allFreed}
-use Rattle.pages.specs.Layer.{pageAt, frameAt, withPage, withFrame, freshOf, mappings, pageSound, frameSound, wellFormed as pages-wellFormed}
-use Rattle.pages.specs.Mapping.{mapReasons, mapped, mapOf, unmapReasons, soiled, unmapped, unmapOf, dirtyReasons, cleared, lookupOf, notMappedIn, anyMapped, freedEntry, freedOf, releasedEntry, releasedOf}
-use Rattle.sweep.specs.Sweep.{passed, sweptTag, sweptTags}
-use Rattle.reservations.specs.Find.{seek, findOf, nextOf, revokingOf, rowOf, withRow}
-use Rattle.reservations.specs.Operations.{openReasons, takeReasons, takeOf, splitReasonsAt, splitReasons, splitAt, splitOf, mergeable, mergeReasonsAt, mergeReasons, mergeAt, mergeOf, giveReasons, giveOf}
-use Rattle.reservations.specs.Rows.{live, splice, spread, gather}
-use Rattle.reservations.specs.Tiling.{tiles, allBlank, revokings, sized, tableSound, freshTable}
-use Rattle.revocation.specs.Revocation.{freshCore, running, revoked, dying, revokeReasonsAt, revokeReasons, revokeAt, revokeOf, collectReasons, collected, collectOf, revocationSound, coreSound}
+use lib.ListN.{length, replicate}
+use Rattle.capabilities.specs.declared.Range.{Range}
+use Rattle.pages.specs.Pages.{Pages}
+use Rattle.sweep.specs.Sweep.{Passed, passing, sweepOf}
+use Rattle.table.specs.Rows.{live}
 use Rattle.calls.specs.declared.Call.{Call}
 use Rattle.calls.specs.declared.Call.the-variants.{Take, Split, Merge, Revoke, Sweep, Collect, Map, Unmap, Zero, Store, Grant, Receive}
 use Rattle.calls.specs.Commands.{page, frame}
-use Rattle.words.specs.Words.{empty, byteOf, registerOf, mailboxOf, wordAt}
-use Rattle.machine.specs.State.{Answered}
-use Rattle.machine.specs.Effects.{effect}
-use Rattle.machine.specs.Formed.{mailboxesSound, wellFormed, fresh, startOf}
-use Rattle.machine.specs.Reasons.{addressed, reasons}
-use Rattle.machine.specs.Step.{registersAfter, mailboxesAfter, cellsAfter, tagsAfter, wordAfter, done, ruled, judged, stepOf}
-use Rattle.histories.specs.Runs.{outcome, next, run, answers, begun}
-use Rattle.histories.specs.Runs.{Machine, Begins}
+use Rattle.words.specs.Words.{byteOf}
+use Rattle.machine.specs.Edges.{same, all}
+use Rattle.machine.specs.Formed.{startOf}
+use Rattle.machine.specs.Step.{stepOf}
+use Rattle.machine.specs.WrongMachines.{Rule, instead, sweepBy, storeBy, untouched}
+use Rattle.machine.proofs.Computing.{computing}
+use Rattle.histories.specs.Runs.{Machine, machine, begun, Begins}
+use Rattle.histories.specs.Live.{Spot, register, virtual, wordIn}
 
 -- Two virtual pages and one frame, whose memory is not 0 and all tagged.
-pub start : Machine
+unfoldable pub start : Machine
 start = begun 2 1 (replicate 16 7) (replicate 16 1)
-
-pub calls : List Call
-calls =
-    Zero 0 (frame 0)
-    ∷ Map 0 (page 0) (frame 0)
-    ∷ Split 0 0 16
-    ∷ Take 0 0 0
-    ∷ Store 0 0 3 0
-    ∷ Grant 0 0 1
-    ∷ Receive 1 0
-    ∷ Unmap 0 (page 0)
-    ∷ Revoke 0 0 ∷ Sweep 0 16 ∷ Collect 0 ∷ Zero 0 (frame 0) ∷ Map 0 (page 0) (frame 0) ∷ Take 0 0 1 ∷ []
-
--- An answer's code, and whether registers 0 and 1 of party 0 and register 0 of party 1 then hold capabilities.
-pub told : Answered → List ℕ
-told a = a .code ∷ byteOf (getD (a .state .registers) 0 empty .tag) ∷ byteOf (getD (a .state .registers) 1 empty .tag) ∷ byteOf (getD (a .state .registers) 8 empty .tag) ∷ []
-
--- Every call is granted. Two registers hold capabilities into the range when its collect comes, and none after it, until it is taken again.
-pub all-granted :
-    map told (answers start calls)
-    ≡ (0 ∷ 0 ∷ 0 ∷ 0 ∷ [])
-    ∷ (0 ∷ 0 ∷ 0 ∷ 0 ∷ [])
-    ∷ (0 ∷ 0 ∷ 0 ∷ 0 ∷ [])
-    ∷ (0 ∷ 1 ∷ 0 ∷ 0 ∷ [])
-    ∷ (0 ∷ 1 ∷ 0 ∷ 0 ∷ [])
-    ∷ (0 ∷ 1 ∷ 0 ∷ 0 ∷ [])
-    ∷ (0 ∷ 1 ∷ 0 ∷ 1 ∷ [])
-    ∷ (0 ∷ 1 ∷ 0 ∷ 1 ∷ [])
-    ∷ (0 ∷ 1 ∷ 0 ∷ 1 ∷ [])
-    ∷ (0 ∷ 1 ∷ 0 ∷ 1 ∷ [])
-    ∷ (0 ∷ 0 ∷ 0 ∷ 0 ∷ [])
-    ∷ (0 ∷ 0 ∷ 0 ∷ 0 ∷ [])
-    ∷ (0 ∷ 0 ∷ 0 ∷ 0 ∷ [])
-    ∷ (0 ∷ 0 ∷ 1 ∷ 0 ∷ [])
-    ∷ []
-unfolding start calls told outcome next run answers begun effect mailboxesSound wellFormed fresh startOf addressed reasons registersAfter mailboxesAfter cellsAfter tagsAfter wordAfter done ruled judged stepOf registerOf mailboxOf wordAt seek findOf nextOf revokingOf rowOf withRow openReasons takeReasons takeOf splitReasonsAt splitReasons splitAt splitOf mergeable mergeReasonsAt mergeReasons mergeAt mergeOf giveReasons giveOf freshCore running revoked dying revokeReasonsAt revokeReasons revokeAt revokeOf collectReasons collected collectOf revocationSound coreSound live splice spread gather tiles allBlank revokings sized tableSound freshTable freedIn allFreed pageAt frameAt withPage withFrame freshOf mappings pageSound frameSound pages-wellFormed each mapEach mapReasons mapped mapOf unmapReasons soiled unmapped unmapOf dirtyReasons cleared lookupOf notMappedIn anyMapped freedEntry freedOf releasedEntry releasedOf inside first passed sweptTag sweptTags
-all-granted = refl
-
--- All reservations are Open and party 0's after the split, two of them; a merge leads back to one.
-pub merged : map (λ a. a .code ∷ length (live (a .state .core .table)) ∷ []) (answers start (Split 0 0 16 ∷ Merge 0 0 ∷ [])) ≡ (0 ∷ 2 ∷ []) ∷ (0 ∷ 1 ∷ []) ∷ []
-unfolding start outcome next run answers begun effect mailboxesSound wellFormed fresh startOf addressed reasons registersAfter mailboxesAfter cellsAfter tagsAfter wordAfter done ruled judged stepOf registerOf mailboxOf wordAt seek findOf nextOf revokingOf rowOf withRow openReasons takeReasons takeOf splitReasonsAt splitReasons splitAt splitOf mergeable mergeReasonsAt mergeReasons mergeAt mergeOf giveReasons giveOf freshCore running revoked dying revokeReasonsAt revokeReasons revokeAt revokeOf collectReasons collected collectOf revocationSound coreSound live splice spread gather tiles allBlank revokings sized tableSound freshTable freedIn allFreed pageAt frameAt withPage withFrame freshOf mappings pageSound frameSound pages-wellFormed each mapEach mapReasons mapped mapOf unmapReasons soiled unmapped unmapOf dirtyReasons cleared lookupOf notMappedIn anyMapped freedEntry freedOf releasedEntry releasedOf inside first passed sweptTag sweptTags
-merged = refl
 
 -- The start is granted, over memory of the right size.
 pub begins : Begins 2 1 (replicate 16 7) (replicate 16 1)
 unfolding startOf
 begins = record { granted = refl; of-cells = refl; of-tags = refl }
+
+-- A call, with its code, how many reservations there are after it, and which of some spots then hold a capability.
+pub record Noted : Type 0 where
+  pub call : Call
+  pub seen : List ℕ
+
+abbrev pub note : Call → List ℕ → Noted
+note c seen = record { call = c; seen = seen }
+
+-- A history from the start on: the machine that is run, the spots that are looked at, and the calls.
+pub record History : Type 0 where
+  pub step : Rule
+  pub spots : List Spot
+  pub calls : List Noted
+
+abbrev pub looked : List Spot → Machine → List ℕ
+looked spots m = length (live (m .state .core .table)) ∷ map (λ x. byteOf (wordIn m x .tag)) spots
+
+unfoldable pub follows : Rule → List Spot → Machine → List Noted → Bool
+follows step spots m [] = true
+follows step spots m (n ∷ l) =
+    let o = step (m .state) (n .call) (m .cells) (m .tags) in
+    let after = machine (o .answer .state) (o .cells) (o .tags) in
+    same (o .answer .code ∷ looked spots after) (n .seen) && follows step spots after l
+
+unfoldable pub happens : History → Bool
+happens h = follows (h .step) (h .spots) start (h .calls)
+
+-- Registers 0 and 1 of party 0 and register 0 of party 1 are looked at. Two of them hold capabilities into the range when its
+-- collect comes, and none after it, until it is taken again.
+abbrev pub again : History
+again =
+    record {
+      step = stepOf;
+      spots = register 0 ∷ register 1 ∷ register 8 ∷ [];
+      calls =
+          note (Zero 0 (frame 0)) (0 ∷ 1 ∷ 0 ∷ 0 ∷ 0 ∷ [])
+          ∷ note (Map 0 (page 0) (frame 0)) (0 ∷ 1 ∷ 0 ∷ 0 ∷ 0 ∷ [])
+          ∷ note (Split 0 0 16) (0 ∷ 2 ∷ 0 ∷ 0 ∷ 0 ∷ [])
+          ∷ note (Take 0 0 0) (0 ∷ 2 ∷ 1 ∷ 0 ∷ 0 ∷ [])
+          ∷ note (Store 0 0 3 0) (0 ∷ 2 ∷ 1 ∷ 0 ∷ 0 ∷ [])
+          ∷ note (Grant 0 0 1) (0 ∷ 2 ∷ 1 ∷ 0 ∷ 0 ∷ [])
+          ∷ note (Receive 1 0) (0 ∷ 2 ∷ 1 ∷ 0 ∷ 1 ∷ [])
+          ∷ note (Unmap 0 (page 0)) (0 ∷ 2 ∷ 1 ∷ 0 ∷ 1 ∷ [])
+          ∷ note (Revoke 0 0) (0 ∷ 2 ∷ 1 ∷ 0 ∷ 1 ∷ [])
+          ∷ note (Sweep 0 16) (0 ∷ 2 ∷ 1 ∷ 0 ∷ 1 ∷ [])
+          ∷ note (Collect 0) (0 ∷ 2 ∷ 0 ∷ 0 ∷ 0 ∷ [])
+          ∷ note (Zero 0 (frame 0)) (0 ∷ 2 ∷ 0 ∷ 0 ∷ 0 ∷ [])
+          ∷ note (Map 0 (page 0) (frame 0)) (0 ∷ 2 ∷ 0 ∷ 0 ∷ 0 ∷ [])
+          ∷ note (Take 0 0 1) (0 ∷ 2 ∷ 0 ∷ 1 ∷ 0 ∷ [])
+          ∷ [];
+    }
+
+-- All reservations are Open and party 0's after the split, two of them; a merge leads back to one.
+abbrev pub merged : History
+merged = record { step = stepOf; spots = []; calls = note (Split 0 0 16) (0 ∷ 2 ∷ []) ∷ note (Merge 0 0) (0 ∷ 1 ∷ []) ∷ [] }
+
+-- Party 0 takes cells 0 to 15 into register 0, and 16 to 31, which the frame shows, into register 1; it stores the first capability
+-- at virtual cell 19, and cells 0 to 15 are revoked. Virtual cells 18 and 19 and register 0 are looked at.
+abbrev pub revoking : Rule → List Noted → History
+revoking step rest =
+    record {
+      step = step;
+      spots = virtual 18 ∷ virtual 19 ∷ register 0 ∷ [];
+      calls =
+          note (Zero 0 (frame 0)) (0 ∷ 1 ∷ 0 ∷ 0 ∷ 0 ∷ [])
+          ∷ note (Map 0 (page 1) (frame 0)) (0 ∷ 1 ∷ 0 ∷ 0 ∷ 0 ∷ [])
+          ∷ note (Split 0 0 16) (0 ∷ 2 ∷ 0 ∷ 0 ∷ 0 ∷ [])
+          ∷ note (Take 0 0 0) (0 ∷ 2 ∷ 0 ∷ 0 ∷ 1 ∷ [])
+          ∷ note (Take 0 16 1) (0 ∷ 2 ∷ 0 ∷ 0 ∷ 1 ∷ [])
+          ∷ note (Store 0 1 3 0) (0 ∷ 2 ∷ 0 ∷ 1 ∷ 1 ∷ [])
+          ∷ note (Revoke 0 0) (0 ∷ 2 ∷ 0 ∷ 1 ∷ 1 ∷ [])
+          ∷ rest;
+    }
+
+-- The sweep takes the tag of cell 19. Behind its place the capability is stored again, at cell 18, and the filter takes its tag. So
+-- after the collect there is none.
+abbrev pub taken : History
+taken =
+    revoking stepOf
+    (note (Sweep 0 8) (0 ∷ 2 ∷ 0 ∷ 0 ∷ 1 ∷ [])
+    ∷ note (Store 0 1 2 0) (0 ∷ 2 ∷ 0 ∷ 0 ∷ 1 ∷ [])
+    ∷ note (Sweep 0 8) (0 ∷ 2 ∷ 0 ∷ 0 ∷ 1 ∷ [])
+    ∷ note (Collect 0) (0 ∷ 2 ∷ 0 ∷ 0 ∷ 0 ∷ [])
+    ∷ [])
+
+-- A sweep that clears nothing, and answers as the rule does: the tag of cell 19 survives the collect.
+unfoldable pub clearsNothing : Pages → Range → ℕ → ℕ → List ℕ → List ℕ → Passed
+clearsNothing s r place n cells tags = passing (sweepOf s r place n cells tags .answer) tags
+
+abbrev pub unswept : History
+unswept =
+    revoking (sweepBy clearsNothing)
+    (note (Sweep 0 8) (0 ∷ 2 ∷ 0 ∷ 1 ∷ 1 ∷ [])
+    ∷ note (Store 0 1 2 0) (0 ∷ 2 ∷ 0 ∷ 1 ∷ 1 ∷ [])
+    ∷ note (Sweep 0 8) (0 ∷ 2 ∷ 0 ∷ 1 ∷ 1 ∷ [])
+    ∷ note (Collect 0) (0 ∷ 2 ∷ 0 ∷ 1 ∷ 0 ∷ [])
+    ∷ [])
+
+-- A store without the filter: the tag of cell 18 survives the collect.
+abbrev pub unfiltered : History
+unfiltered =
+    revoking (storeBy untouched)
+    (note (Sweep 0 8) (0 ∷ 2 ∷ 0 ∷ 0 ∷ 1 ∷ [])
+    ∷ note (Store 0 1 2 0) (0 ∷ 2 ∷ 1 ∷ 0 ∷ 1 ∷ [])
+    ∷ note (Sweep 0 8) (0 ∷ 2 ∷ 1 ∷ 0 ∷ 1 ∷ [])
+    ∷ note (Collect 0) (0 ∷ 2 ∷ 1 ∷ 0 ∷ 0 ∷ [])
+    ∷ [])
+
+pub all-happen : all happens (again ∷ merged ∷ taken ∷ unswept ∷ unfiltered ∷ []) ≡ true
+unfolding all happens follows same start begun instead sweepBy storeBy clearsNothing computing
+all-happen = refl

@@ -11,12 +11,13 @@ use lib.ListN.{length}
 use Rattle.capabilities.specs.Refusals.{first}
 use Rattle.capabilities.proofs.Choice.{pick-yes}
 use Rattle.pages.specs.Layer.{serves, inRange, freshOf, blank}
-use Rattle.reservations.proofs.Truth.{both}
-use Rattle.revocation.specs.Revocation.{freshCore}
+use Rattle.table.proofs.Truth.{both}
+use Rattle.reservations.specs.Revocation.{freshCore, coreSound}
+use Rattle.reservations.proofs.CoreKept.{CoreFacts, core-facts}
 use Rattle.calls.specs.declared.Call.{Call}
 use Rattle.machine.specs.Formed.{startOf, fresh}
 use Rattle.machine.specs.Step.{reasonsOn, stepOf, judged, ruled}
-use Rattle.machine.proofs.Keeps.{step-keeps, start-formed}
+use Rattle.machine.proofs.Keeps.{facts, step-keeps, start-formed}
 use Rattle.machine.proofs.Lengths.{step-sized}
 use Rattle.machine.proofs.Unchanged.{Same, step-same}
 use Rattle.machine.proofs.Lowest.{first-within, reasons-rise, ruled-code}
@@ -66,6 +67,12 @@ standing-begun v f cells tags b =
 pub always-formed : AlwaysFormed
 always-formed m r =
     subst (λ n. Standing n (r .v) (r .f)) (sym (r .is)) (standing-run (r .calls) (begun (r .v) (r .f) (r .cells) (r .tags)) (r .v) (r .f) (standing-begun (r .v) (r .f) (r .cells) (r .tags) (r .begins)))
+
+pub standing-core : (m : Machine) (v f : ℕ) → Standing m v f → coreSound (m .state .core) ≡ true
+standing-core m v f k = facts (m .state) (k .formed) .core
+
+pub standing-facts : (m : Machine) (v f : ℕ) → Standing m v f → CoreFacts (m .state .core)
+standing-facts m v f k = core-facts (m .state .core) (standing-core m v f k)
 
 pub standing-serves : (m : Machine) (v f : ℕ) → Standing m v f → serves (m .state .core .pages) (length (m .cells)) (length (m .tags)) ≡ true
 standing-serves m v f k =

@@ -20,7 +20,7 @@ use Rattle.pages.specs.Entries.{isShown, isDirty, isUnmapped, maps, pageEntry, 
 use Rattle.pages.specs.Layer.{pageAt, frameAt, mappings, pageSound, frameSound}
 use Rattle.pages.specs.Mapping.{lookupOf}
 use Rattle.pages.proofs.Formed.{Sound as Layered, sound as layered, mapped-once}
-use Rattle.revocation.proofs.CoreKept.{core-facts}
+use Rattle.reservations.proofs.CoreKept.{core-facts}
 use Rattle.machine.proofs.Keeps.{facts}
 use Rattle.histories.specs.Confining.{FrameTagsAreBits}
 use Rattle.histories.proofs.View.{looked}

@@ -11,7 +11,7 @@ use Rattle.capabilities.specs.Refusals.{first}
 use Rattle.capabilities.proofs.Choice.{and-left}
 use Rattle.pages.specs.Layer.{serves}
 use Rattle.pages.proofs.Memory.{served}
-use Rattle.revocation.specs.Revocation.{coreSound}
+use Rattle.reservations.specs.Revocation.{coreSound}
 use Rattle.calls.specs.declared.Call.{Call}
 use Rattle.machine.specs.Formed.{wellFormed, mailboxesSound, sized}
 use Rattle.machine.specs.Step.{Outcome, done, reasonsOn, effectOn, ruled, judged, stepOf}

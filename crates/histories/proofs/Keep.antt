@@ -26,12 +26,12 @@ use Rattle.pages.proofs.View.{frame-kept, page-of-frame}
 use Rattle.sweep.specs.Sweep.{sweptTags, shownAt}
 use Rattle.sweep.proofs.Sweeping.{length-swept}
 use Rattle.sweep.proofs.Sweeps.{swept-less, swept-clean}
-use Rattle.reservations.specs.Table.{Table}
-use Rattle.reservations.specs.Rows.{isOpen, live, rangeOf}
-use Rattle.reservations.proofs.Cells.{inside-made}
-use Rattle.revocation.specs.Core.{Core}
-use Rattle.revocation.specs.Revocation.{core, running, revoked, dying, collectedRow}
-use Rattle.revocation.proofs.CoreAfter.{dying-inside}
+use Rattle.table.specs.Table.{Table}
+use Rattle.table.specs.Rows.{isOpen, live, rangeOf}
+use Rattle.table.proofs.Cells.{inside-made}
+use Rattle.reservations.specs.Core.{Core}
+use Rattle.reservations.specs.Revocation.{core, running, revoked, dying, collectedRow}
+use Rattle.reservations.proofs.CoreAfter.{dying-inside}
 use Rattle.words.specs.declared.Slot.{Slot}
 use Rattle.words.specs.Words.{slot, empty, byteOf, tagOf, wordAt}
 use Rattle.histories.specs.Live.{wordOf, shown}
@@ -125,6 +125,14 @@ module _ (c : Core) (cells tags : List ℕ) (m : Memory c cells tags) where
     pub place-below : (v at : ℕ) → Seen (c .pages) v at → at < 16 * c .pages .f
     place-below v at k = omega (arith, seen-low (c .pages) ok v at k, k .place)
 
+    -- What holds of a word that is written and of the old word at a place holds of the new one there.
+    pub write-word : (at : ℕ) (w : Slot) → at < 16 * c .pages .f → (P : Slot → Type 0) (a : ℕ) → P w → P (wordAt cells tags a) → P (wordAt (set cells at (w .cell)) (set tags at (byteOf (w .tag))) a)
+    write-word at w low P a new old = go (eqb a at) refl
+      where
+        go : (b : Bool) → eqb a at ≡ b → P (wordAt (set cells at (w .cell)) (set tags at (byteOf (w .tag))) a)
+        go true b = subst P (sym (ap (wordAt (set cells at (w .cell)) (set tags at (byteOf (w .tag)))) (eqb-true a at b) ∙ written-here cells tags at w (omega (arith, low)) (omega (arith, low)))) new
+        go false b = subst P (sym (written-other cells tags at w a (eqb-false a at b))) old
+
     -- A word written to a Mapped cell of a lent range.
     pub keep-write : (v at : ℕ) (w : Slot) → lookupOf (c .pages) v ≡ At at → Sound (c .table) w → (w .tag ≡ true → dying c (w .cell) ≡ false)
         → ((i : ℕ) → i < length (live (c .table)) → isOpen (rowAt (c .table) i .state) ≡ true → inside (rangeOf (rowAt (c .table) i)) v ≡ true → ⊥)
@@ -156,11 +164,7 @@ module _ (c : Core) (cells tags : List ℕ) (m : Memory c cells tags) where
         low = place-below v at here
 
         word : (P : Slot → Type 0) (a : ℕ) → P w → P (wordAt cells tags a) → P (wordAt cells′ tags′ a)
-        word P a new old = go (eqb a at) refl
-          where
-            go : (b : Bool) → eqb a at ≡ b → P (wordAt cells′ tags′ a)
-            go true b = subst P (sym (ap (wordAt cells′ tags′) (eqb-true a at b) ∙ written-here cells tags at w (omega (arith, low)) (omega (arith, low)))) new
-            go false b = subst P (sym (written-other cells tags at w a (eqb-false a at b))) old
+        word P a new old = write-word at w low P a new old
 
         same : (x a : ℕ) → lookupOf (c .pages) x ≡ At a → a ≡ at → x ≡ v
         same x a q r = seen-once (c .pages) ok v at here x (subst (Seen (c .pages) x) r (seen (c .pages) x a q))
@@ -175,6 +179,20 @@ module _ (c : Core) (cells tags : List ℕ) (m : Memory c cells tags) where
         byte : (a : ℕ) (b : Bool) → eqb a at ≡ b → getD tags a 0 ≤ 1 → getD tags′ a 0 ≤ 1
         byte a true b old = rw (eqb-true a at b, getD-set-same tags at (byteOf (w .tag)) 0 (omega (arith, low))) (at-most (w .tag))
         byte a false b old = rw (getD-set-other tags at a (byteOf (w .tag)) 0 (eqb-false a at b)) old
+
+    -- Clearing a Dirty frame changes no Mapped cell.
+    pub clear-other : (f : Frame) → f .0 < c .pages .f → frameAt (c .pages) (f .0) ≡ Dirty → (l : List ℕ) → length l ≡ 16 * c .pages .f → (v at : ℕ) → lookupOf (c .pages) v ≡ At at → getD (cleared f l) at 0 ≡ getD l at 0
+    clear-other f low dirty l size v at e =
+        let k = seen (c .pages) v at e in
+        let n : k .frame .0 ≡ f .0 → ⊥ = λ q.
+        let z : Dirty ≡ Shown = sym dirty ∙ ap (frameAt (c .pages)) (sym q) ∙ seen-shown (c .pages) ok v at k in
+        let y : _≡_ {A = ℕ} 0 1 = cc in
+        omega arith
+        in
+        ap (λ a. getD (cleared f l) a 0) (k .place) ∙ cleared-other f l (k .frame .0) (v % 16) (omega arith) (omega arith) n ∙ ap (λ a. getD l a 0) (sym (k .place))
+
+    pub clear-word : (f : Frame) → f .0 < c .pages .f → frameAt (c .pages) (f .0) ≡ Dirty → (v at : ℕ) → lookupOf (c .pages) v ≡ At at → wordAt (cleared f cells) (cleared f tags) at ≡ wordAt cells tags at
+    clear-word f low dirty v at e = word-same cells tags (cleared f cells) (cleared f tags) at (clear-other f low dirty cells of-cells v at e) (clear-other f low dirty tags of-tags v at e)
 
     -- A Dirty frame cleared and Free.
     pub keep-clear : (f : Frame) → f .0 < c .pages .f → frameAt (c .pages) (f .0) ≡ Dirty → Memory (core (withFrame (c .pages) (f .0) Free) (c .table) (c .place)) (cleared f cells) (cleared f tags)
@@ -201,17 +219,10 @@ module _ (c : Core) (cells tags : List ℕ) (m : Memory c cells tags) where
         old v at e = sym (frame-lookup (c .pages) (f .0) Free v) ∙ e
 
         other : (l : List ℕ) → length l ≡ 16 * c .pages .f → (v at : ℕ) → lookupOf (c .pages) v ≡ At at → getD (cleared f l) at 0 ≡ getD l at 0
-        other l size v at e =
-            let k = seen (c .pages) v at e in
-            let n : k .frame .0 ≡ f .0 → ⊥ = λ q.
-            let z : Dirty ≡ Shown = sym dirty ∙ ap (frameAt (c .pages)) (sym q) ∙ seen-shown (c .pages) ok v at k in
-            let y : _≡_ {A = ℕ} 0 1 = cc in
-            omega arith
-            in
-            ap (λ a. getD (cleared f l) a 0) (k .place) ∙ cleared-other f l (k .frame .0) (v % 16) (omega arith) (omega arith) n ∙ ap (λ a. getD l a 0) (sym (k .place))
+        other l size v at e = clear-other f low dirty l size v at e
 
         word : (v at : ℕ) → lookupOf (c .pages) v ≡ At at → wordAt cells′ tags′ at ≡ wordAt cells tags at
-        word v at e = word-same cells tags cells′ tags′ at (other cells of-cells v at e) (other tags of-tags v at e)
+        word v at e = clear-word f low dirty v at e
 
         free : (k i : ℕ) → frameAt p k ≡ Free → i < 16 → (x : Bool) → eqb k (f .0) ≡ x → Blank cells′ tags′ (16 * k + i)
         free k i e b true x = (cleared-same f cells k i (omega arith) b (eqb-true k (f .0) x), cleared-same f tags k i (omega arith) b (eqb-true k (f .0) x))
@@ -219,6 +230,23 @@ module _ (c : Core) (cells tags : List ℕ) (m : Memory c cells tags) where
             let n = eqb-false k (f .0) x in
             let q = m .free k i (sym (frame-kept (c .pages) (f .0) k Free n) ∙ e) b in
             (cleared-other f cells k i (omega arith) b n ∙ q .0, cleared-other f tags k i (omega arith) b n ∙ q .1)
+
+    -- A swept cell's tag stays or goes; so what holds of a word, and of it untagged, holds of it after a sweep.
+    pub sweep-less : (upto at : ℕ) → at < length tags
+        → (getD (sweptTags (c .pages .frames) (revoked c) (c .place) upto cells tags) at 0 ≡ getD tags at 0) ⊎ (getD (sweptTags (c .pages .frames) (revoked c) (c .place) upto cells tags) at 0 ≡ 0)
+    sweep-less upto at h = swept-less (c .pages .frames) (revoked c) cells tags (c .place) upto at h
+
+    pub sweep-word : (upto : ℕ) (P : Slot → Type 0) (v at : ℕ) → lookupOf (c .pages) v ≡ At at → P (wordAt cells tags at) → P (slot (wordAt cells tags at .cell) false)
+        → P (wordAt cells (sweptTags (c .pages .frames) (revoked c) (c .place) upto cells tags) at)
+    sweep-word upto P v at e old none =
+        ⊎-elim (λ q. subst P (sym (word-same cells tags cells tags′ at refl q)) old) (λ q. subst P (sym (untagged q)) none)
+        (sweep-less upto at (omega (arith, place-below v at (seen (c .pages) v at e))))
+      where
+        tags′ : List ℕ
+        tags′ = sweptTags (c .pages .frames) (revoked c) (c .place) upto cells tags
+
+        untagged : getD tags′ at 0 ≡ 0 → wordAt cells tags′ at ≡ slot (wordAt cells tags at .cell) false
+        untagged q = unfold wordAt in ap (λ n. slot (getD cells at 0) (tagOf n)) q
 
     -- Cells swept up to a further place.
     pub keep-sweep : (upto : ℕ) → Memory (core (c .pages) (c .table) upto) cells (sweptTags (c .pages .frames) (revoked c) (c .place) upto cells tags)
@@ -239,14 +267,10 @@ module _ (c : Core) (cells tags : List ℕ) (m : Memory c cells tags) where
         below v at e = omega (arith, place-below v at (seen (c .pages) v at e))
 
         less : (at : ℕ) → at < length tags → (getD tags′ at 0 ≡ getD tags at 0) ⊎ (getD tags′ at 0 ≡ 0)
-        less at h = swept-less (c .pages .frames) (revoked c) cells tags (c .place) upto at h
-
-        untagged : (at : ℕ) → getD tags′ at 0 ≡ 0 → wordAt cells tags′ at ≡ slot (wordAt cells tags at .cell) false
-        untagged at e = unfold wordAt in ap (λ n. slot (getD cells at 0) (tagOf n)) e
+        less at h = sweep-less upto at h
 
         word : (P : Slot → Type 0) (v at : ℕ) → lookupOf (c .pages) v ≡ At at → P (wordAt cells tags at) → P (slot (wordAt cells tags at .cell) false) → P (wordAt cells tags′ at)
-        word P v at e old none =
-            ⊎-elim (λ q. subst P (sym (word-same cells tags cells tags′ at refl q)) old) (λ q. subst P (sym (untagged at q)) none) (less at (below v at e))
+        word P v at e old none = sweep-word upto P v at e old none
 
         gone : (at : ℕ) → getD tags at 0 ≡ 0 → (x : Bool) → ltb at (length tags) ≡ x → getD tags′ at 0 ≡ 0
         gone at e true x = ⊎-elim (λ q. q ∙ e) (λ q. q) (less at (ltb-true at (length tags) x))

@@ -28,7 +28,7 @@ use Rattle.pages.proofs.Formed.{Sound as Layered, maps-low}
 use Rattle.pages.proofs.Freeing.{freed-at, released-at, none-mapped-at}
 use Rattle.pages.proofs.Kept.{Mappable, Unmappable}
 use Rattle.pages.proofs.View.{page-put, page-kept, frame-put, frame-kept, frame-of-page}
-use Rattle.reservations.proofs.Cells.{inside-bounds, inside-made}
+use Rattle.table.proofs.Cells.{inside-bounds, inside-made}
 use Rattle.histories.proofs.View.{Seen, seen, looked, lookup-same}
 use Rattle.histories.proofs.Keep.{frame-lookup}
 

@@ -4,9 +4,9 @@ use native.Mathlib.Omega.{arith}
 use mathlib.Core.Bool.{true}
 use mathlib.Core.Path.{_≡_, sym, ap, subst, _∙_}
 use Rattle.capabilities.proofs.Refusals.{first-clear}
-use Rattle.reservations.specs.Rows.{live}
-use Rattle.revocation.specs.Revocation.{coreSound, collectReasons, collectOf}
-use Rattle.revocation.proofs.Revocations.{core-collect}
+use Rattle.table.specs.Rows.{live}
+use Rattle.reservations.specs.Revocation.{coreSound, collectReasons, collectOf}
+use Rattle.reservations.proofs.Revocations.{core-collect}
 use Rattle.calls.specs.declared.Call.the-variants.{Collect}
 use Rattle.words.specs.WordReasons.{unnamed, notManager}
 use Rattle.machine.specs.Effects.{effect}

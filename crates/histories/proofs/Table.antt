@@ -12,19 +12,19 @@ use lib.Seq.{getD-take, getD-drop, getD-append-add, length-take-le}
 use Rattle.capabilities.specs.declared.Range.{Range}
 use Rattle.capabilities.specs.Range.{inside}
 use Rattle.capabilities.specs.Capability.{baseOf}
-use Rattle.reservations.specs.declared.Reservation.{Reservation}
-use Rattle.reservations.specs.declared.ReservationState.{ReservationState}
-use Rattle.reservations.specs.declared.ReservationState.the-variants.{Open, Taken, Revoking}
-use Rattle.reservations.specs.Table.{Table}
-use Rattle.reservations.specs.Find.{rowOf, revokingOf}
-use Rattle.reservations.specs.Rows.{isOpen, isRevoking, blank, live, rangeOf}
-use Rattle.reservations.specs.Operations.{alike, joined, lowerPart, upperPart, takenRow, givenRow}
-use Rattle.reservations.proofs.Cells.{inside-bounds, inside-made}
-use Rattle.reservations.proofs.After.{Replaced}
-use Rattle.reservations.proofs.Kept.{cut-one, cut-two}
-use Rattle.reservations.proofs.Dying.{dyings, none, firstOf, revoking-row, revoking-none, dyings-append, dyings-not}
-use Rattle.revocation.specs.Core.{Core}
-use Rattle.revocation.specs.Revocation.{revokingRow, collectedRow, running, revoked, dying}
+use Rattle.table.specs.declared.Reservation.{Reservation}
+use Rattle.table.specs.declared.ReservationState.{ReservationState}
+use Rattle.table.specs.declared.ReservationState.the-variants.{Open, Taken, Revoking}
+use Rattle.table.specs.Table.{Table}
+use Rattle.table.specs.Find.{rowOf, revokingOf}
+use Rattle.table.specs.Rows.{isOpen, isRevoking, blank, live, rangeOf}
+use Rattle.table.specs.Operations.{alike, joined, lowerPart, upperPart, takenRow, givenRow}
+use Rattle.table.proofs.Cells.{inside-bounds, inside-made}
+use Rattle.table.proofs.After.{Replaced}
+use Rattle.table.proofs.Kept.{cut-one, cut-two}
+use Rattle.table.proofs.Dying.{dyings, none, firstOf, revoking-row, revoking-none, dyings-append, dyings-not}
+use Rattle.reservations.specs.Core.{Core}
+use Rattle.reservations.specs.Revocation.{revokingRow, collectedRow, running, revoked, dying}
 use Rattle.histories.specs.Inv.{rowAt}
 
 -- A lent range has a lent reservation around it; a cell of an Open one was in an Open one.

@@ -25,7 +25,7 @@ use Rattle.pages.specs.Mapping.{cleared, lookupOf, placeIn}
 use Rattle.pages.proofs.Formed.{Sound, mapped-once, maps-low}
 use Rattle.pages.proofs.Mappings.{mappings-set}
 use Rattle.pages.proofs.Shows.{cleared-here, cleared-below, cleared-above}
-use Rattle.revocation.specs.Core.{Core}
+use Rattle.reservations.specs.Core.{Core}
 use Rattle.words.specs.declared.Slot.{Slot}
 use Rattle.words.specs.Words.{slot, empty, tagOf, byteOf, wordAt, collectedRegister, collectedMailbox}
 use Rattle.histories.specs.Live.{wordOf, shown}

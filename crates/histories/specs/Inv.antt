@@ -10,11 +10,11 @@ use Rattle.pages.specs.declared.FrameState.the-variants.{Free}
 use Rattle.pages.specs.declared.Place.the-variants.{At}
 use Rattle.pages.specs.Layer.{frameAt}
 use Rattle.pages.specs.Mapping.{lookupOf}
-use Rattle.reservations.specs.declared.Reservation.{Reservation}
-use Rattle.reservations.specs.Table.{Table}
-use Rattle.reservations.specs.Rows.{isOpen, blank, rangeOf, live}
-use Rattle.revocation.specs.Core.{Core}
-use Rattle.revocation.specs.Revocation.{dying}
+use Rattle.table.specs.declared.Reservation.{Reservation}
+use Rattle.table.specs.Table.{Table}
+use Rattle.table.specs.Rows.{isOpen, blank, rangeOf, live}
+use Rattle.reservations.specs.Core.{Core}
+use Rattle.reservations.specs.Revocation.{dying}
 use Rattle.words.specs.declared.Slot.{Slot}
 use Rattle.words.specs.Words.{empty, wordAt}
 use Rattle.histories.specs.Runs.{Machine}

@@ -1,17 +1,21 @@
 -- Lent once. After every history, when a take is granted no live capability has a cell in the range that it lends; and between two
--- granted takes whose ranges share a cell there is a granted collect of a revocation that covers all of the earlier range. Assumes
--- nothing.
-use Prim.Native.Nat.{ℕ, _+_, _≤_}
+-- granted takes whose ranges share a cell there is a granted collect of a revocation that covers all of the earlier range. Right after
+-- a granted take its register holds the capability of the reservation's range, the only live one with a cell in it. Assumes nothing.
+use Prim.Native.Nat.{ℕ, _+_, _*_, _≤_}
 use mathlib.Core.Bool.{true}
 use mathlib.Core.List.{List, _∷_, _++_}
 use mathlib.Core.Path.{_≡_}
 use Rattle.capabilities.specs.declared.Range.{Range}
+use Rattle.capabilities.specs.Capability.{capability}
 use Rattle.capabilities.specs.Range.{inside}
-use Rattle.revocation.specs.Revocation.{revoked}
+use Rattle.table.specs.Find.{findOf, rowOf}
+use Rattle.table.specs.Rows.{rangeOf}
+use Rattle.reservations.specs.Revocation.{revoked}
 use Rattle.calls.specs.declared.Call.{Call}
 use Rattle.calls.specs.declared.Call.the-variants.{Take, Collect}
 use Rattle.histories.specs.Runs.{Machine, Granted, outcome, next, run, Reached}
-use Rattle.histories.specs.Live.{NoneInto}
+use Rattle.words.specs.Words.{slot}
+use Rattle.histories.specs.Live.{Spot, register, Live, wordIn, Into, NoneInto}
 
 -- The range that a granted take lends: from base on, as many cells as it answers.
 abbrev pub lentRange : Machine → ℕ → ℕ → ℕ → Range
@@ -19,6 +23,20 @@ lentRange m p base reg = record { base = base; length = outcome m (Take p base r
 
 abbrev pub LentOnce : Type 0
 LentOnce = (m : Machine) → Reached m → (p base reg : ℕ) → Granted m (Take p base reg) → NoneInto m (lentRange m p base reg)
+
+-- The range of the reservation that begins at base and is the party's, said of the table and not of an answer.
+abbrev pub namedRange : Machine → ℕ → ℕ → Range
+namedRange m p base = rangeOf (rowOf (m .state .core .table) (findOf (m .state .core .table) p base))
+
+-- What a granted take leaves: its register holds the capability of the named range with permissions 15, and no other live capability
+-- has a cell in that range.
+pub record LentBy (m : Machine) (p base reg : ℕ) : Type 0 where
+  pub begins : namedRange m p base .base ≡ base
+  pub holds : wordIn (next m (Take p base reg)) (register (8 * p + reg)) ≡ slot (capability base (namedRange m p base .length) 15) true
+  pub only : (x : Spot) → Live (next m (Take p base reg)) x → Into (namedRange m p base) (wordIn (next m (Take p base reg)) x .cell) → x ≡ register (8 * p + reg)
+
+abbrev pub LentByCapability : Type 0
+LentByCapability = (m : Machine) → Reached m → (p base reg : ℕ) → Granted m (Take p base reg) → LentBy m p base reg
 
 -- Among the calls from a state on there is a granted collect, and the range that it ends covers another.
 pub record Ended (m : Machine) (calls : List Call) (r : Range) : Type 0 where

@@ -3,8 +3,10 @@ pub mod Runs
 pub mod Live
 pub mod Inv
 pub mod Crossing
-pub mod Survivors
 pub mod Confining
 pub mod Lending
+pub mod Survivors
+pub mod Cleaning
 pub mod Forming
 pub mod Losing
+pub mod Restoring

@@ -5,9 +5,9 @@ use mathlib.Core.Bool.{true}
 use mathlib.Core.List.{List, [], _∷_}
 use mathlib.Core.Path.{_≡_}
 use lib.ListN.{length, replicate}
-use Rattle.reservations.specs.declared.ReservationState.the-variants.{Open}
-use Rattle.reservations.specs.Rows.{isOpen, live, reservation}
-use Rattle.reservations.specs.Tiling.{tiles}
+use Rattle.table.specs.declared.ReservationState.the-variants.{Open}
+use Rattle.table.specs.Rows.{isOpen, live, reservation}
+use Rattle.table.specs.Tiling.{tiles}
 use Rattle.calls.specs.declared.Call.{Call}
 use Rattle.calls.specs.declared.Call.the-variants.{Merge}
 use Rattle.histories.specs.Runs.{Machine, Granted, next, run, Reached}

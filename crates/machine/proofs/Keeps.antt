@@ -14,13 +14,13 @@ use Rattle.capabilities.proofs.Choice.{and-left, and-right, or-false}
 use Rattle.capabilities.proofs.Refusals.{first-clear}
 use Rattle.pages.specs.Layer.{inRange, serves}
 use Rattle.pages.proofs.Formed as layer
-use Rattle.reservations.proofs.Sound as table
-use Rattle.reservations.proofs.Truth.{both}
-use Rattle.revocation.specs.Core.{Core}
-use Rattle.revocation.specs.Revocation.{core, running, dying, coreSound}
-use Rattle.revocation.proofs.CoreKept.{core-facts, core-take, core-split, core-merge, core-give}
-use Rattle.revocation.proofs.Revocations.{core-revoke, core-collect, core-sweep}
-use Rattle.revocation.proofs.Starts.{core-fresh}
+use Rattle.table.proofs.Sound as table
+use Rattle.table.proofs.Truth.{both}
+use Rattle.reservations.specs.Core.{Core}
+use Rattle.reservations.specs.Revocation.{core, running, dying, coreSound}
+use Rattle.reservations.proofs.CoreKept.{core-facts, core-take, core-split, core-merge, core-give}
+use Rattle.reservations.proofs.Revocations.{core-revoke, core-collect, core-sweep}
+use Rattle.reservations.proofs.Starts.{core-fresh}
 use Rattle.calls.specs.declared.Call.{Call}
 use Rattle.calls.specs.declared.Call.the-variants.{Take, Split, Merge, Give, Revoke, Sweep, Collect, Map, Unmap, Zero, Load, Store, Narrow, Number, Grant, Receive}
 use Rattle.words.specs.declared.Slot.{Slot}
@@ -35,7 +35,6 @@ use Rattle.machine.proofs.Judging.{judged-by, step-by}
 use Rattle.machine.proofs.Lengths.{length-registers, length-mailboxes}
 use Rattle.machine.proofs.Lists.{each-set, each-map}
 use Rattle.machine.proofs.PagesKept.{core-map, core-unmap, core-zero}
-use Rattle.machine.proofs.Ruled.{sweep-done}
 
 -- A well-formed state as plain facts, and the way back.
 pub record Facts (s : State) : Type 0 where
@@ -136,7 +135,7 @@ puts-sound c mail r (Receive p d) e = refl
 module _ (c : Core) (ok : coreSound c ≡ true) (mail : List Slot) (r : Reads) (cells tags : List ℕ) where
   -- 06: the place that a sweep reaches.
   swept-sound : (n : ℕ) → serves (c .pages) (length cells) (length tags) ≡ true → running c ≡ true → coreSound (core (c .pages) (c .table) (sweptTo c n)) ≡ true
-  swept-sound n m run = subst (λ o. coreSound (o .answer .core) ≡ true) (sweep-done c n cells tags run m) (core-sweep c ok n cells tags)
+  swept-sound n m run = core-sweep c ok n run
 
   core-kept : (call : Call) → serves (c .pages) (length cells) (length tags) ≡ true → first (reasons c mail r call) ≡ 0
       → coreSound (effect c mail r call .core) ≡ true

@@ -15,7 +15,7 @@ use Rattle.pages.specs.Layer.{serves}
 use Rattle.pages.proofs.Memory.{served}
 use Rattle.pages.proofs.Shows.{length-cleared}
 use Rattle.sweep.specs.Sweep.{sweptTag, sweptTags}
-use Rattle.revocation.specs.Core.{Core}
+use Rattle.reservations.specs.Core.{Core}
 use Rattle.calls.specs.declared.Call.{Call}
 use Rattle.calls.specs.declared.Call.the-variants.{Take, Split, Merge, Give, Revoke, Sweep, Collect, Map, Unmap, Zero, Load, Store, Narrow, Number, Grant, Receive}
 use Rattle.words.specs.declared.Slot.{Slot}

@@ -9,4 +9,7 @@ pub mod Lengths
 pub mod Keeps
 pub mod Commands
 pub mod Unchanged
+pub mod Computing
 pub mod EdgesMet
+pub mod WrongMachines
+pub mod Shapes

@@ -7,7 +7,7 @@ use mathlib.Core.Path.{_≡_, refl}
 use lib.ListN.{set}
 use Rattle.capabilities.specs.Lists.{each}
 use Rattle.capabilities.proofs.Choice.{and-left, and-right}
-use Rattle.reservations.proofs.Truth.{both}
+use Rattle.table.proofs.Truth.{both}
 
 module _ {A : Type 0} (P : ℕ → A → Bool) where
   -- One entry put in place of another, where both pass.

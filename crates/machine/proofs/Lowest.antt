@@ -14,8 +14,8 @@ use Rattle.capabilities.specs.Refusals.{Reason, reason, first}
 use Rattle.capabilities.proofs.Choice.{and-left, and-right}
 use Rattle.pages.specs.Layer.{serves}
 use Rattle.pages.specs.Mapping.{mapReasons, unmapReasons, dirtyReasons}
-use Rattle.reservations.specs.Operations.{openReasons, takeReasons, splitReasonsAt, splitReasons, mergeReasonsAt, mergeReasons, giveReasons}
-use Rattle.revocation.specs.Revocation.{revokeReasonsAt, revokeReasons, collectReasons}
+use Rattle.table.specs.Operations.{openReasons, takeReasons, splitReasonsAt, splitReasons, mergeReasonsAt, mergeReasons, giveReasons}
+use Rattle.reservations.specs.Revocation.{revokeReasonsAt, revokeReasons, collectReasons}
 use Rattle.calls.specs.declared.Call.{Call}
 use Rattle.calls.specs.declared.Call.the-variants.{Take, Split, Merge, Give, Revoke, Sweep, Collect, Map, Unmap, Zero, Load, Store, Narrow, Number, Grant, Receive}
 use Rattle.machine.specs.State.{State}

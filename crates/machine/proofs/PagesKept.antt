@@ -29,12 +29,12 @@ use Rattle.pages.specs.Mapping.{noFrame, mapReasons, mapped, mapOf, unmapReason
 use Rattle.pages.proofs.Formed.{sound, formed, frame-changed}
 use Rattle.pages.proofs.Kept.{Mappable, mappable, map-keeps, unmap-keeps}
 use Rattle.pages.proofs.States.{is-dirty}
-use Rattle.reservations.specs.Find.{revokingOf, rowOf}
-use Rattle.reservations.specs.Tiling.{tableSound}
-use Rattle.reservations.proofs.Truth.{both}
-use Rattle.revocation.specs.Core.{Core}
-use Rattle.revocation.specs.Revocation.{running, revoked, wholePages, revocationSound, coreSound}
-use Rattle.revocation.proofs.CoreKept.{core-facts, core-made}
+use Rattle.table.specs.Find.{revokingOf, rowOf}
+use Rattle.table.specs.Tiling.{tableSound}
+use Rattle.table.proofs.Truth.{both}
+use Rattle.reservations.specs.Core.{Core}
+use Rattle.reservations.specs.Revocation.{running, revoked, wholePages, revocationSound, coreSound}
+use Rattle.reservations.proofs.CoreKept.{core-facts, core-made}
 use Rattle.machine.specs.Effects.{withPages}
 use Rattle.machine.proofs.Judging.{pick-by}
 use Rattle.machine.proofs.Lists.{each-set}

@@ -1,10 +1,9 @@
 -- The two ways in which a call returns: turned down, or done. Assumes nothing.
-use Prim.Native.Nat.{ℕ, _+_, _-_, _*_}
-use native.Mathlib.Omega.{arith}
-use mathlib.Core.Bool.{Bool, true, false, not}
+use Prim.Native.Nat.{ℕ, _+_, _*_}
+use mathlib.Core.Bool.{Bool, true, false}
 use mathlib.Core.List.{List, map}
 use mathlib.Core.Path.{_≡_, refl, sym, ap, _∙_}
-use lib.ListN.{length, set}
+use lib.ListN.{set}
 use borrow.Author.Tests.{ne-eqb, eqb-true, eqb-false}
 use lib.Dec.{eqb}
 use Rattle.capabilities.specs.declared.Range.{Range}
@@ -12,18 +11,16 @@ use Rattle.capabilities.specs.Lists.{pick}
 use Rattle.capabilities.specs.Refusals.{first}
 use Rattle.capabilities.proofs.Choice.{pick-yes, pick-no}
 use Rattle.pages.specs.declared.Frame.{Frame}
-use Rattle.pages.specs.Layer.{serves}
 use Rattle.pages.specs.Mapping.{cleared}
-use Rattle.sweep.specs.Sweep.{sweptTags, sweepOf}
-use Rattle.revocation.specs.Core.{Core}
-use Rattle.revocation.specs.Revocation.{core, running, revoked, sweepReasons, coreSwept, passing, sweptCore, sweepCoreOf}
+use Rattle.sweep.specs.Sweep.{sweptTags}
+use Rattle.reservations.specs.Core.{Core}
 use Rattle.calls.specs.declared.Call.{Call}
 use Rattle.words.specs.declared.Slot.{Slot}
 use Rattle.words.specs.Words.{empty, byteOf, collectedRegister, collectedMailbox}
 use Rattle.machine.specs.State.{State}
 use Rattle.machine.specs.State.{Answered}
 use Rattle.machine.specs.Formed.{answered}
-use Rattle.machine.specs.Effects.{effectOf, keepRegisters, putRegister, fetchInto, collectRegisters, keepMailboxes, putMailbox, collectMailboxes, keepMemory, writeWord, clearFrame, sweepCells, sweptTo}
+use Rattle.machine.specs.Effects.{effectOf, keepRegisters, putRegister, fetchInto, collectRegisters, keepMailboxes, putMailbox, collectMailboxes, keepMemory, writeWord, clearFrame, sweepCells}
 use Rattle.machine.specs.Step.{Outcome, left, fetched, done, registersAfter, mailboxesAfter, cellsAfter, tagsAfter, wordAfter, reasonsOn, effectOn, ruled, judged, refused, withCore}
 
 module _ (s : State) (c : Call) (k : ℕ) (e : k ≡ first (reasonsOn s c)) where
@@ -95,26 +92,6 @@ ruled-core s c k x e f r d cells tags = go (eqb k 0) refl
         ruled-done s c k e (eqb-true k 0 z) cells tags (left r cells tags)
         (ap (λ a. left a cells tags) (d ∙ pick-yes _ _ _ z) ∙ done-core s x empty cells tags ∙ sym (ap (λ y. done s y cells tags) f))
     go false z = ap (λ a. left a cells tags) (d ∙ pick-no _ _ _ z) ∙ ruled-down s c k e (eqb-false k 0 z) cells tags
-
--- Neither 4 nor 5 applied, nor any reason after them.
-pub manager-clear : (u m : Bool) (k rest : ℕ) → k ≡ pick u 4 (pick m 5 rest) → k ≡ 0 → rest ≡ 0
-manager-clear true m k rest e z = let y : _≡_ {A = ℕ} 4 0 = sym e ∙ z in omega arith
-manager-clear false true k rest e z = let y : _≡_ {A = ℕ} 5 0 = sym e ∙ z in omega arith
-manager-clear false false k rest e z = sym e ∙ z
-
--- The one reason of a sweep did not apply.
-pub runs : (b : Bool) (rest : ℕ) → rest ≡ pick (not b) 11 0 → rest ≡ 0 → b ≡ true
-runs true rest e z = refl
-runs false rest e z = let y : _≡_ {A = ℕ} 11 0 = sym e ∙ z in let q : ⊥ = omega arith in absurd q
-
--- The core's sweep, where a revocation runs and memory is of the right size.
-pub sweep-done :
-    (c : Core) (n : ℕ) (cells tags : List ℕ) → running c ≡ true → serves (c .pages) (length cells) (length tags) ≡ true
-    → sweepCoreOf c n cells tags
-    ≡ passing (coreSwept 0 (16 * c .pages .f - sweptTo c n) (core (c .pages) (c .table) (sweptTo c n)))
-    (sweptTags (c .pages .frames) (revoked c) (c .place) (sweptTo c n) cells tags)
-unfolding sweepCoreOf sweepReasons first sweptCore sweepOf
-sweep-done c n cells tags r s = rw (s, r)
 
 -- A granted collect, with the two lists of words as the loops leave them.
 pub done-collect :

@@ -13,9 +13,9 @@ use Rattle.pages.specs.Pages.{Pages}
 use Rattle.pages.specs.declared.VirtualPage.{VirtualPage}
 use Rattle.pages.specs.Layer.{pageAt, withPage, withFrame}
 use Rattle.pages.specs.Mapping.{mapOf, mapped, unmapOf, unmapped, soiled, mapReasons, unmapReasons, freedOf, releasedOf}
-use Rattle.reservations.specs.Find.{findOf}
-use Rattle.revocation.specs.Core.{Core}
-use Rattle.revocation.specs.Revocation.{revokeOf, revokeAt, revokeReasons, collectOf, collected, collectReasons}
+use Rattle.table.specs.Find.{findOf}
+use Rattle.reservations.specs.Core.{Core}
+use Rattle.reservations.specs.Revocation.{revokeOf, revokeAt, revokeReasons, collectOf, collected, collectReasons}
 use Rattle.calls.specs.declared.Call.{Call}
 use Rattle.calls.specs.declared.Call.the-variants.{Take, Split, Merge, Give, Revoke, Sweep, Collect, Map, Unmap, Zero, Load, Store, Narrow, Number, Grant, Receive}
 use Rattle.machine.specs.State.{State}

@@ -6,7 +6,7 @@ use mathlib.Core.List.{List, [], _∷_}
 use lib.ListN.{replicate}
 use lib.Dec.{eqb}
 use Rattle.calls.specs.declared.Call.{Call}
-use Rattle.calls.specs.declared.Call.the-variants.{Take, Split, Give, Revoke, Sweep, Collect, Map, Zero, Load, Store}
+use Rattle.calls.specs.declared.Call.the-variants.{Take, Split, Give, Revoke, Sweep, Collect, Map, Zero, Load, Store, Narrow}
 use Rattle.calls.specs.Commands.{page, frame}
 use Rattle.machine.specs.State.{State}
 use Rattle.machine.specs.Formed.{startOf}
@@ -67,6 +67,8 @@ cases =
     ∷ edge 1 1 (taken16 (Load 0 0 16 1 ∷ [])) (0 ∷ 0 ∷ 0 ∷ 0 ∷ 17 ∷ [])
     ∷ edge 1 1 (taken16 (Store 0 0 15 1 ∷ [])) (0 ∷ 0 ∷ 0 ∷ 0 ∷ 0 ∷ [])
     ∷ edge 1 1 (taken16 (Store 0 0 16 1 ∷ [])) (0 ∷ 0 ∷ 0 ∷ 0 ∷ 17 ∷ [])
+    ∷ edge 1 1 (taken16 (Narrow 0 0 15 1 15 1 ∷ [])) (0 ∷ 0 ∷ 0 ∷ 0 ∷ 0 ∷ [])
+    ∷ edge 1 1 (taken16 (Narrow 0 0 16 1 15 1 ∷ [])) (0 ∷ 0 ∷ 0 ∷ 0 ∷ 17 ∷ [])
     -- "revoke of 16 and of 15 cells at base 0, unmapped (0, 10)"
     ∷ edge 1 1 (Revoke 0 0 ∷ []) (0 ∷ 0 ∷ [])
     ∷ edge 1 1 (Split 0 0 15 ∷ Revoke 0 0 ∷ []) (0 ∷ 0 ∷ 10 ∷ [])

@@ -1,7 +1,7 @@
 -- Document 01, 'Commands': what a granted call does, as data: the new core, at most one change each of registers,
 -- mailboxes and memory, and the answer. It depends on the core, the mailboxes and the registers that the call reads, and on
 -- nothing else. Assumes nothing.
-use Prim.Native.Nat.{ℕ, _+_, _-_, _*_}
+use Prim.Native.Nat.{ℕ}
 use mathlib.Core.Bool.{Bool, true, false}
 use mathlib.Core.List.{List}
 use Rattle.capabilities.specs.declared.Range.{Range}
@@ -11,11 +11,11 @@ use Rattle.pages.specs.declared.FrameState.the-variants.{Free}
 use Rattle.pages.specs.Pages.{Pages}
 use Rattle.pages.specs.Layer.{withFrame}
 use Rattle.pages.specs.Mapping.{mapOf, unmapOf}
-use Rattle.sweep.specs.Sweep.{passed}
-use Rattle.reservations.specs.Table.{Table}
-use Rattle.reservations.specs.Operations.{takeOf, splitOf, mergeOf, giveOf}
-use Rattle.revocation.specs.Core.{Core}
-use Rattle.revocation.specs.Revocation.{core, revoked, revokeOf, collectOf}
+use Rattle.sweep.specs.Sweep.{reached, cellsLeft}
+use Rattle.table.specs.Table.{Table}
+use Rattle.table.specs.Operations.{takeOf, splitOf, mergeOf, giveOf}
+use Rattle.reservations.specs.Core.{Core}
+use Rattle.reservations.specs.Revocation.{core, revoked, revokeOf, collectOf}
 use Rattle.calls.specs.declared.Call.{Call}
 use Rattle.calls.specs.declared.Call.the-variants.{Take, Split, Merge, Give, Revoke, Sweep, Collect, Map, Unmap, Zero, Load, Store, Narrow, Number, Grant, Receive}
 use Rattle.words.specs.declared.Slot.{Slot}
@@ -70,7 +70,7 @@ pageChange c p = effectOf (withPages c p) keepRegisters keepMailboxes keepMemory
 
 -- 06: the place that a sweep of n cells reaches.
 abbrev pub sweptTo : Core → ℕ → ℕ
-sweptTo c n = c .place + passed (c .pages) (c .place) n
+sweptTo c n = reached (c .pages) (c .place) n
 
 unfoldable pub effect : Core → List Slot → Reads → Call → Effect
 -- 01 take: "reg gets a capability for it with permissions 15. Answers the length."
@@ -87,7 +87,7 @@ effect c mail r (Revoke p base) = effectOf (revokeOf c p base .core) keepRegiste
 -- 06 sweep: "Passes the next n cells of lent memory .. Answers the cells left."
 effect c mail r (Sweep p n) =
     effectOf (core (c .pages) (c .table) (sweptTo c n)) keepRegisters keepMailboxes (sweepCells (revoked c) (c .place) (sweptTo c n))
-    (slot (16 * c .pages .f - sweptTo c n) false)
+    (slot (cellsLeft (c .pages) (sweptTo c n)) false)
 -- 07 collect: "Clears, in all registers and mailboxes, the tag of capabilities with base in the range."
 effect c mail r (Collect p) = effectOf (collectOf c .core) collectRegisters collectMailboxes keepMemory empty
 -- 08 map, 09 unmap: the page layer's own rules. 0A zero: "its cells and tags become 0, and the frame Free."
@@ -95,7 +95,8 @@ effect c mail r (Map p page frame) = pageChange c (mapOf (c .pages) page frame .
 effect c mail r (Unmap p page) = pageChange c (unmapOf (c .pages) page .pages)
 effect c mail r (Zero p frame) =
     effectOf (withPages c (withFrame (c .pages) (frame .0) Free)) keepRegisters keepMailboxes (clearFrame frame) empty
--- 0B load: "The cell at base + off of the capability in a goes to d and is the answer; its tag is dropped without permission 4."
+-- 0B load: "The cell at base + off of the capability in a goes to d and is the answer; its tag is dropped without permission 4." Of a
+-- word that is fetched the answer is that word (Step, wordAfter); the empty one here is not looked at.
 effect c mail r (Load p a off d) =
     effectOf c (fetchInto p d (placeNumber (addressed c (r .one) off)) (permits (r .one .cell) 4)) keepMailboxes keepMemory empty
 -- 0C store: "Register s goes to that cell."

@@ -6,7 +6,7 @@ use lib.ListN.{length, replicate}
 use lib.Dec.{eqb}
 use Rattle.capabilities.specs.Lists.{pick, each}
 use Rattle.pages.specs.Layer.{inRange}
-use Rattle.revocation.specs.Revocation.{freshCore, coreSound}
+use Rattle.reservations.specs.Revocation.{freshCore, coreSound}
 use Rattle.words.specs.declared.Slot.{Slot}
 use Rattle.words.specs.Words.{empty}
 use Rattle.machine.specs.State.{State}

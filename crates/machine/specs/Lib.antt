@@ -6,3 +6,4 @@ pub mod Effects
 pub mod Step
 pub mod Command
 pub mod Edges
+pub mod WrongMachines

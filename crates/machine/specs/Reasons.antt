@@ -7,9 +7,9 @@ use Rattle.capabilities.specs.Capability.{baseOf}
 use Rattle.capabilities.specs.Refusals.{Reason, reason}
 use Rattle.pages.specs.declared.Place.{Place}
 use Rattle.pages.specs.Mapping.{lookupOf, mapReasons, unmapReasons, dirtyReasons}
-use Rattle.reservations.specs.Operations.{takeReasons, splitReasons, mergeReasons, giveReasons}
-use Rattle.revocation.specs.Core.{Core}
-use Rattle.revocation.specs.Revocation.{running, revokeReasons, collectReasons}
+use Rattle.table.specs.Operations.{takeReasons, splitReasons, mergeReasons, giveReasons}
+use Rattle.reservations.specs.Core.{Core}
+use Rattle.reservations.specs.Revocation.{running, revokeReasons, collectReasons}
 use Rattle.calls.specs.declared.Call.{Call}
 use Rattle.calls.specs.declared.Call.the-variants.{Take, Split, Merge, Give, Revoke, Sweep, Collect, Map, Unmap, Zero, Load, Store, Narrow, Number, Grant, Receive}
 use Rattle.words.specs.declared.Slot.{Slot}

@@ -2,7 +2,7 @@
 use Prim.Native.Nat.{ℕ}
 use mathlib.Core.Bool.{Bool}
 use mathlib.Core.List.{List}
-use Rattle.revocation.specs.Core.{Core}
+use Rattle.reservations.specs.Core.{Core}
 use Rattle.words.specs.declared.Slot.{Slot}
 
 -- The core, eight registers of each of eight parties (register r of party p stands at 8 p + r), and a mailbox of each.

@@ -2,7 +2,6 @@
 use Prim.Native.Nat.{ℕ, _+_, _*_}
 use mathlib.Core.Bool.{Bool}
 use mathlib.Core.List.{List, map}
-use mathlib.Core.Path.{_≡_}
 use lib.ListN.{length, set}
 use lib.Dec.{eqb}
 use Rattle.capabilities.specs.Lists.{pick}
@@ -10,7 +9,7 @@ use Rattle.capabilities.specs.Refusals.{Reason, first}
 use Rattle.pages.specs.Layer.{serves}
 use Rattle.pages.specs.Mapping.{cleared}
 use Rattle.sweep.specs.Sweep.{sweptTags}
-use Rattle.revocation.specs.Core.{Core}
+use Rattle.reservations.specs.Core.{Core}
 use Rattle.calls.specs.declared.Call.{Call}
 use Rattle.words.specs.declared.Slot.{Slot}
 use Rattle.words.specs.Words.{empty, byteOf, wordAt, keepTag, collectedRegister, collectedMailbox}
@@ -95,10 +94,6 @@ judged s c cells tags = pick (serves (s .core .pages) (length cells) (length tag
 -- One call, by refusal 1 before all others: "The state is not well formed".
 unfoldable pub stepOf : State → Call → List ℕ → List ℕ → Outcome
 stepOf s c cells tags = pick (wellFormed s) (judged s c cells tags) (refused 1 s cells tags)
-
--- An answer that leaves lent memory alone is what the rules say, whatever memory holds.
-abbrev pub Rules : Answered → State → Call → Type 0
-Rules r s c = (cells tags : List ℕ) → left r cells tags ≡ ruled s c cells tags
 
 -- A state with another core.
 unfoldable pub withCore : State → Core → State

@@ -6,7 +6,7 @@ use mathlib.Core.Bool.{Bool, true, false, not, _&&_, true≢false, false≢true}
 use mathlib.Core.List.{List, [], _∷_, map}
 use mathlib.Core.Logic.{_≢_}
 use mathlib.Core.Path.{_≡_, refl, sym, ap, subst, _∙_}
-use lib.ListN.{length, getD, set, length-set, length-map, List·getD-map}
+use lib.ListN.{length, getD, set, replicate, length-set, length-map, length-replicate, getD-replicate, List·getD-map}
 use lib.Seq.{getD-set-same, getD-set-other, ext-getD}
 use lib.Dec.{eqb, leb, ltb}
 use borrow.Author.Tests.{eqb-true, eqb-false, leb-true, leb-false, ltb-true, ltb-false, le-leb, lt-leb, lt-ltb, le-ltb}
@@ -70,6 +70,15 @@ module _ (from code : ℕ) (l : List ℕ) where
           (λ e. let u = leb-true from k e in same-test (ltb k i) (ltb k upto)
           (λ t. let w = ltb-true k i t in lt-ltb k upto (omega arith))
           (λ t. let w = ltb-true k upto t in lt-ltb k i (omega arith)))
+
+-- Filled from the first to the last, every entry is the code.
+pub fill-all : (code : ℕ) (l : List ℕ) → filled 0 (length l) code l ≡ replicate (length l) code
+fill-all code l =
+    ext-getD 0 (filled 0 (length l) code l) (replicate (length l) code) (fill-length 0 code l (length l) ∙ sym (length-replicate (length l) code))
+    (λ k q. go k (let r : k < length l = omega (arith, fill-length 0 code l (length l)) in r))
+  where
+    go : (k : ℕ) → k < length l → getD (filled 0 (length l) code l) k 0 ≡ getD (replicate (length l) code) k 0
+    go k h = at-end 0 code l (length l) k h ∙ rw (le-leb 0 k (omega arith), lt-ltb k (length l) h) (sym (getD-replicate (length l) k code 0 h))
 
 -- A page lies in a range of whole pages by its number.
 page-inside : (r : Range) (from n k : ℕ) → r .base ≡ 16 * from → r .length ≡ 16 * n → pageInside r k ≡ (leb from k && ltb k (from + n))

@@ -19,10 +19,9 @@ use Rattle.pages.specs.declared.PageState.the-variants.{Unmapped, Freed,
 use Rattle.pages.specs.declared.FrameState.the-variants.{Dirty, Free, Mapped as Shown}
 use Rattle.pages.specs.Entries.{isUnmapped, isMapped, maps, isFree, isShown, pageEntry}
 use Rattle.pages.specs.Layer.{pageAt, frameAt, withPage, withFrame, mappings, wellFormed, inRange, freshOf, blank}
-use Rattle.pages.specs.Mapping.{paged, noPage, noFrame, mapReasons, mapped, mapOf, unmapReasons, unmapped, unmapOf, soiled, zeroReasons, zeroOf}
+use Rattle.pages.specs.Mapping.{paged, noPage, noFrame, mapReasons, mapped, mapOf, unmapReasons, unmapped, unmapOf, soiled}
 use Rattle.pages.proofs.Formed.{Sound, sound, formed, mapped-once, maps-low, changed, frame-changed, blank-sound}
 use Rattle.pages.proofs.Mappings.{mappings-set}
-use Rattle.pages.proofs.Memory.{zero-served}
 use Rattle.pages.proofs.States.{is-unmapped, is-free}
 
 -- What a granted map, unmap or zero has found.
@@ -124,15 +123,6 @@ unfolding unmapOf
 unmap-keeps s page h =
     paged-keeps (first (unmapReasons s page)) s (unmapped s page) h
     (λ e. formed (unmapped s page) (unmapped-sound s page (sound s h) (unmappable s page e)))
-
-pub zero-keeps :
-    (s : Pages) (frame : Frame) (cells tags : List ℕ) → wellFormed s ≡ true → wellFormed (zeroOf s frame cells tags .answer .pages) ≡ true
-unfolding zeroOf
-zero-keeps s frame cells tags h =
-    paged-keeps (first (zeroReasons s frame (length cells) (length tags))) s (withFrame s (frame .0) Free) h
-    (λ e.
-    let z = zero-served s frame (length cells) (length tags) e in
-    formed (withFrame s (frame .0) Free) (frame-changed s (sound s h) (frame .0) Free (z .below) (rw (z .dirty))))
 
 -- A fresh layer is well formed if V and F are in range.
 pub fresh-formed : (v f : ℕ) → inRange v f ≡ true → wellFormed (freshOf v f) ≡ true

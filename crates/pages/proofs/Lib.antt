@@ -1,4 +1,3 @@
-pub mod Answers
 pub mod Mappings
 pub mod Memory
 pub mod Formed

@@ -16,7 +16,7 @@ use Rattle.pages.specs.Pages.{Pages}
 use Rattle.pages.specs.declared.FrameState.the-variants.{Dirty, Free}
 use Rattle.pages.specs.Entries.{isDirty}
 use Rattle.pages.specs.Layer.{frameAt, serves, withFrame}
-use Rattle.pages.specs.Mapping.{zeroReasons, dirtyReasons, noFrame, cleared, zeroed, zeroOf}
+use Rattle.pages.specs.Mapping.{zeroReasons, dirtyReasons, noFrame, cleared}
 use Rattle.pages.proofs.States.{is-dirty}
 
 -- The part comes back cleared, between what stood before it and what stood after it.
@@ -52,22 +52,3 @@ zero-served s frame cells tags e =
     let two = first-clear 12 (noFrame s frame) _ (λ x. omega arith) (one .1) in
     let three = first-clear 14 (not (isDirty (frameAt s (frame .0)))) _ (λ x. omega arith) (two .1) in
     record { of-cells = both .0; of-tags = both .1; below = leb-false (s .f) (frame .0) (two .0); dirty = is-dirty _ (not-false _ (three .0)) }
-
--- The two ways in which zero returns.
-module _ (s : Pages) (frame : Frame) (cells tags : List ℕ) (k : ℕ) (e : k ≡ first (zeroReasons s frame (length cells) (length tags))) where
-  pub zero-granted : k ≡ 0 → zeroed (record { code = 0; pages = withFrame s (frame .0) Free }) (cleared frame cells) (cleared frame tags) ≡ zeroOf s frame cells tags
-  unfolding zeroOf
-  zero-granted h = rw (← e, h)
-
-granted-reasons : (s : Pages) (frame : Frame) (cells tags : ℕ) → serves s cells tags ≡ true → first (dirtyReasons s frame) ≡ 0
-    → first (zeroReasons s frame cells tags) ≡ 0
-unfolding zeroReasons first
-granted-reasons s frame cells tags h e = rw h e
-
--- A zero that nothing stands against, with memory of the right size.
-pub zero-done :
-    (s : Pages) (frame : Frame) (cells tags : List ℕ) → serves s (length cells) (length tags) ≡ true → first (dirtyReasons s frame) ≡ 0
-    → zeroOf s frame cells tags
-    ≡ zeroed (record { code = 0; pages = withFrame s (frame .0) Free }) (cleared frame cells) (cleared frame tags)
-zero-done s frame cells tags h e =
-    sym (zero-granted s frame cells tags 0 (sym (granted-reasons s frame (length cells) (length tags) h e)) refl)

@@ -16,10 +16,9 @@ use Rattle.pages.specs.declared.PageState.the-variants.{Mapped}
 use Rattle.pages.specs.declared.FrameState.the-variants.{Mapped as Shown}
 use Rattle.pages.specs.declared.Place.the-variants.{At, Nowhere}
 use Rattle.pages.specs.Layer.{pageAt, withPage, withFrame}
-use Rattle.pages.specs.Mapping.{mapped, cleared, zeroOf, lookupOf, placeIn}
+use Rattle.pages.specs.Mapping.{mapped, cleared, lookupOf, placeIn}
 use Rattle.pages.proofs.Formed.{Sound}
 use Rattle.pages.proofs.Kept.{Mappable}
-use Rattle.pages.proofs.Memory.{zero-served}
 use Rattle.pages.proofs.View.{page-put, page-of-frame}
 
 -- The page layer's three facts about a frame of memory: cleared cells are 0, the others are as they were, and none is gained or lost.
@@ -77,12 +76,3 @@ map-shows s page frame i h m b =
     let p : (16 * page .0 + i) / 16 ≡ page .0 = omega arith in
     let o : (16 * page .0 + i) % 16 ≡ i = omega arith in
     rw (p, o, pick-yes (ltb (page .0) (mapped s page frame .v)) (placeIn (pageAt (mapped s page frame) (page .0)) i) Nowhere (low s page frame m), shows s page frame h m)
-
--- After a granted zero the frame's cells and tags are all 0.
-pub zero-blank :
-    (s : Pages) (frame : Frame) (cells tags : List ℕ) (i : ℕ) → zeroOf s frame cells tags .answer .code ≡ 0 → i < 16
-    → (getD (zeroOf s frame cells tags .cells) (16 * frame .0 + i) 0 ≡ 0) × (getD (zeroOf s frame cells tags .tags) (16 * frame .0 + i) 0 ≡ 0)
-unfolding zeroOf
-zero-blank s frame cells tags i e b =
-    let z = zero-served s frame (length cells) (length tags) e in
-    (rw e (cleared-here frame cells (omega (arith, z .of-cells, z .below)) i b), rw e (cleared-here frame tags (omega (arith, z .of-tags, z .below)) i b))

@@ -2,7 +2,7 @@
 use Prim.Native.Nat.{ℕ, _+_, _*_, _/_, _%_}
 use mathlib.Core.Bool.{Bool, not, _&&_, _||_}
 use mathlib.Core.List.{List, [], _∷_, _++_}
-use lib.ListN.{length, take, drop, replicate}
+use lib.ListN.{take, drop, replicate}
 use lib.Dec.{leb, ltb, eqb}
 use Rattle.capabilities.specs.declared.Range.{Range}
 use Rattle.capabilities.specs.Lists.{pick, each, mapEach}
@@ -69,21 +69,6 @@ zeroReasons s frame cells tags = reason 2 (not (serves s cells tags)) ∷ dirtyR
 -- "Its cells and tags become 0": the sixteen from 16 × frame on.
 unfoldable pub cleared : Frame → List ℕ → List ℕ
 cleared frame l = take (16 * frame .0) l ++ (replicate 16 0 ++ drop (16 * frame .0 + 16) l)
-
--- What zero answers, together with the lent memory after it.
-pub record Zeroed : Type 0 where
-  pub answer : Paged
-  pub cells : List ℕ
-  pub tags : List ℕ
-
-abbrev pub zeroed : Paged → List ℕ → List ℕ → Zeroed
-zeroed answer cells tags = record { answer = answer; cells = cells; tags = tags }
-
-unfoldable pub zeroOf : Pages → Frame → List ℕ → List ℕ → Zeroed
-zeroOf s frame cells tags =
-    let code = first (zeroReasons s frame (length cells) (length tags)) in
-    zeroed (paged code s (withFrame s (frame .0) Free)) (pick (eqb code 0) (cleared frame cells) cells)
-    (pick (eqb code 0) (cleared frame tags) tags)
 
 -- "Lent memory is 16 × F cells ..; frame f begins at 16 × f": the place of a virtual cell whose page is Mapped.
 abbrev pub placeIn : PageState → ℕ → Place

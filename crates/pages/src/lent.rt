@@ -26,7 +26,7 @@ ghost use Rattle.pages.specs.Entries.{isMapped, frameNumber};
 ghost use Rattle.pages.specs.Mapping.{mapReasons, unmapReasons, zeroReasons, cleared, placeIn, lookupOf, anyMapped};
 ghost use Rattle.pages.specs.Numbers.{pageFrom, pageCode, frameFrom, frameCode, layerOf, filled};
 
-fn clear_cells(cells: &mut [u64])
+pub fn clear_cells(cells: &mut [u64])
     ensures { λ _. ⌜ now (cells .exit) ≡ replicate (length (now (cells .entry))) 0 ⌝ }
 {
     let mut i: usize = 0;
@@ -36,7 +36,7 @@ fn clear_cells(cells: &mut [u64])
     }
 }
 
-fn clear_tags(tags: &mut [u8])
+pub fn clear_tags(tags: &mut [u8])
     ensures { λ _. ⌜ now (tags .exit) ≡ replicate (length (now (tags .entry))) 0 ⌝ }
 {
     let mut i: usize = 0;

@@ -9,9 +9,9 @@ use Rattle.capabilities.specs.declared.Range.{Range}
 use Rattle.capabilities.specs.Lists.{pick}
 use Rattle.capabilities.proofs.Choice.{pick-yes, pick-no, and-left, and-right}
 use Rattle.calls.specs.declared.Call.{Call}
-use Rattle.calls.specs.declared.Call.the-variants.{Take, Split, Merge, Give, Revoke, Sweep, Collect, Map, Unmap, Zero, Load, Store, Narrow, Number, Grant, Receive}
+use Rattle.machine.specs.State.{State}
 use Rattle.histories.specs.Runs.{Machine, outcome, next, run}
-use Rattle.privacy.specs.Rule.{housed, isCollect, private, Time, lasting, over, ending, until, timeAfter, struck, Left, remaining, left, indiscreet, discreet, told, heard}
+use Rattle.privacy.specs.Rule.{Role, collects, fills, stores, grants, plain, roleOf, callerOf, collecting, strikes, housed, private, Time, lasting, over, ending, until, timeAfter, struck, Left, remaining, left, indiscreet, discreet, told, heard}
 
 -- A struck call is the house's, and no collect, so that the time goes on.
 pub struck-housed : (house : ℕ) (t : Time) (m : Machine) (c : Call) → struck house t m c ≡ true → housed house c ≡ true
@@ -19,27 +19,16 @@ unfolding struck
 struck-housed house (lasting r) m c e = and-left (housed house c) (private r (m .state) c) e
 struck-housed house over m c e = absurd (false≢true e)
 
-private-going : (r : Range) (m : Machine) (c : Call) → private r (m .state) c ≡ true → isCollect c ≡ false
-private-going r m (Take p base reg) e = refl
-private-going r m (Split p base len) e = refl
-private-going r m (Merge p base) e = refl
-private-going r m (Give p base to) e = refl
-private-going r m (Revoke p base) e = refl
-private-going r m (Sweep p n) e = refl
-private-going r m (Collect p) e = absurd (false≢true e)
-private-going r m (Map p page frame) e = refl
-private-going r m (Unmap p page) e = refl
-private-going r m (Zero p frame) e = refl
-private-going r m (Load p a off d) e = refl
-private-going r m (Store p a off s) e = refl
-private-going r m (Narrow p s off len mask d) e = refl
-private-going r m (Number p d value) e = refl
-private-going r m (Grant p s to) e = refl
-private-going r m (Receive p d) e = refl
+strikes-going : (r : Range) (s : State) (p : ℕ) (role : Role) → strikes r s p role ≡ true → collecting role ≡ false
+strikes-going r s p collects e = absurd (false≢true e)
+strikes-going r s p fills e = refl
+strikes-going r s p (stores a off x) e = refl
+strikes-going r s p (grants x) e = refl
+strikes-going r s p plain e = refl
 
 pub struck-going : (house : ℕ) (t : Time) (m : Machine) (c : Call) → struck house t m c ≡ true → until t m c ≡ t
 unfolding struck until ending
-struck-going house (lasting r) m c e = rw (private-going r m c (and-right (housed house c) (private r (m .state) c) e))
+struck-going house (lasting r) m c e = rw (strikes-going r (m .state) (callerOf c) (roleOf c .role) (and-right (housed house c) (private r (m .state) c) e))
 struck-going house over m c e = absurd (false≢true e)
 
 -- What two lists come to, that began with equal times.

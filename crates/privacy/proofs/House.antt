@@ -17,12 +17,12 @@ use Rattle.pages.specs.declared.Place.the-variants.{At}
 use Rattle.pages.specs.Mapping.{lookupOf}
 use Rattle.pages.proofs.Formed.{Sound}
 use Rattle.sweep.specs.Sweep.{shownAt}
-use Rattle.reservations.specs.declared.ReservationState.the-variants.{Taken}
-use Rattle.reservations.specs.Rows.{reservation}
-use Rattle.reservations.proofs.Cells.{inside-bounds, inside-made}
-use Rattle.reservations.proofs.Truth.{both}
-use Rattle.revocation.specs.Core.{Core}
-use Rattle.revocation.specs.Revocation.{dying}
+use Rattle.table.specs.declared.ReservationState.the-variants.{Taken}
+use Rattle.table.specs.Rows.{reservation}
+use Rattle.table.proofs.Cells.{inside-bounds, inside-made}
+use Rattle.table.proofs.Truth.{both}
+use Rattle.reservations.specs.Core.{Core}
+use Rattle.reservations.specs.Revocation.{dying}
 use Rattle.words.specs.declared.Slot.{Slot}
 use Rattle.words.specs.Words.{slot, empty, registerOf, mailboxOf, wordAt, keepTag, collectedMailbox}
 use Rattle.machine.specs.Effects.{RegisterChange, keepRegisters, putRegister, fetchInto, collectRegisters, MailboxChange, keepMailboxes, putMailbox, collectMailboxes, MemoryChange, keepMemory, writeWord, clearFrame, sweepCells, Effect}

@@ -1,3 +1,4 @@
+pub mod Pairs
 pub mod Examples
 pub mod Needed
 pub mod Glue

@@ -17,11 +17,11 @@ use Rattle.capabilities.specs.Lists.{pick}
 use Rattle.capabilities.specs.Range.{inside}
 use Rattle.capabilities.specs.Refusals.{first, reason}
 use Rattle.capabilities.proofs.Refusals.{first-clear}
-use Rattle.reservations.specs.Operations.{takeReasons, takeOf, takenRow}
-use Rattle.reservations.specs.Rows.{isOpen, live, rangeOf}
-use Rattle.reservations.proofs.Cells.{inside-made}
-use Rattle.revocation.specs.Core.{Core}
-use Rattle.revocation.specs.Revocation.{coreSound}
+use Rattle.table.specs.Operations.{takeReasons, takeOf, takenRow}
+use Rattle.table.specs.Rows.{isOpen, live, rangeOf}
+use Rattle.table.proofs.Cells.{inside-made}
+use Rattle.reservations.specs.Core.{Core}
+use Rattle.reservations.specs.Revocation.{coreSound}
 use Rattle.calls.specs.declared.Call.{Call}
 use Rattle.calls.specs.declared.Call.the-variants.{Take}
 use Rattle.words.specs.declared.Slot.{Slot}

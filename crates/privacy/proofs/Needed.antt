@@ -1,61 +1,67 @@
--- Why the house must be discreet: without that condition the others notice, by computing. The house grants its capability to
--- party 5; what is left is the same in both lists, and the answers to party 5 differ. Assumes nothing.
-use mathlib.Core.Bool.{Bool, true, false}
-use Prim.Native.Nat.{ℕ}
+-- Why the claim asks for discretion and for equal registers: without either the others notice, by computing. In two pairs all but
+-- discretion is met, in one all but equal registers, and an answer to party 5 differs. And why it compares neither the range before
+-- its own collect nor the house's registers: in one pair all is met, and they differ. Assumes nothing.
+use mathlib.Core.Bool.{true, false, _&&_}
 use mathlib.Core.List.{List, [], _∷_}
 use mathlib.Core.Path.{_≡_, refl}
 use lib.ListN.{replicate}
-use Rattle.capabilities.specs.Lists.{each, mapEach}
-use Rattle.capabilities.specs.Range.{inside}
-use Rattle.capabilities.specs.Refusals.{first}
-use Rattle.pages.specs.Freed.{freedIn, allFreed}
-use Rattle.pages.specs.Layer.{pageAt, frameAt, withPage, withFrame, freshOf, mappings, pageSound, frameSound, wellFormed as pagesSound}
-use Rattle.pages.specs.Mapping.{mapReasons, mapped, mapOf, unmapReasons, soiled, unmapped, unmapOf, dirtyReasons, cleared, lookupOf, notMappedIn, anyMapped, freedEntry, freedOf, releasedEntry, releasedOf}
-use Rattle.sweep.specs.Sweep.{passed, sweptTag, sweptTags}
-use Rattle.reservations.specs.Find.{seek, findOf, nextOf, revokingOf, rowOf, withRow}
-use Rattle.reservations.specs.Operations.{openReasons, takeReasons, takeOf, splitReasonsAt, splitReasons, splitAt, splitOf, giveReasons, giveOf}
-use Rattle.reservations.specs.Rows.{live, splice, spread}
-use Rattle.reservations.specs.Tiling.{tiles, allBlank, revokings, sized, tableSound, freshTable}
-use Rattle.revocation.specs.Revocation.{freshCore, running, revoked, dying, revokeReasonsAt, revokeReasons, revokeAt, revokeOf, collectReasons, collected, collectOf, revocationSound, coreSound}
 use Rattle.calls.specs.Commands.{page, frame}
 use Rattle.calls.specs.declared.Call.{Call}
-use Rattle.calls.specs.declared.Call.the-variants.{Split, Give, Map, Zero, Load, Store, Number, Grant, Receive}
-use Rattle.words.specs.Words.{slot, empty, registerOf, mailboxOf, wordAt}
-use Rattle.machine.specs.Formed.{mailboxesSound, wellFormed, fresh, startOf}
-use Rattle.machine.specs.Reasons.{reading, addressed, reasons}
-use Rattle.machine.specs.Effects.{effect}
-use Rattle.machine.specs.Step.{registersAfter, mailboxesAfter, cellsAfter, tagsAfter, wordAfter, done, ruled, judged, stepOf}
-use Rattle.histories.specs.Runs.{outcome, next, run, begun}
-use Rattle.privacy.specs.Rule.{takenRange, ending, until, timeAfter, into, aimed, struck, Left, remaining, left, indiscreet, discreet, Told, heard}
-use Rattle.privacy.specs.Claim.{afterTake, time}
+use Rattle.calls.specs.declared.Call.the-variants.{Take, Split, Give, Revoke, Sweep, Collect, Map, Unmap, Zero, Load, Store, Number, Grant, Receive}
+use Rattle.machine.specs.Edges.{all}
+use Rattle.privacy.proofs.Pairs.{Entry, inBoth, inOne, inTwo, same, says, fine, Pair, unguarded, unequal, differing, comparing}
 
+-- House 3 has page 0, and party 5 has page 1 and granted house 3 its capability, which is in register 5.
 abbrev before : List Call
-before = Zero 0 (frame 0) ∷ Map 0 (page 0) (frame 0) ∷ Split 0 0 16 ∷ Give 0 0 3 ∷ []
+before =
+    Zero 0 (frame 0) ∷ Map 0 (page 0) (frame 0) ∷ Zero 0 (frame 1) ∷ Map 0 (page 1) (frame 1) ∷ Split 0 0 16 ∷ Give 0 0 3 ∷ Give 0 16 5 ∷ Take 5 16 0
+    ∷ Grant 5 0 3 ∷ Receive 3 5 ∷ []
 
-abbrev says : ℕ → ℕ → Bool → Told
-says code number tag = record { code = code; number = number; tag = tag }
+-- The house keeps 42 or 7 in its page and in register 1; then what follows.
+abbrev kept : List Entry → Pair
+kept after =
+    record {
+      v = 2;
+      f = 2;
+      cells = replicate 32 0;
+      tags = replicate 32 0;
+      before = before;
+      house = 3;
+      base = 0;
+      reg = 0;
+      after = inOne (Number 3 1 42) fine ∷ inTwo (Number 3 1 7) fine ∷ same (Store 3 0 5 1) fine ∷ after;
+    }
 
--- The house keeps a number, then grants its capability to party 5, which loads it.
-abbrev granting : ℕ → List Call
-granting n = Number 3 1 n ∷ Store 3 0 5 1 ∷ Grant 3 0 5 ∷ Receive 5 0 ∷ Load 5 0 5 1 ∷ []
+-- The house grants its capability to party 5, which loads by it.
+abbrev pub granting : Pair
+granting =
+    kept
+    (same (Grant 3 0 5) fine
+    ∷ same (Receive 5 1) (says 0 64425558016 true)
+    ∷ inBoth (Load 5 1 5 2) (says 0 42 false) (says 0 7 false)
+    ∷ [])
 
-abbrev others : List Left
-others =
-    record { call = Grant 3 0 5; registers = reading (slot 64425558016 true) empty }
-    ∷ record { call = Receive 5 0; registers = reading empty empty } ∷ record { call = Load 5 0 5 1; registers = reading empty empty } ∷ []
+-- The house stores its capability to a cell outside, where party 5 finds it and loads by it.
+abbrev pub storing : Pair
+storing =
+    kept
+    (same (Store 3 5 0 0) fine
+    ∷ same (Load 5 0 0 1) (says 0 64425558016 true)
+    ∷ inBoth (Load 5 1 5 2) (says 0 42 false) (says 0 7 false)
+    ∷ [])
 
-pub granting-left-one : left 3 (time 2 1 (replicate 16 0) (replicate 16 0) before 3 0 0) (afterTake 2 1 (replicate 16 0) (replicate 16 0) before 3 0 0) (granting 42) ≡ others
-unfolding stepOf judged ruled done wellFormed coreSound pagesSound tableSound revocationSound mailboxesSound each mapEach mappings pageSound frameSound allFreed freedIn tiles allBlank revokings sized live running revoked dying revokingOf rowOf seek findOf nextOf withRow first takeReasons openReasons takeOf splitReasonsAt splitReasons splitAt splitOf giveReasons giveOf revokeReasonsAt revokeReasons revokeAt revokeOf collectReasons collected collectOf notMappedIn anyMapped freedEntry freedOf releasedEntry releasedOf passed sweptTag sweptTags spread splice registersAfter mailboxesAfter cellsAfter tagsAfter wordAfter reasons effect addressed lookupOf registerOf mailboxOf wordAt mapReasons mapOf mapped unmapReasons soiled unmapped unmapOf dirtyReasons cleared pageAt frameAt withPage withFrame freshCore freshTable freshOf fresh startOf outcome begun run next inside takenRange ending until timeAfter into aimed struck remaining left indiscreet discreet heard
-granting-left-one = refl
+-- The house stores the number itself to a cell outside: a store that is left, and reads unequal registers.
+abbrev pub reading : Pair
+reading =
+    kept
+    (same (Store 3 5 0 1) fine
+    ∷ inBoth (Load 5 0 0 1) (says 0 42 false) (says 0 7 false)
+    ∷ [])
 
-pub granting-heard-one : heard 3 (afterTake 2 1 (replicate 16 0) (replicate 16 0) before 3 0 0) (granting 42) ≡ says 0 64425558016 true ∷ says 0 42 false ∷ []
-unfolding stepOf judged ruled done wellFormed coreSound pagesSound tableSound revocationSound mailboxesSound each mapEach mappings pageSound frameSound allFreed freedIn tiles allBlank revokings sized live running revoked dying revokingOf rowOf seek findOf nextOf withRow first takeReasons openReasons takeOf splitReasonsAt splitReasons splitAt splitOf giveReasons giveOf revokeReasonsAt revokeReasons revokeAt revokeOf collectReasons collected collectOf notMappedIn anyMapped freedEntry freedOf releasedEntry releasedOf passed sweptTag sweptTags spread splice registersAfter mailboxesAfter cellsAfter tagsAfter wordAfter reasons effect addressed lookupOf registerOf mailboxOf wordAt mapReasons mapOf mapped unmapReasons soiled unmapped unmapOf dirtyReasons cleared pageAt frameAt withPage withFrame freshCore freshTable freshOf fresh startOf outcome begun run next inside takenRange ending until timeAfter into aimed struck remaining left indiscreet discreet heard
-granting-heard-one = refl
+-- Another range is collected in the house's time: after it virtual cell 5 shows 42 or 7, and the house's register 1 holds it.
+abbrev pub elsewhere : Pair
+elsewhere = kept (same (Unmap 0 (page 1)) fine ∷ same (Revoke 0 16) fine ∷ same (Sweep 0 32) fine ∷ same (Collect 0) fine ∷ [])
 
-pub granting-left-two : left 3 (time 2 1 (replicate 16 0) (replicate 16 0) before 3 0 0) (afterTake 2 1 (replicate 16 0) (replicate 16 0) before 3 0 0) (granting 7) ≡ others
-unfolding stepOf judged ruled done wellFormed coreSound pagesSound tableSound revocationSound mailboxesSound each mapEach mappings pageSound frameSound allFreed freedIn tiles allBlank revokings sized live running revoked dying revokingOf rowOf seek findOf nextOf withRow first takeReasons openReasons takeOf splitReasonsAt splitReasons splitAt splitOf giveReasons giveOf revokeReasonsAt revokeReasons revokeAt revokeOf collectReasons collected collectOf notMappedIn anyMapped freedEntry freedOf releasedEntry releasedOf passed sweptTag sweptTags spread splice registersAfter mailboxesAfter cellsAfter tagsAfter wordAfter reasons effect addressed lookupOf registerOf mailboxOf wordAt mapReasons mapOf mapped unmapReasons soiled unmapped unmapOf dirtyReasons cleared pageAt frameAt withPage withFrame freshCore freshTable freshOf fresh startOf outcome begun run next inside takenRange ending until timeAfter into aimed struck remaining left indiscreet discreet heard
-granting-left-two = refl
-
-pub granting-heard-two : heard 3 (afterTake 2 1 (replicate 16 0) (replicate 16 0) before 3 0 0) (granting 7) ≡ says 0 64425558016 true ∷ says 0 7 false ∷ []
-unfolding stepOf judged ruled done wellFormed coreSound pagesSound tableSound revocationSound mailboxesSound each mapEach mappings pageSound frameSound allFreed freedIn tiles allBlank revokings sized live running revoked dying revokingOf rowOf seek findOf nextOf withRow first takeReasons openReasons takeOf splitReasonsAt splitReasons splitAt splitOf giveReasons giveOf revokeReasonsAt revokeReasons revokeAt revokeOf collectReasons collected collectOf notMappedIn anyMapped freedEntry freedOf releasedEntry releasedOf passed sweptTag sweptTags spread splice registersAfter mailboxesAfter cellsAfter tagsAfter wordAfter reasons effect addressed lookupOf registerOf mailboxOf wordAt mapReasons mapOf mapped unmapReasons soiled unmapped unmapOf dirtyReasons cleared pageAt frameAt withPage withFrame freshCore freshTable freshOf fresh startOf outcome begun run next inside takenRange ending until timeAfter into aimed struck remaining left indiscreet discreet heard
-granting-heard-two = refl
+pub all-needed : (all unguarded (granting ∷ storing ∷ []) && all unequal (reading ∷ [])) && all (differing 5 1) (elsewhere ∷ []) ≡ true
+unfolding comparing
+all-needed = refl

@@ -13,7 +13,7 @@ use Rattle.capabilities.proofs.Refusals.{first-clear}
 use Rattle.pages.specs.declared.Place.{Place}
 use Rattle.pages.specs.declared.Place.the-variants.{At, Nowhere}
 use Rattle.pages.specs.Mapping.{lookupOf}
-use Rattle.revocation.specs.Core.{Core}
+use Rattle.reservations.specs.Core.{Core}
 use Rattle.words.specs.declared.Slot.{Slot}
 use Rattle.words.specs.Words.{named}
 use Rattle.words.specs.Words.{nowhere}

@@ -27,11 +27,11 @@ use Rattle.pages.proofs.Formed.{Sound, sound}
 use Rattle.pages.proofs.Freeing.{freed-at, released-at}
 use Rattle.pages.proofs.Kept.{Mappable, mappable, unmappable}
 use Rattle.pages.proofs.View.{page-put, page-kept, page-of-frame}
-use Rattle.reservations.specs.Find.{findOf, rowOf}
-use Rattle.reservations.specs.Rows.{rangeOf}
-use Rattle.revocation.specs.Core.{Core}
-use Rattle.revocation.specs.Revocation.{revoked, revokeReasons, revokeAt, revokeOf, collectReasons, collected, collectOf, coreSound}
-use Rattle.revocation.proofs.CoreKept.{core-facts}
+use Rattle.table.specs.Find.{findOf, rowOf}
+use Rattle.table.specs.Rows.{rangeOf}
+use Rattle.reservations.specs.Core.{Core}
+use Rattle.reservations.specs.Revocation.{revoked, revokeReasons, revokeAt, revokeOf, collectReasons, collected, collectOf, coreSound}
+use Rattle.reservations.proofs.CoreKept.{core-facts}
 use Rattle.calls.specs.declared.Call.{Call}
 use Rattle.calls.specs.declared.Call.the-variants.{Take, Split, Merge, Give, Revoke, Sweep, Collect, Map, Unmap, Zero, Load, Store, Narrow, Number, Grant, Receive}
 use Rattle.words.specs.declared.Slot.{Slot}

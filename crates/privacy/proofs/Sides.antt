@@ -19,10 +19,10 @@ use Rattle.pages.specs.Entries.{isDirty}
 use Rattle.pages.specs.Layer.{frameAt}
 use Rattle.pages.specs.Mapping.{lookupOf, dirtyReasons, noFrame}
 use Rattle.pages.proofs.Formed.{Sound}
-use Rattle.reservations.proofs.Cells.{inside-made}
-use Rattle.reservations.proofs.Truth.{both, and-yes, or-right}
-use Rattle.revocation.specs.Core.{Core}
-use Rattle.revocation.specs.Revocation.{dying}
+use Rattle.table.proofs.Cells.{inside-made}
+use Rattle.table.proofs.Truth.{both, and-yes, or-right}
+use Rattle.reservations.specs.Core.{Core}
+use Rattle.reservations.specs.Revocation.{dying}
 use Rattle.calls.specs.declared.Call.{Call}
 use Rattle.calls.specs.declared.Call.the-variants.{Take, Split, Merge, Give, Revoke, Sweep, Collect, Map, Unmap, Zero, Load, Store, Narrow, Number, Grant, Receive}
 use Rattle.words.specs.declared.Slot.{Slot}

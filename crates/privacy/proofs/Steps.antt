@@ -18,10 +18,10 @@ use Rattle.pages.specs.declared.Place.the-variants.{At}
 use Rattle.pages.specs.Mapping.{lookupOf}
 use Rattle.pages.proofs.Formed.{Sound, sound}
 use Rattle.pages.proofs.Memory.{served}
-use Rattle.reservations.specs.Operations.{takeReasons}
-use Rattle.reservations.proofs.Truth.{both}
-use Rattle.revocation.specs.Revocation.{revoked, coreSound}
-use Rattle.revocation.proofs.CoreKept.{core-facts}
+use Rattle.table.specs.Operations.{takeReasons}
+use Rattle.table.proofs.Truth.{both}
+use Rattle.reservations.specs.Revocation.{revoked, coreSound}
+use Rattle.reservations.proofs.CoreKept.{core-facts}
 use Rattle.calls.specs.declared.Call.{Call}
 use Rattle.calls.specs.declared.Call.the-variants.{Take, Split, Merge, Give, Revoke, Sweep, Collect, Map, Unmap, Zero, Load, Store, Narrow, Number, Grant, Receive}
 use Rattle.words.specs.declared.Slot.{Slot}

@@ -17,22 +17,22 @@ use Rattle.capabilities.proofs.Refusals.{first-clear}
 use Rattle.pages.specs.declared.Place.the-variants.{At}
 use Rattle.pages.specs.Mapping.{lookupOf}
 use Rattle.pages.proofs.Formed.{sound}
-use Rattle.reservations.specs.declared.ReservationState.the-variants.{Taken}
-use Rattle.reservations.specs.Table.{Table}
-use Rattle.reservations.specs.Find.{findOf, rowOf}
-use Rattle.reservations.specs.Operations.{takeReasons, takeOf, takenRow, splitReasons, splitOf, mergeReasons, mergeOf, giveReasons, giveOf}
-use Rattle.reservations.specs.Rows.{isOpen, held, live, rangeOf, reservation}
-use Rattle.reservations.proofs.After.{Replaced, take-after, split-after, merge-after, give-after}
-use Rattle.reservations.proofs.Answers.{split-fits, split-clear}
-use Rattle.reservations.proofs.Cells.{inside-bounds, inside-made, no-shared-cell}
-use Rattle.reservations.proofs.Kept.{row-live}
-use Rattle.reservations.proofs.Sound.{sound as tableFacts}
-use Rattle.reservations.proofs.Tiled.{tiled-next, tiled-fits, tiled-row, row-some}
-use Rattle.reservations.proofs.Truth.{both}
-use Rattle.revocation.specs.Core.{Core}
-use Rattle.revocation.specs.Revocation.{revoked, revokeReasons, revokeOf, collectReasons, collectOf, coreSound}
-use Rattle.revocation.proofs.CoreAfter.{revoke-after}
-use Rattle.revocation.proofs.CoreKept.{core-facts}
+use Rattle.table.specs.declared.ReservationState.the-variants.{Taken}
+use Rattle.table.specs.Table.{Table}
+use Rattle.table.specs.Find.{findOf, rowOf}
+use Rattle.table.specs.Operations.{takeReasons, takeOf, takenRow, splitReasons, splitOf, mergeReasons, mergeOf, giveReasons, giveOf}
+use Rattle.table.specs.Rows.{isOpen, held, live, rangeOf, reservation}
+use Rattle.table.proofs.After.{Replaced, take-after, split-after, merge-after, give-after}
+use Rattle.table.proofs.Answers.{split-fits, split-clear}
+use Rattle.table.proofs.Cells.{inside-bounds, inside-made, no-shared-cell}
+use Rattle.table.proofs.Kept.{row-live}
+use Rattle.table.proofs.Sound.{sound as tableFacts}
+use Rattle.table.proofs.Tiled.{tiled-next, tiled-fits, tiled-row, row-some}
+use Rattle.table.proofs.Truth.{both}
+use Rattle.reservations.specs.Core.{Core}
+use Rattle.reservations.specs.Revocation.{revoked, revokeReasons, revokeOf, collectReasons, collectOf, coreSound}
+use Rattle.reservations.proofs.CoreAfter.{revoke-after}
+use Rattle.reservations.proofs.CoreKept.{core-facts}
 use Rattle.calls.specs.declared.Call.{Call}
 use Rattle.calls.specs.declared.Call.the-variants.{Take, Split, Merge, Give, Revoke, Sweep, Collect, Map, Unmap, Zero, Load, Store, Narrow, Number, Grant, Receive}
 use Rattle.words.specs.declared.Slot.{Slot}
@@ -52,6 +52,16 @@ Surrounds t r = Around t (reservation (r .base) (r .length) Taken 0)
 
 around-more : (t u : Table) (r : Range) → Carried t u → Surrounds t r → Surrounds u r
 around-more t u r k a = let b : Around u (rowAt t (a .row)) = k .kept (a .row) (a .used) (a .lent) in record { row = b .row; used = b .used; lent = b .lent; from = omega (arith, b .from, a .from); upto = omega (arith, b .upto, a .upto) }
+
+-- A range that contains another begins no later and ends no earlier; and the other way about.
+contains-bounds : (outer inner : Range) → contains outer inner ≡ true → (outer .base ≤ inner .base) × (inner .base + inner .length ≤ outer .base + outer .length)
+contains-bounds o i e = (
+  leb-true (o .base) (i .base) (and-left (leb (o .base) (i .base)) (leb (i .base + i .length) (o .base + o .length)) e),
+  leb-true (i .base + i .length) (o .base + o .length) (and-right (leb (o .base) (i .base)) (leb (i .base + i .length) (o .base + o .length)) e),
+)
+
+contains-by : (outer inner : Range) → outer .base ≤ inner .base → inner .base + inner .length ≤ outer .base + outer .length → contains outer inner ≡ true
+contains-by o i a b = both (leb (o .base) (i .base)) (leb (i .base + i .length) (o .base + o .length)) (le-leb (o .base) (i .base) a) (le-leb (i .base + i .length) (o .base + o .length) b)
 
 module _ (k : Core) (ok : coreSound k ≡ true) where
   abbrev t : Table
@@ -137,8 +147,7 @@ module _ (k : Core) (ok : coreSound k ≡ true) where
       go : (b : Bool) → inside (rangeOf (rowAt t (e .row))) (r .base) ≡ b → Surrounds (collectOf k .core .table) r
       go true x =
           let same = one-row (a .row) (e .row) (r .base) (a .used) (e .used) here x in
-          let all : contains (rangeOf (rowAt t (a .row))) r ≡ true =
-          both (leb (rowAt t (a .row) .base) (r .base)) (leb (r .base + r .length) (rowAt t (a .row) .base + rowAt t (a .row) .length)) (le-leb (rowAt t (a .row) .base) (r .base) (a .from)) (le-leb (r .base + r .length) (rowAt t (a .row) .base + rowAt t (a .row) .length) (a .upto)) in
+          let all = contains-by (rangeOf (rowAt t (a .row))) r (a .from) (a .upto) in
           absurd (true≢false (sym all ∙ ap (λ i. contains (rangeOf (rowAt t i)) r) same ∙ sym (ap (λ q. contains q r) (e .range)) ∙ n))
       go false x =
           let b : Around (collectOf k .core .table) (rowAt t (a .row)) = collect-kept t (collectOf k .core .table) (e .row) (e .used) (e .now) (r .base) (a .row) x (a .used) (a .lent) here in
@@ -210,8 +219,7 @@ module _ (k : Core) (ok : coreSound k ≡ true) where
       go : (b : Bool) → inside r v ≡ b → inside r v ≡ false
       go true x =
           let j = inside-bounds r v x in
-          let from : revoked k .base ≤ r .base = leb-true (revoked k .base) (r .base) (and-left (leb (revoked k .base) (r .base)) (leb (r .base + r .length) (revoked k .base + revoked k .length)) n) in
-          let upto : r .base + r .length ≤ revoked k .base + revoked k .length = leb-true (r .base + r .length) (revoked k .base + revoked k .length) (and-right (leb (revoked k .base) (r .base)) (leb (r .base + r .length) (revoked k .base + revoked k .length)) n) in
+          let (from, upto) = contains-bounds (revoked k) r n in
           let base : revoked k .base % 16 ≡ 0 = ap (λ x. x .base % 16) (e .range) ∙ e .whole-base in
           let long : revoked k .length % 16 ≡ 0 = ap (λ x. x .length % 16) (e .range) ∙ e .whole-length in
           absurd (true≢false (sym (inside-made (revoked k) (16 * (v / 16)) (omega (arith, j .0)) (omega (arith, j .1))) ∙ out))

@@ -15,8 +15,8 @@ use Rattle.capabilities.proofs.Choice.{pick-yes, and-left, and-right}
 use Rattle.pages.specs.declared.Place.the-variants.{At}
 use Rattle.pages.specs.Layer.{serves}
 use Rattle.pages.specs.Mapping.{lookupOf}
-use Rattle.revocation.specs.Core.{Core}
-use Rattle.revocation.specs.Revocation.{revoked, coreSound}
+use Rattle.reservations.specs.Core.{Core}
+use Rattle.reservations.specs.Revocation.{revoked, coreSound}
 use Rattle.calls.specs.declared.Call.{Call}
 use Rattle.calls.specs.declared.Call.the-variants.{Take, Split, Merge, Give, Revoke, Sweep, Collect, Map, Unmap, Zero, Load, Store, Narrow, Number, Grant, Receive}
 use Rattle.words.specs.declared.Slot.{Slot}

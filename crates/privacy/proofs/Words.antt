@@ -18,7 +18,7 @@ use Rattle.pages.specs.Mapping.{cleared}
 use Rattle.pages.proofs.Shows.{length-cleared}
 use Rattle.sweep.specs.Sweep.{shownAt, sweptTags}
 use Rattle.sweep.proofs.Sweeping.{doomed, getD-swept, length-swept}
-use Rattle.revocation.specs.Core.{Core}
+use Rattle.reservations.specs.Core.{Core}
 use Rattle.words.specs.declared.Slot.{Slot}
 use Rattle.words.specs.Words.{slot, empty, named, registerOf, tagOf, wordAt, collectedRegister}
 use Rattle.machine.specs.Effects.{MemoryChange, keepMemory, writeWord, clearFrame, sweepCells}

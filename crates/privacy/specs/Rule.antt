@@ -11,10 +11,10 @@ use Rattle.capabilities.specs.Range.{inside}
 use Rattle.pages.specs.declared.Place.{Place}
 use Rattle.pages.specs.declared.Place.the-variants.{At, Nowhere}
 use Rattle.pages.specs.Mapping.{lookupOf}
-use Rattle.reservations.specs.Table.{Table}
-use Rattle.reservations.specs.Find.{findOf, rowOf}
-use Rattle.reservations.specs.Rows.{rangeOf}
-use Rattle.revocation.specs.Revocation.{revoked}
+use Rattle.table.specs.Table.{Table}
+use Rattle.table.specs.Find.{findOf, rowOf}
+use Rattle.table.specs.Rows.{rangeOf}
+use Rattle.reservations.specs.Revocation.{revoked}
 use Rattle.calls.specs.declared.Call.{Call}
 use Rattle.calls.specs.declared.Call.the-variants.{Take, Split, Merge, Give, Revoke, Sweep, Collect, Map, Unmap, Zero, Load, Store, Narrow, Number, Grant, Receive}
 use Rattle.words.specs.declared.Slot.{Slot}
@@ -24,24 +24,48 @@ use Rattle.machine.specs.State.{State}
 use Rattle.machine.specs.Reasons.{Reads, reading, reads}
 use Rattle.histories.specs.Runs.{Machine, outcome, next}
 
+-- What the rule asks of a call besides its caller. The registers named here are the caller's.
+pub data Role : Type 0 where
+  -- A collect, which may end a time.
+  collects : Role
+  -- A load, narrow or number: struck if it is the house's.
+  fills : Role
+  -- A store through register a, at an offset, of register s: struck if it is aimed, and otherwise it may betray.
+  stores : ℕ → ℕ → ℕ → Role
+  -- A grant of register s: it may betray.
+  grants : ℕ → Role
+  -- Any other call.
+  plain : Role
+
+pub record Asked : Type 0 where
+  pub caller : ℕ
+  pub role : Role
+
+abbrev asked : ℕ → Role → Asked
+asked p role = record { caller = p; role = role }
+
+-- The one table of the sixteen kinds: the party that makes a call, and the call's role.
+abbrev pub roleOf : Call → Asked
+roleOf (Take p base reg) = asked p plain
+roleOf (Split p base len) = asked p plain
+roleOf (Merge p base) = asked p plain
+roleOf (Give p base to) = asked p plain
+roleOf (Revoke p base) = asked p plain
+roleOf (Sweep p n) = asked p plain
+roleOf (Collect p) = asked p collects
+roleOf (Map p page frame) = asked p plain
+roleOf (Unmap p page) = asked p plain
+roleOf (Zero p frame) = asked p plain
+roleOf (Load p a off d) = asked p fills
+roleOf (Store p a off s) = asked p (stores a off s)
+roleOf (Narrow p s off len mask d) = asked p fills
+roleOf (Number p d value) = asked p fills
+roleOf (Grant p s to) = asked p (grants s)
+roleOf (Receive p d) = asked p plain
+
 -- The party that makes a call.
 abbrev pub callerOf : Call → ℕ
-callerOf (Take p base reg) = p
-callerOf (Split p base len) = p
-callerOf (Merge p base) = p
-callerOf (Give p base to) = p
-callerOf (Revoke p base) = p
-callerOf (Sweep p n) = p
-callerOf (Collect p) = p
-callerOf (Map p page frame) = p
-callerOf (Unmap p page) = p
-callerOf (Zero p frame) = p
-callerOf (Load p a off d) = p
-callerOf (Store p a off s) = p
-callerOf (Narrow p s off len mask d) = p
-callerOf (Number p d value) = p
-callerOf (Grant p s to) = p
-callerOf (Receive p d) = p
+callerOf c = roleOf c .caller
 
 -- "Code 0 means granted".
 abbrev pub granted : Machine → Call → Bool
@@ -64,23 +88,15 @@ pub data Time : Type 0 where
 abbrev pub contains : Range → Range → Bool
 contains outer inner = leb (outer .base) (inner .base) && leb (inner .base + inner .length) (outer .base + outer .length)
 
+abbrev pub collecting : Role → Bool
+collecting collects = true
+collecting fills = false
+collecting (stores a off x) = false
+collecting (grants x) = false
+collecting plain = false
+
 abbrev pub isCollect : Call → Bool
-isCollect (Take p base reg) = false
-isCollect (Split p base len) = false
-isCollect (Merge p base) = false
-isCollect (Give p base to) = false
-isCollect (Revoke p base) = false
-isCollect (Sweep p n) = false
-isCollect (Collect p) = true
-isCollect (Map p page frame) = false
-isCollect (Unmap p page) = false
-isCollect (Zero p frame) = false
-isCollect (Load p a off d) = false
-isCollect (Store p a off s) = false
-isCollect (Narrow p s off len mask d) = false
-isCollect (Number p d value) = false
-isCollect (Grant p s to) = false
-isCollect (Receive p d) = false
+isCollect c = collecting (roleOf c .role)
 
 -- "It ends with the first granted collect after that take of a revocation whose range contains all of the house's range".
 unfoldable pub ending : Range → Machine → Call → Bool
@@ -112,24 +128,16 @@ aimed r s p a off =
     let w = registerOf (s .registers) p a in
     (named p && named a) && (capabilityInto r w || inside r (baseOf (w .cell) + off))
 
--- "The house's loads, narrows, numbers and aimed stores".
+-- "The house's loads, narrows, numbers and aimed stores": those of a party p by their role.
+abbrev pub strikes : Range → State → ℕ → Role → Bool
+strikes r s p collects = false
+strikes r s p fills = true
+strikes r s p (stores a off x) = aimed r s p a off
+strikes r s p (grants x) = false
+strikes r s p plain = false
+
 abbrev pub private : Range → State → Call → Bool
-private r s (Take p base reg) = false
-private r s (Split p base len) = false
-private r s (Merge p base) = false
-private r s (Give p base to) = false
-private r s (Revoke p base) = false
-private r s (Sweep p n) = false
-private r s (Collect p) = false
-private r s (Map p page frame) = false
-private r s (Unmap p page) = false
-private r s (Zero p frame) = false
-private r s (Load p a off d) = true
-private r s (Store p a off x) = aimed r s p a off
-private r s (Narrow p x off len mask d) = true
-private r s (Number p d value) = true
-private r s (Grant p x to) = false
-private r s (Receive p d) = false
+private r s c = strikes r s (callerOf c) (roleOf c .role)
 
 -- "Strike from each list the house's loads, narrows, numbers and aimed stores in its time."
 unfoldable pub struck : ℕ → Time → Machine → Call → Bool
@@ -153,26 +161,19 @@ left house t m (c ∷ l) =
     let rest = left house (until t m c) (next m c) l in
     pick (struck house t m c) rest (remaining house m c ∷ rest)
 
--- The call "grants a capability into the range or stores one to a cell outside". What the filter strips of its tag is none.
-abbrev pub betrays : Range → State → Call → Bool
-betrays r s (Take p base reg) = false
-betrays r s (Split p base len) = false
-betrays r s (Merge p base) = false
-betrays r s (Give p base to) = false
-betrays r s (Revoke p base) = false
-betrays r s (Sweep p n) = false
-betrays r s (Collect p) = false
-betrays r s (Map p page frame) = false
-betrays r s (Unmap p page) = false
-betrays r s (Zero p frame) = false
-betrays r s (Load p a off d) = false
-betrays r s (Store p a off x) =
+-- A call of party p "grants a capability into the range or stores one to a cell outside", by its role. What the filter strips
+-- of its tag is none.
+abbrev pub handsOut : Range → State → ℕ → Role → Bool
+handsOut r s p collects = false
+handsOut r s p fills = false
+handsOut r s p (stores a off x) =
     capabilityInto r (stored (s .core) (registerOf (s .registers) p x))
     && not (inside r (baseOf (registerOf (s .registers) p a .cell) + off))
-betrays r s (Narrow p x off len mask d) = false
-betrays r s (Number p d value) = false
-betrays r s (Grant p x to) = capabilityInto r (registerOf (s .registers) p x)
-betrays r s (Receive p d) = false
+handsOut r s p (grants x) = capabilityInto r (registerOf (s .registers) p x)
+handsOut r s p plain = false
+
+abbrev pub betrays : Range → State → Call → Bool
+betrays r s c = handsOut r s (callerOf c) (roleOf c .role)
 
 -- A granted one of the house's calls, in its time, that is left and betrays.
 unfoldable pub indiscreet : ℕ → Time → Machine → Call → Bool

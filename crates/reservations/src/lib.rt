@@ -1,42 +1,44 @@
-// The reservation table, in a lent array of numbers.
-pub mod find;
-pub mod number;
-pub mod operations;
-pub mod parts;
-pub mod row;
-pub mod rows;
-pub mod tiling;
+// What a revocation makes of a reservation.
+use capabilities::Range;
+use table::Reservation;
+use table::ReservationState;
+ghost use mathlib.Core.Path.{_≡_};
+ghost use Rattle.table.specs.Rows.{rangeOf};
+ghost use Rattle.reservations.specs.Revocation.{wholePages, revokingRow, collectedRow};
 
-// A reservation is nobody's yet, lent out as a capability, or being taken back.
-pub enum ReservationState {
-    Open,
-    Taken,
-    Revoking,
+pub fn range_of(row: Reservation) -> Range
+    ensures { λ r. ⌜ r ≡ rangeOf row ⌝ }
+{
+    Range {
+        base: row.base,
+        length: row.length,
+    }
 }
 
-// `length` virtual cells from `base` on, and the party that holds them.
-pub struct Reservation {
-    pub base: u16,
-    pub length: u16,
-    pub state: ReservationState,
-    pub holder: u8,
+pub fn whole_pages(row: Reservation) -> bool
+    ensures { λ r. ⌜ r ≡ wholePages row ⌝ }
+{
+    (row.base % 16 == 0) & (row.length % 16 == 0)
 }
 
-// The row of a reservation, if there is one.
-pub enum Found {
-    At(usize),
-    Nowhere,
+pub fn revoking_row(row: Reservation) -> Reservation
+    ensures { λ r. ⌜ r ≡ revokingRow row ⌝ }
+{
+    Reservation {
+        base: row.base,
+        length: row.length,
+        state: ReservationState::Revoking,
+        holder: 0,
+    }
 }
 
-// What take answers: 0 or the refusal's number, and the length of what was taken.
-pub struct TakeAnswer {
-    pub code: u8,
-    pub length: u16,
-}
-
-// What split and merge answer: 0 or the refusal's number, how many rows are in use then, and how many were written.
-pub struct Moved {
-    pub code: u8,
-    pub count: usize,
-    pub writes: usize,
+pub fn collected_row(row: Reservation) -> Reservation
+    ensures { λ r. ⌜ r ≡ collectedRow row ⌝ }
+{
+    Reservation {
+        base: row.base,
+        length: row.length,
+        state: ReservationState::Open,
+        holder: 0,
+    }
 }

@@ -1,31 +1,18 @@
 -- The definitions, run on whole sessions: the lines that they give are the stored ones, byte for byte. Written by
--- tools/session_theorems from files that a model made from document 01 alone; `document` is its own session.
+-- tools/session_theorems from files that a model made from document 01 alone.
 use Prim.Native.Nat.{ℕ}
+use mathlib.Core.Bool.{Bool, true}
 use mathlib.Core.List.{List, [], _∷_}
 use mathlib.Core.Path.{_≡_, refl}
-use Rattle.capabilities.specs.Lists.{each, mapEach}
-use Rattle.capabilities.specs.Range.{inside}
-use Rattle.capabilities.specs.Refusals.{first}
-use Rattle.pages.specs.Freed.{freedIn, allFreed}
-use Rattle.pages.specs.Layer.{pageAt, frameAt, withPage, withFrame, freshOf, mappings, pageSound, frameSound, wellFormed}
-use Rattle.pages.specs.Mapping.{mapReasons, mapped, mapOf, unmapReasons, soiled, unmapped, unmapOf, dirtyReasons, zeroReasons, cleared, zeroOf, lookupOf, notMappedIn, anyMapped, freedEntry, freedOf, releasedEntry, releasedOf}
-use Rattle.sweep.specs.Sweep.{passed, sweptTag, sweptTags, sweepOf}
-use Rattle.reservations.specs.Find.{seek, findOf, nextOf, revokingOf, rowOf, withRow, inUse}
-use Rattle.reservations.specs.Operations.{openReasons, takeReasons, takeOf, splitReasonsAt, splitReasons, splitAt, splitOf, mergeable, mergeReasonsAt, mergeReasons, mergeAt, mergeOf, giveReasons, giveOf}
-use Rattle.reservations.specs.Rows.{live, splice, spread, gather}
-use Rattle.reservations.specs.Tiling.{tiles, allBlank, revokings, sized, tableSound, freshTable, covered, covers}
-use Rattle.revocation.specs.Revocation.{freshCore, running, revoked, dying, revokeReasonsAt, revokeReasons, revokeAt, revokeOf, sweepReasons, sweptCore, sweepCoreOf, collectReasons, collected, collectOf, revocationSound, coreSound}
 use Rattle.calls.specs.Reader.{whole, readOf}
-use Rattle.words.specs.Words.{registerOf, mailboxOf, wordAt}
 use Rattle.machine.specs.Command.{onReading, commandJudged, commandOf}
-use Rattle.machine.specs.Effects.{effect}
-use Rattle.machine.specs.Formed.{mailboxesSound, wellFormed as wellFormed-Formed, fresh, startOf}
-use Rattle.machine.specs.Reasons.{addressed, reasons}
-use Rattle.machine.specs.Step.{registersAfter, mailboxesAfter, cellsAfter, tagsAfter, wordAfter, done, ruled, judged, stepOf, withCore}
 use Rattle.lines.specs.Lines.{digits, decimal, lineOf}
 use Rattle.session_rules.specs.Session.{linesFrom, linesRead, linesOf}
+use Rattle.machine.specs.Edges.{same, all}
+use Rattle.machine.proofs.Computing.{computing}
 
-pub document : List ℕ
+-- Document 01's own session: bytes in 84, lines out 18.
+abbrev pub document : List ℕ
 document =
     0x00 ∷ 0x02 ∷ 0x01 ∷ 0x0A ∷ 0x00 ∷ 0x00 ∷ 0x08 ∷ 0x00 ∷ 0x00 ∷ 0x00 ∷ 0x02 ∷ 0x00 ∷ 0x00 ∷ 0x00 ∷ 0x00 ∷ 0x10 ∷
     0x04 ∷ 0x00 ∷ 0x00 ∷ 0x00 ∷ 0x03 ∷ 0x01 ∷ 0x03 ∷ 0x00 ∷ 0x00 ∷ 0x00 ∷ 0x0E ∷ 0x03 ∷ 0x01 ∷ 0x00 ∷ 0x00 ∷ 0x00 ∷
@@ -35,7 +22,7 @@ document =
     0x00 ∷ 0x00 ∷ 0x06 ∷ 0x02 ∷
     []
 
-pub document-lines : List ℕ
+abbrev pub document-lines : List ℕ
 document-lines =
     0x30 ∷ 0x20 ∷ 0x30 ∷ 0x20 ∷ 0x30 ∷ 0x0A ∷ 0x30 ∷ 0x20 ∷ 0x30 ∷ 0x20 ∷ 0x30 ∷ 0x0A ∷ 0x30 ∷ 0x20 ∷ 0x30 ∷ 0x20 ∷
     0x30 ∷ 0x0A ∷ 0x30 ∷ 0x20 ∷ 0x30 ∷ 0x20 ∷ 0x30 ∷ 0x0A ∷ 0x30 ∷ 0x20 ∷ 0x30 ∷ 0x20 ∷ 0x30 ∷ 0x0A ∷ 0x30 ∷ 0x20 ∷
@@ -47,11 +34,8 @@ document-lines =
     0x20 ∷ 0x30 ∷ 0x0A ∷ 0x31 ∷ 0x35 ∷ 0x20 ∷ 0x30 ∷ 0x20 ∷ 0x30 ∷ 0x0A ∷
     []
 
-pub document-runs : linesOf document ≡ document-lines
-unfolding document document-lines each mapEach inside first freedIn allFreed pageAt frameAt withPage withFrame freshOf mappings pageSound frameSound wellFormed mapReasons mapped mapOf unmapReasons soiled unmapped unmapOf dirtyReasons zeroReasons cleared zeroOf lookupOf notMappedIn anyMapped freedEntry freedOf releasedEntry releasedOf passed sweptTag sweptTags sweepOf seek findOf nextOf revokingOf rowOf withRow inUse openReasons takeReasons takeOf splitReasonsAt splitReasons splitAt splitOf mergeable mergeReasonsAt mergeReasons mergeAt mergeOf giveReasons giveOf live splice spread gather tiles allBlank revokings sized tableSound freshTable covered covers freshCore running revoked dying revokeReasonsAt revokeReasons revokeAt revokeOf sweepReasons sweptCore sweepCoreOf collectReasons collected collectOf revocationSound coreSound whole readOf registerOf mailboxOf wordAt onReading commandJudged commandOf effect mailboxesSound wellFormed-Formed fresh startOf addressed reasons registersAfter mailboxesAfter cellsAfter tagsAfter wordAfter done ruled judged stepOf withCore digits decimal lineOf linesFrom linesRead linesOf
-document-runs = refl
-
-pub random-00 : List ℕ
+-- A random session: bytes in 202, lines out 41.
+abbrev pub random-00 : List ℕ
 random-00 =
     0x00 ∷ 0x03 ∷ 0x03 ∷ 0x05 ∷ 0x00 ∷ 0x00 ∷ 0x00 ∷ 0x06 ∷ 0x00 ∷ 0x00 ∷ 0x00 ∷ 0x06 ∷ 0x00 ∷ 0x00 ∷ 0x30 ∷ 0x07 ∷
     0x00 ∷ 0x0A ∷ 0x00 ∷ 0x02 ∷ 0x0A ∷ 0x00 ∷ 0x01 ∷ 0x08 ∷ 0x00 ∷ 0x02 ∷ 0x02 ∷ 0x0A ∷ 0x00 ∷ 0x00 ∷ 0x02 ∷ 0x00 ∷
@@ -68,7 +52,7 @@ random-00 =
     0x06 ∷ 0x0D ∷ 0x00 ∷ 0x00 ∷ 0x00 ∷ 0x00 ∷ 0x00 ∷ 0x26 ∷ 0x0F ∷ 0x04 ∷
     []
 
-pub random-00-lines : List ℕ
+abbrev pub random-00-lines : List ℕ
 random-00-lines =
     0x30 ∷ 0x20 ∷ 0x30 ∷ 0x20 ∷ 0x30 ∷ 0x0A ∷ 0x30 ∷ 0x20 ∷ 0x30 ∷ 0x20 ∷ 0x30 ∷ 0x0A ∷ 0x30 ∷ 0x20 ∷ 0x34 ∷ 0x38 ∷
     0x20 ∷ 0x30 ∷ 0x0A ∷ 0x30 ∷ 0x20 ∷ 0x30 ∷ 0x20 ∷ 0x30 ∷ 0x0A ∷ 0x30 ∷ 0x20 ∷ 0x30 ∷ 0x20 ∷ 0x30 ∷ 0x0A ∷ 0x30 ∷
@@ -90,39 +74,30 @@ random-00-lines =
     0x20 ∷ 0x30 ∷ 0x0A ∷ 0x30 ∷ 0x20 ∷ 0x30 ∷ 0x20 ∷ 0x30 ∷ 0x0A ∷
     []
 
-pub random-00-runs : linesOf random-00 ≡ random-00-lines
-unfolding random-00 random-00-lines each mapEach inside first freedIn allFreed pageAt frameAt withPage withFrame freshOf mappings pageSound frameSound wellFormed mapReasons mapped mapOf unmapReasons soiled unmapped unmapOf dirtyReasons zeroReasons cleared zeroOf lookupOf notMappedIn anyMapped freedEntry freedOf releasedEntry releasedOf passed sweptTag sweptTags sweepOf seek findOf nextOf revokingOf rowOf withRow inUse openReasons takeReasons takeOf splitReasonsAt splitReasons splitAt splitOf mergeable mergeReasonsAt mergeReasons mergeAt mergeOf giveReasons giveOf live splice spread gather tiles allBlank revokings sized tableSound freshTable covered covers freshCore running revoked dying revokeReasonsAt revokeReasons revokeAt revokeOf sweepReasons sweptCore sweepCoreOf collectReasons collected collectOf revocationSound coreSound whole readOf registerOf mailboxOf wordAt onReading commandJudged commandOf effect mailboxesSound wellFormed-Formed fresh startOf addressed reasons registersAfter mailboxesAfter cellsAfter tagsAfter wordAfter done ruled judged stepOf withCore digits decimal lineOf linesFrom linesRead linesOf
-random-00-runs = refl
-
-pub random-01 : List ℕ
+-- A random session: bytes in 21, lines out 1.
+abbrev pub random-01 : List ℕ
 random-01 =
     0x01 ∷ 0x00 ∷ 0x81 ∷ 0x02 ∷ 0x00 ∷ 0x00 ∷ 0x01 ∷ 0x00 ∷ 0x07 ∷ 0x02 ∷ 0x00 ∷ 0x00 ∷ 0x01 ∷ 0x00 ∷ 0x13 ∷ 0x02 ∷
     0x00 ∷ 0x00 ∷ 0x00 ∷ 0x00 ∷ 0x0A ∷
     []
 
-pub random-01-lines : List ℕ
+abbrev pub random-01-lines : List ℕ
 random-01-lines =
     0x31 ∷ 0x20 ∷ 0x30 ∷ 0x20 ∷ 0x30 ∷ 0x0A ∷
     []
 
-pub random-01-runs : linesOf random-01 ≡ random-01-lines
-unfolding random-01 random-01-lines each mapEach inside first freedIn allFreed pageAt frameAt withPage withFrame freshOf mappings pageSound frameSound wellFormed mapReasons mapped mapOf unmapReasons soiled unmapped unmapOf dirtyReasons zeroReasons cleared zeroOf lookupOf notMappedIn anyMapped freedEntry freedOf releasedEntry releasedOf passed sweptTag sweptTags sweepOf seek findOf nextOf revokingOf rowOf withRow inUse openReasons takeReasons takeOf splitReasonsAt splitReasons splitAt splitOf mergeable mergeReasonsAt mergeReasons mergeAt mergeOf giveReasons giveOf live splice spread gather tiles allBlank revokings sized tableSound freshTable covered covers freshCore running revoked dying revokeReasonsAt revokeReasons revokeAt revokeOf sweepReasons sweptCore sweepCoreOf collectReasons collected collectOf revocationSound coreSound whole readOf registerOf mailboxOf wordAt onReading commandJudged commandOf effect mailboxesSound wellFormed-Formed fresh startOf addressed reasons registersAfter mailboxesAfter cellsAfter tagsAfter wordAfter done ruled judged stepOf withCore digits decimal lineOf linesFrom linesRead linesOf
-random-01-runs = refl
-
-pub random-13 : List ℕ
+-- A random session: bytes in 0, lines out 1.
+abbrev pub random-13 : List ℕ
 random-13 =
     []
 
-pub random-13-lines : List ℕ
+abbrev pub random-13-lines : List ℕ
 random-13-lines =
     0x31 ∷ 0x20 ∷ 0x30 ∷ 0x20 ∷ 0x30 ∷ 0x0A ∷
     []
 
-pub random-13-runs : linesOf random-13 ≡ random-13-lines
-unfolding random-13 random-13-lines each mapEach inside first freedIn allFreed pageAt frameAt withPage withFrame freshOf mappings pageSound frameSound wellFormed mapReasons mapped mapOf unmapReasons soiled unmapped unmapOf dirtyReasons zeroReasons cleared zeroOf lookupOf notMappedIn anyMapped freedEntry freedOf releasedEntry releasedOf passed sweptTag sweptTags sweepOf seek findOf nextOf revokingOf rowOf withRow inUse openReasons takeReasons takeOf splitReasonsAt splitReasons splitAt splitOf mergeable mergeReasonsAt mergeReasons mergeAt mergeOf giveReasons giveOf live splice spread gather tiles allBlank revokings sized tableSound freshTable covered covers freshCore running revoked dying revokeReasonsAt revokeReasons revokeAt revokeOf sweepReasons sweptCore sweepCoreOf collectReasons collected collectOf revocationSound coreSound whole readOf registerOf mailboxOf wordAt onReading commandJudged commandOf effect mailboxesSound wellFormed-Formed fresh startOf addressed reasons registersAfter mailboxesAfter cellsAfter tagsAfter wordAfter done ruled judged stepOf withCore digits decimal lineOf linesFrom linesRead linesOf
-random-13-runs = refl
-
-pub random-14 : List ℕ
+-- A random session: bytes in 350, lines out 66.
+abbrev pub random-14 : List ℕ
 random-14 =
     0x00 ∷ 0x0F ∷ 0x02 ∷ 0x0A ∷ 0x00 ∷ 0x00 ∷ 0x08 ∷ 0x00 ∷ 0xFF ∷ 0x00 ∷ 0x0E ∷ 0x01 ∷ 0x06 ∷ 0xFA ∷ 0x28 ∷ 0xD8 ∷
     0xF2 ∷ 0xC6 ∷ 0xA2 ∷ 0xE4 ∷ 0x60 ∷ 0x04 ∷ 0x00 ∷ 0x00 ∷ 0x00 ∷ 0x00 ∷ 0x01 ∷ 0x00 ∷ 0x00 ∷ 0x00 ∷ 0x06 ∷ 0x0A ∷
@@ -148,7 +123,7 @@ random-14 =
     0xFF ∷ 0xFF ∷ 0xFF ∷ 0xFF ∷ 0xFF ∷ 0xFF ∷ 0xFF ∷ 0xFF ∷ 0x09 ∷ 0x00 ∷ 0x06 ∷ 0x09 ∷ 0x00 ∷ 0x0D ∷
     []
 
-pub random-14-lines : List ℕ
+abbrev pub random-14-lines : List ℕ
 random-14-lines =
     0x30 ∷ 0x20 ∷ 0x30 ∷ 0x20 ∷ 0x30 ∷ 0x0A ∷ 0x30 ∷ 0x20 ∷ 0x30 ∷ 0x20 ∷ 0x30 ∷ 0x0A ∷ 0x31 ∷ 0x32 ∷ 0x20 ∷ 0x30 ∷
     0x20 ∷ 0x30 ∷ 0x0A ∷ 0x30 ∷ 0x20 ∷ 0x30 ∷ 0x20 ∷ 0x30 ∷ 0x0A ∷ 0x30 ∷ 0x20 ∷ 0x30 ∷ 0x20 ∷ 0x30 ∷ 0x0A ∷ 0x30 ∷
@@ -182,11 +157,8 @@ random-14-lines =
     0x0A ∷ 0x30 ∷ 0x20 ∷ 0x30 ∷ 0x20 ∷ 0x30 ∷ 0x0A ∷
     []
 
-pub random-14-runs : linesOf random-14 ≡ random-14-lines
-unfolding random-14 random-14-lines each mapEach inside first freedIn allFreed pageAt frameAt withPage withFrame freshOf mappings pageSound frameSound wellFormed mapReasons mapped mapOf unmapReasons soiled unmapped unmapOf dirtyReasons zeroReasons cleared zeroOf lookupOf notMappedIn anyMapped freedEntry freedOf releasedEntry releasedOf passed sweptTag sweptTags sweepOf seek findOf nextOf revokingOf rowOf withRow inUse openReasons takeReasons takeOf splitReasonsAt splitReasons splitAt splitOf mergeable mergeReasonsAt mergeReasons mergeAt mergeOf giveReasons giveOf live splice spread gather tiles allBlank revokings sized tableSound freshTable covered covers freshCore running revoked dying revokeReasonsAt revokeReasons revokeAt revokeOf sweepReasons sweptCore sweepCoreOf collectReasons collected collectOf revocationSound coreSound whole readOf registerOf mailboxOf wordAt onReading commandJudged commandOf effect mailboxesSound wellFormed-Formed fresh startOf addressed reasons registersAfter mailboxesAfter cellsAfter tagsAfter wordAfter done ruled judged stepOf withCore digits decimal lineOf linesFrom linesRead linesOf
-random-14-runs = refl
-
-pub random-19 : List ℕ
+-- A random session: bytes in 359, lines out 64.
+abbrev pub random-19 : List ℕ
 random-19 =
     0x00 ∷ 0x02 ∷ 0x01 ∷ 0x0A ∷ 0x00 ∷ 0x00 ∷ 0x04 ∷ 0x00 ∷ 0x00 ∷ 0x00 ∷ 0x00 ∷ 0x08 ∷ 0x00 ∷ 0x01 ∷ 0x00 ∷ 0x02 ∷
     0x00 ∷ 0x00 ∷ 0x00 ∷ 0x00 ∷ 0x10 ∷ 0x0E ∷ 0x00 ∷ 0x05 ∷ 0xFF ∷ 0xFF ∷ 0xFF ∷ 0xFF ∷ 0xFF ∷ 0xFF ∷ 0xFF ∷ 0xFF ∷
@@ -213,7 +185,7 @@ random-19 =
     0x00 ∷ 0x05 ∷ 0x07 ∷ 0x10 ∷ 0x06 ∷ 0x03 ∷ 0x10 ∷
     []
 
-pub random-19-lines : List ℕ
+abbrev pub random-19-lines : List ℕ
 random-19-lines =
     0x30 ∷ 0x20 ∷ 0x30 ∷ 0x20 ∷ 0x30 ∷ 0x0A ∷ 0x30 ∷ 0x20 ∷ 0x30 ∷ 0x20 ∷ 0x30 ∷ 0x0A ∷ 0x30 ∷ 0x20 ∷ 0x30 ∷ 0x20 ∷
     0x30 ∷ 0x0A ∷ 0x30 ∷ 0x20 ∷ 0x30 ∷ 0x20 ∷ 0x30 ∷ 0x0A ∷ 0x30 ∷ 0x20 ∷ 0x30 ∷ 0x20 ∷ 0x30 ∷ 0x0A ∷ 0x30 ∷ 0x20 ∷
@@ -246,25 +218,19 @@ random-19-lines =
     0x20 ∷ 0x30 ∷ 0x0A ∷
     []
 
-pub random-19-runs : linesOf random-19 ≡ random-19-lines
-unfolding random-19 random-19-lines each mapEach inside first freedIn allFreed pageAt frameAt withPage withFrame freshOf mappings pageSound frameSound wellFormed mapReasons mapped mapOf unmapReasons soiled unmapped unmapOf dirtyReasons zeroReasons cleared zeroOf lookupOf notMappedIn anyMapped freedEntry freedOf releasedEntry releasedOf passed sweptTag sweptTags sweepOf seek findOf nextOf revokingOf rowOf withRow inUse openReasons takeReasons takeOf splitReasonsAt splitReasons splitAt splitOf mergeable mergeReasonsAt mergeReasons mergeAt mergeOf giveReasons giveOf live splice spread gather tiles allBlank revokings sized tableSound freshTable covered covers freshCore running revoked dying revokeReasonsAt revokeReasons revokeAt revokeOf sweepReasons sweptCore sweepCoreOf collectReasons collected collectOf revocationSound coreSound whole readOf registerOf mailboxOf wordAt onReading commandJudged commandOf effect mailboxesSound wellFormed-Formed fresh startOf addressed reasons registersAfter mailboxesAfter cellsAfter tagsAfter wordAfter done ruled judged stepOf withCore digits decimal lineOf linesFrom linesRead linesOf
-random-19-runs = refl
-
-pub random-25 : List ℕ
+-- A random session: bytes in 1, lines out 1.
+abbrev pub random-25 : List ℕ
 random-25 =
     0x00 ∷
     []
 
-pub random-25-lines : List ℕ
+abbrev pub random-25-lines : List ℕ
 random-25-lines =
     0x31 ∷ 0x20 ∷ 0x30 ∷ 0x20 ∷ 0x30 ∷ 0x0A ∷
     []
 
-pub random-25-runs : linesOf random-25 ≡ random-25-lines
-unfolding random-25 random-25-lines each mapEach inside first freedIn allFreed pageAt frameAt withPage withFrame freshOf mappings pageSound frameSound wellFormed mapReasons mapped mapOf unmapReasons soiled unmapped unmapOf dirtyReasons zeroReasons cleared zeroOf lookupOf notMappedIn anyMapped freedEntry freedOf releasedEntry releasedOf passed sweptTag sweptTags sweepOf seek findOf nextOf revokingOf rowOf withRow inUse openReasons takeReasons takeOf splitReasonsAt splitReasons splitAt splitOf mergeable mergeReasonsAt mergeReasons mergeAt mergeOf giveReasons giveOf live splice spread gather tiles allBlank revokings sized tableSound freshTable covered covers freshCore running revoked dying revokeReasonsAt revokeReasons revokeAt revokeOf sweepReasons sweptCore sweepCoreOf collectReasons collected collectOf revocationSound coreSound whole readOf registerOf mailboxOf wordAt onReading commandJudged commandOf effect mailboxesSound wellFormed-Formed fresh startOf addressed reasons registersAfter mailboxesAfter cellsAfter tagsAfter wordAfter done ruled judged stepOf withCore digits decimal lineOf linesFrom linesRead linesOf
-random-25-runs = refl
-
-pub random-34 : List ℕ
+-- A random session: bytes in 446, lines out 90.
+abbrev pub random-34 : List ℕ
 random-34 =
     0x00 ∷ 0x0E ∷ 0x0C ∷ 0x01 ∷ 0x00 ∷ 0x00 ∷ 0x00 ∷ 0x02 ∷ 0x0D ∷ 0x00 ∷ 0x02 ∷ 0x00 ∷ 0x00 ∷ 0x00 ∷ 0x18 ∷ 0x1A ∷
     0x03 ∷ 0x0E ∷ 0x07 ∷ 0x07 ∷ 0x05 ∷ 0x9B ∷ 0x37 ∷ 0x2C ∷ 0x3A ∷ 0xC1 ∷ 0x8F ∷ 0xF6 ∷ 0x0D ∷ 0x00 ∷ 0x03 ∷ 0x00 ∷
@@ -296,7 +262,7 @@ random-34 =
     0x00 ∷ 0x22 ∷ 0x03 ∷ 0x0B ∷ 0x07 ∷ 0x03 ∷ 0x00 ∷ 0x2F ∷ 0x04 ∷ 0x08 ∷ 0x00 ∷ 0x08 ∷ 0x03 ∷ 0x0F ∷
     []
 
-pub random-34-lines : List ℕ
+abbrev pub random-34-lines : List ℕ
 random-34-lines =
     0x30 ∷ 0x20 ∷ 0x30 ∷ 0x20 ∷ 0x30 ∷ 0x0A ∷ 0x30 ∷ 0x20 ∷ 0x32 ∷ 0x32 ∷ 0x34 ∷ 0x20 ∷ 0x30 ∷ 0x0A ∷ 0x30 ∷ 0x20 ∷
     0x30 ∷ 0x20 ∷ 0x30 ∷ 0x0A ∷ 0x30 ∷ 0x20 ∷ 0x30 ∷ 0x20 ∷ 0x30 ∷ 0x0A ∷ 0x30 ∷ 0x20 ∷ 0x30 ∷ 0x20 ∷ 0x30 ∷ 0x0A ∷
@@ -338,6 +304,29 @@ random-34-lines =
     0x30 ∷ 0x20 ∷ 0x30 ∷ 0x0A ∷
     []
 
-pub random-34-runs : linesOf random-34 ≡ random-34-lines
-unfolding random-34 random-34-lines each mapEach inside first freedIn allFreed pageAt frameAt withPage withFrame freshOf mappings pageSound frameSound wellFormed mapReasons mapped mapOf unmapReasons soiled unmapped unmapOf dirtyReasons zeroReasons cleared zeroOf lookupOf notMappedIn anyMapped freedEntry freedOf releasedEntry releasedOf passed sweptTag sweptTags sweepOf seek findOf nextOf revokingOf rowOf withRow inUse openReasons takeReasons takeOf splitReasonsAt splitReasons splitAt splitOf mergeable mergeReasonsAt mergeReasons mergeAt mergeOf giveReasons giveOf live splice spread gather tiles allBlank revokings sized tableSound freshTable covered covers freshCore running revoked dying revokeReasonsAt revokeReasons revokeAt revokeOf sweepReasons sweptCore sweepCoreOf collectReasons collected collectOf revocationSound coreSound whole readOf registerOf mailboxOf wordAt onReading commandJudged commandOf effect mailboxesSound wellFormed-Formed fresh startOf addressed reasons registersAfter mailboxesAfter cellsAfter tagsAfter wordAfter done ruled judged stepOf withCore digits decimal lineOf linesFrom linesRead linesOf
-random-34-runs = refl
+-- Input bytes, and the lines that they must give.
+pub record Session : Type 0 where
+  pub input : List ℕ
+  pub lines : List ℕ
+
+abbrev pub session : List ℕ → List ℕ → Session
+session input lines = record { input = input; lines = lines }
+
+unfoldable pub runs : Session → Bool
+runs s = same (linesOf (s .input)) (s .lines)
+
+abbrev pub sessions : List Session
+sessions =
+    session document document-lines
+    ∷ session random-00 random-00-lines
+    ∷ session random-01 random-01-lines
+    ∷ session random-13 random-13-lines
+    ∷ session random-14 random-14-lines
+    ∷ session random-19 random-19-lines
+    ∷ session random-25 random-25-lines
+    ∷ session random-34 random-34-lines
+    ∷ []
+
+pub all-run : all runs sessions ≡ true
+unfolding all runs same whole readOf onReading commandJudged commandOf digits decimal lineOf linesFrom linesRead linesOf computing
+all-run = refl

@@ -11,7 +11,7 @@ use Rattle.capabilities.specs.Lists.{pick}
 use Rattle.pages.specs.Layer.{serves, inRange}
 use Rattle.calls.specs.declared.Reading.the-variants.{Read, Refused}
 use Rattle.calls.specs.Commands.{lengths, lengthOf, callAt}
-use Rattle.calls.specs.Reader.{whole, readOf, first}
+use Rattle.calls.specs.Reader.{whole, readOf, firstByte}
 use Rattle.machine.specs.State.{State}
 use Rattle.machine.specs.Formed.{wellFormed, fresh, startOf}
 use Rattle.machine.specs.Step.{refused}
@@ -55,12 +55,12 @@ unfolding two
 two-all = refl
 
 -- A whole command is within its input and two bytes long at least.
-whole-fits : (l : List ℕ) → whole l ≡ true → lengthOf (first l) ≤ length l
+whole-fits : (l : List ℕ) → whole l ≡ true → lengthOf (firstByte l) ≤ length l
 unfolding whole
 whole-fits [] e = let z : _≡_ {A = ℕ} 0 1 = ap (λ (b : Bool). pick b 1 0) e in omega arith
 whole-fits (k ∷ l) e = leb-true (lengthOf k) (length (k ∷ l)) (and-second (ltb 0 (lengthOf k)) (leb (lengthOf k) (length (k ∷ l))) e)
 
-whole-two : (l : List ℕ) → whole l ≡ true → 2 ≤ lengthOf (first l)
+whole-two : (l : List ℕ) → whole l ≡ true → 2 ≤ lengthOf (firstByte l)
 unfolding whole
 whole-two [] e = let z : _≡_ {A = ℕ} 0 1 = ap (λ (b : Bool). pick b 1 0) e in omega arith
 whole-two (k ∷ l) e =
@@ -82,9 +82,9 @@ module _ (s : State) (input : List ℕ) (at : ℕ) (cells tags : List ℕ) (h : 
   unfolding onReading readOf
   read-used =
       pick-by (λ r. Used input at (onReading s r cells tags)) (whole (drop at input))
-      (Read (callAt (first (drop at input)) (drop at input)) (lengthOf (first (drop at input)))) Refused
+      (Read (callAt (firstByte (drop at input)) (drop at input)) (lengthOf (firstByte (drop at input)))) Refused
       (λ w.
-      let fits : lengthOf (first (drop at input)) ≤ length (drop at input) = whole-fits (drop at input) w in
+      let fits : lengthOf (firstByte (drop at input)) ≤ length (drop at input) = whole-fits (drop at input) w in
       let long : length (drop at input) + at ≡ length input = simp length-drop (omega arith) in
       record { within = omega arith; some = λ z. whole-two (drop at input) w })
       (λ w. ended 3 refl)

@@ -8,7 +8,7 @@ use borrow.Author.Tests.{eqb-true, leb-true, le-ltb}
 use Rattle.capabilities.specs.declared.Range.{Range}
 use Rattle.capabilities.specs.Capability.{baseOf}
 use Rattle.capabilities.specs.Range.{inside}
-use Rattle.revocation.specs.Revocation.{running, revoked, dying}
+use Rattle.reservations.specs.Revocation.{running, revoked, dying}
 use Rattle.arrays.specs.declared.Arrays.{Arrays}
 use Rattle.arrays.specs.Reading.{numbersOf, stateOf, arraysOf, Formed}
 use Rattle.step.proofs.Revoking.{running-cached}

@@ -12,28 +12,29 @@ use Rattle.capabilities.specs.Capability.{baseOf}
 use Rattle.capabilities.specs.Lists.{pick, each}
 use Rattle.capabilities.specs.Range.{inside}
 use Rattle.capabilities.specs.Refusals.{first}
+use Rattle.capabilities.proofs.Refusals.{pick-clear}
 use Rattle.capabilities.proofs.Choice.{pick-yes, and-left, and-right}
 use Rattle.pages.specs.Pages.{PageEntry}
 use Rattle.pages.specs.Freed.{allFreed}
 use Rattle.pages.specs.Mapping.{releasedOf}
 use Rattle.pages.specs.Numbers.{pageCode, filled}
 use Rattle.pages.proofs.Filling.{released-filled}
-use Rattle.reservations.specs.declared.Reservation.{Reservation}
-use Rattle.reservations.specs.declared.Found.{Found}
-use Rattle.reservations.specs.declared.Found.the-variants.{At as Row, Nowhere as None}
-use Rattle.reservations.specs.Table.{Table}
-use Rattle.reservations.specs.Rows.{isRevoking, rangeOf, blank, live}
-use Rattle.reservations.specs.Find.{missing, revokingOf, rowOf, withRow}
-use Rattle.reservations.proofs.Sound.{Sound, sound}
-use Rattle.reservations.proofs.Finding.{found-at}
-use Rattle.reservations.proofs.Dying.{dyings, firstOf, revoking-row, dyings-length, dyings-yes, dyings-not, no-dyings}
-use Rattle.reservations.proofs.Unrevoked.{after-dyings, before-dyings}
-use Rattle.reservations.specs.Numbers.{rowFrom, rowCode, tableOf}
-use Rattle.reservations.specs.Lent.{putAt}
-use Rattle.revocation.specs.Core.{Core}
-use Rattle.revocation.specs.Revocation.{core, running, revoked, dying, wholePages, collectReasons, collectedRow, collected, collectOf, revocationSound}
-use Rattle.revocation.proofs.CoreKept.{CoreFacts, core-facts}
-use Rattle.revocation.proofs.Revocations.{collected-at, collect-clear}
+use Rattle.table.specs.declared.Reservation.{Reservation}
+use Rattle.table.specs.declared.Found.{Found}
+use Rattle.table.specs.declared.Found.the-variants.{At as Row, Nowhere as None}
+use Rattle.table.specs.Table.{Table}
+use Rattle.table.specs.Rows.{isRevoking, rangeOf, blank, live}
+use Rattle.table.specs.Find.{missing, revokingOf, rowOf, withRow}
+use Rattle.table.proofs.Sound.{Sound, sound}
+use Rattle.table.proofs.Finding.{found-at}
+use Rattle.table.proofs.Dying.{dyings, firstOf, revoking-row, dyings-length, dyings-yes, dyings-not, no-dyings}
+use Rattle.table.proofs.Unrevoked.{after-dyings, before-dyings}
+use Rattle.table.specs.Numbers.{rowFrom, rowCode, tableOf}
+use Rattle.table.specs.Lent.{putAt}
+use Rattle.reservations.specs.Core.{Core}
+use Rattle.reservations.specs.Revocation.{core, running, revoked, dying, wholePages, collectReasons, collectedRow, collected, collectOf, revocationSound}
+use Rattle.reservations.proofs.CoreKept.{CoreFacts, core-facts}
+use Rattle.reservations.proofs.Revocations.{collected-at, collect-clear}
 use Rattle.calls.specs.declared.Call.the-variants.{Collect}
 use Rattle.words.specs.declared.Slot.{Slot}
 use Rattle.words.specs.Words.{empty, keepTag, collectedRegister, collectedMailbox}
@@ -45,7 +46,7 @@ use Rattle.machine.specs.Reasons.{reasons}
 use Rattle.machine.specs.Effects.{effect, effectOf, collectRegisters, collectMailboxes, keepMemory}
 use Rattle.machine.specs.Step.{done, reasonsOn, effectOn, ruled}
 use Rattle.machine.proofs.Keeps.{facts}
-use Rattle.machine.proofs.Ruled.{manager-clear, ruled-done, done-collect}
+use Rattle.machine.proofs.Ruled.{ruled-done, done-collect}
 use Rattle.arrays.specs.declared.Arrays.{Arrays}
 use Rattle.arrays.specs.declared.Numbers.{Numbers}
 use Rattle.arrays.specs.Reading.{arrays, numbersOf, coreOf, stateOf, arraysOf, Formed}
@@ -191,7 +192,7 @@ module _ (b : Arrays) (f : Formed b) where
     code-is = e ∙ ap (λ (x : ℕ). pick (unnamed p) 4 (pick (notManager p) 5 x)) rest-is
 
     clear : k ≡ 0 → first (collectReasons (stateOf b .core)) ≡ 0
-    clear z = sym rest-is ∙ manager-clear (unnamed p) (notManager p) k _ e z
+    clear z = sym rest-is ∙ pick-clear 5 (notManager p) _ (λ x. omega arith) (pick-clear 4 (unnamed p) _ (λ x. omega arith) (sym e ∙ z) .1) .1
 
     pub collect-down : (k ≡ 0 → ⊥) → leaving (answer k empty) b cells tags ≡ leftOf (ruled (stateOf b) (Collect p) cells tags)
     collect-down = down b f (Collect p) k code-is cells tags

@@ -8,7 +8,7 @@ use lib.Dec.{eqb}
 use borrow.Author.Tests.{eq-eqb, eqb-true}
 use Rattle.capabilities.specs.Lists.{pick}
 use Rattle.capabilities.proofs.Choice.{pick-yes, pick-no, and-left, and-right}
-use Rattle.reservations.proofs.Truth.{both}
+use Rattle.table.proofs.Truth.{both}
 use Rattle.pages.specs.Layer.{serves}
 use Rattle.calls.specs.declared.Call.{Call}
 use Rattle.calls.specs.declared.Reading.{Reading}

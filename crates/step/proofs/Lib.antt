@@ -12,3 +12,5 @@ pub mod Mailing
 pub mod Storing
 pub mod Running
 pub mod Collecting
+pub mod Repeating
+pub mod Composing

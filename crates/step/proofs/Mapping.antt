@@ -23,8 +23,8 @@ use Rattle.pages.specs.Mapping.{mapReasons, mapped, mapOf, unmapReasons, unmapp
 use Rattle.pages.specs.Numbers.{pageFrom, pageCode, frameCode, layerOf}
 use Rattle.pages.proofs.Reading.{page-read}
 use Rattle.pages.proofs.OnNumbers.{unmap-put, zero-reasons}
-use Rattle.revocation.specs.Core.{Core}
-use Rattle.revocation.specs.Revocation.{core}
+use Rattle.reservations.specs.Core.{Core}
+use Rattle.reservations.specs.Revocation.{core}
 use Rattle.calls.specs.declared.Call.{Call}
 use Rattle.calls.specs.declared.Call.the-variants.{Map, Unmap, Zero}
 use Rattle.words.specs.Words.{empty}

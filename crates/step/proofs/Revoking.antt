@@ -10,27 +10,28 @@ use borrow.Author.Tests.{eq-eqb, ne-eqb, eqb-true, not-true, not-false}
 use Rattle.capabilities.specs.declared.Range.{Range}
 use Rattle.capabilities.specs.Lists.{pick, each}
 use Rattle.capabilities.specs.Refusals.{first}
+use Rattle.capabilities.proofs.Refusals.{pick-clear}
 use Rattle.capabilities.proofs.Choice.{pick-yes, and-left, and-right}
 use Rattle.pages.specs.Pages.{PageEntry}
 use Rattle.pages.specs.Pages.{FrameEntry}
 use Rattle.pages.specs.Mapping.{notMappedIn, anyMapped, freedEntry, freedOf}
-use Rattle.reservations.specs.declared.Reservation.{Reservation}
-use Rattle.reservations.specs.declared.Found.{Found}
-use Rattle.reservations.specs.declared.Found.the-variants.{At as Row, Nowhere as None}
-use Rattle.reservations.specs.Table.{Table}
-use Rattle.reservations.specs.Rows.{isRevoking, rangeOf, blank, live}
-use Rattle.reservations.specs.Find.{missing, begins, findOf, revokingOf, rowOf, withRow}
-use Rattle.reservations.specs.Tiling.{tableSound}
-use Rattle.reservations.proofs.Sound.{Sound, sound}
-use Rattle.reservations.proofs.Finding.{found-at}
-use Rattle.reservations.proofs.Kept.{row-live, cut-one}
-use Rattle.reservations.proofs.Tiled.{tiled-row, row-some}
-use Rattle.reservations.proofs.Dying.{dyings, none, firstOf, revoking-row, revoking-none, dyings-append, dyings-yes}
-use Rattle.reservations.proofs.Unrevoked.{after-dyings, before-dyings}
-use Rattle.revocation.specs.Core.{Core}
-use Rattle.revocation.specs.Revocation.{core, running, revoked, wholePages, revokingRow, revokeReasonsAt, revokeReasons, revokeAt, revokeOf}
-use Rattle.revocation.proofs.CoreKept.{CoreFacts, core-facts}
-use Rattle.revocation.proofs.Revocations.{Revokes, revoke-clear}
+use Rattle.table.specs.declared.Reservation.{Reservation}
+use Rattle.table.specs.declared.Found.{Found}
+use Rattle.table.specs.declared.Found.the-variants.{At as Row, Nowhere as None}
+use Rattle.table.specs.Table.{Table}
+use Rattle.table.specs.Rows.{isRevoking, rangeOf, blank, live}
+use Rattle.table.specs.Find.{missing, begins, findOf, revokingOf, rowOf, withRow}
+use Rattle.table.specs.Tiling.{tableSound}
+use Rattle.table.proofs.Sound.{Sound, sound}
+use Rattle.table.proofs.Finding.{found-at}
+use Rattle.table.proofs.Kept.{row-live, cut-one}
+use Rattle.table.proofs.Tiled.{tiled-row, row-some}
+use Rattle.table.proofs.Dying.{dyings, none, firstOf, revoking-row, revoking-none, dyings-append, dyings-yes}
+use Rattle.table.proofs.Unrevoked.{after-dyings, before-dyings}
+use Rattle.reservations.specs.Core.{Core}
+use Rattle.reservations.specs.Revocation.{core, running, revoked, wholePages, revokingRow, revokeReasonsAt, revokeReasons, revokeAt, revokeOf}
+use Rattle.reservations.proofs.CoreKept.{CoreFacts, core-facts}
+use Rattle.reservations.proofs.Revocations.{Revokes, revoke-clear}
 use Rattle.calls.specs.declared.Call.{Call}
 use Rattle.calls.specs.declared.Call.the-variants.{Revoke}
 use Rattle.words.specs.Words.{empty}
@@ -39,12 +40,11 @@ use Rattle.machine.specs.Reasons.{reasons}
 use Rattle.machine.specs.Effects.{effect, effectOf, keepRegisters, keepMailboxes, keepMemory}
 use Rattle.machine.specs.Step.{withCore, reasonsOn, effectOn, ruled}
 use Rattle.machine.proofs.Keeps.{facts}
-use Rattle.machine.proofs.Ruled.{manager-clear}
 use Rattle.arrays.specs.declared.Arrays.{Arrays}
 use Rattle.arrays.specs.declared.Numbers.{Numbers}
 use Rattle.pages.specs.Numbers.{pageCode, frameCode}
-use Rattle.reservations.specs.Numbers.{rowFrom, rowCode, tableOf}
-use Rattle.reservations.specs.Lent.{putAt}
+use Rattle.table.specs.Numbers.{rowFrom, rowCode, tableOf}
+use Rattle.table.specs.Lent.{putAt}
 use Rattle.pages.specs.Numbers.{pageIn, frameIn, layerOf}
 use Rattle.arrays.specs.Reading.{arrays, numbersOf, coreOf, stateOf, arraysOf, Formed}
 use Rattle.arrays.specs.Steps.{answer, leaving, leftOf}
@@ -164,7 +164,7 @@ module _ (b : Arrays) (f : Formed b) (count : ℕ) (ec : b .nums .count ≡ coun
 
     module _ (k : ℕ) (e : k ≡ pick (unnamed p) 4 (pick (notManager p) 5 rest)) where
       pub revoke-rest : k ≡ 0 → rest ≡ 0
-      revoke-rest = manager-clear (unnamed p) (notManager p) k rest e
+      revoke-rest z = pick-clear 5 (notManager p) rest (λ x. omega arith) (pick-clear 4 (unnamed p) (pick (notManager p) 5 rest) (λ x. omega arith) (sym e ∙ z) .1) .1
 
       code-is : k ≡ first (reasonsOn (stateOf b) call)
       unfolding reasons first

@@ -1,67 +1,17 @@
--- The arrays that a start's state is written as. Assumes nothing.
-use Prim.Native.Nat.{ℕ, _*_, _<_}
-use native.Mathlib.Omega.{arith}
-use mathlib.Core.Bool.{Bool, true, false, _&&_}
-use mathlib.Core.List.{List, [], _∷_, map}
-use mathlib.Core.Path.{_≡_, refl, sym, ap, subst, _∙_}
-use lib.ListN.{length, set, replicate}
-use lib.Dec.{eqb, ltb, leb}
-use borrow.Author.Tests.{ne-eqb, ltb-true}
+-- The arrays that a start's state is written as, as a start by value answers them. Assumes nothing.
+use Prim.Native.Nat.{ℕ, _*_}
+use mathlib.Core.Bool.{Bool, true, false}
+use mathlib.Core.Path.{_≡_, sym, ap, _∙_}
+use lib.ListN.{set, replicate}
 use Rattle.capabilities.specs.Lists.{pick}
-use Rattle.capabilities.proofs.Choice.{pick-yes, pick-no, and-left}
-use Rattle.pages.specs.Pages.{Pages}
-use Rattle.pages.specs.Layer.{inRange, blank, freshOf}
-use Rattle.pages.specs.Numbers.{pageCode, frameCode}
-use Rattle.reservations.specs.Table.{Table}
-use Rattle.reservations.specs.declared.ReservationState.the-variants.{Open}
-use Rattle.reservations.specs.Rows.{table, reservation, live}
-use Rattle.reservations.specs.Rows as rows
-use Rattle.reservations.specs.Find.{seek, revokingOf, rowOf}
-use Rattle.reservations.specs.Tiling.{freshTable}
-use Rattle.reservations.specs.Numbers.{rowCode}
-use Rattle.revocation.specs.Revocation.{core, freshCore, revoked}
+use Rattle.capabilities.proofs.Choice.{pick-yes, pick-no}
+use Rattle.pages.specs.Layer.{inRange}
 use Rattle.words.specs.Words.{empty}
-use Rattle.machine.specs.State.{State}
-use Rattle.machine.specs.Formed.{fresh, startOf}
+use Rattle.machine.specs.Formed.{startOf}
 use Rattle.arrays.specs.declared.Arrays.{Arrays}
-use Rattle.arrays.specs.Reading.{arrays, numbersOf, arraysOf}
 use Rattle.arrays.specs.Steps.{answer}
-use Rattle.step.specs.Entries.{Begun, beginning, startOn}
-
--- All numbers but V, F, the count and the first row are 0.
-abbrev pub begun : ℕ → ℕ → ℕ → List ℕ → Arrays
-begun v f count rows =
-    arrays (record { v = v; f = f; count = count; place = 0; base = 0; length = 0 })
-    (replicate 64 0) (replicate 64 0) (replicate 8 0) (replicate 8 0) rows (replicate 256 0) (replicate 128 0)
-
--- A state with this layer and this table, and nothing else.
-abbrev bare : Pages → Table → State
-bare p t = record { core = core p t 0; registers = replicate 64 empty; mailboxes = replicate 8 empty }
-
-written-zero : arraysOf (bare (blank 0 0) (table (replicate 64 rows.blank) 0)) ≡ begun 0 0 0 (replicate 64 0)
-unfolding arraysOf numbersOf revoked revokingOf rowOf seek live rowCode pageCode frameCode
-written-zero = refl
-
-written-one : (v f n : ℕ) → arraysOf (bare (blank v f) (table (reservation 0 n Open 0 ∷ replicate 63 rows.blank) 1)) ≡ begun v f 1 (set (replicate 64 0) 0 (65536 * n))
-unfolding arraysOf numbersOf revoked revokingOf rowOf seek live rowCode pageCode frameCode
-written-one v f n = ap (λ (x : ℕ). begun v f 1 (x ∷ replicate 63 0)) (omega arith)
-
-pub fresh-in : (v f : ℕ) → inRange v f ≡ true → arraysOf (fresh v f) ≡ begun v f 1 (set (replicate 64 0) 0 (1048576 * v))
-unfolding fresh freshCore freshOf freshTable
-fresh-in v f e =
-    let some : 0 < v = ltb-true 0 v (and-left (ltb 0 v) (leb v 256) (and-left (ltb 0 v && leb v 256) (ltb 0 f && leb f 128) e)) in
-    let cells : pick (inRange v f) (16 * v) 0 ≡ 16 * v = pick-yes (inRange v f) (16 * v) 0 e in
-    ap (λ (p : Pages). arraysOf (bare p (freshTable (pick (inRange v f) (16 * v) 0)))) (pick-yes (inRange v f) (blank v f) (blank 0 0) e)
-    ∙ ap (λ (n : ℕ). arraysOf (bare (blank v f) (freshTable n))) cells
-    ∙ ap (λ (t : Table). arraysOf (bare (blank v f) t)) (pick-no (eqb (16 * v) 0) (table (replicate 64 rows.blank) 0) (table (reservation 0 (16 * v) Open 0 ∷ replicate 63 rows.blank) 1) (ne-eqb (16 * v) 0 (λ z. omega arith)))
-    ∙ written-one v f (16 * v) ∙ ap (λ (n : ℕ). begun v f 1 (set (replicate 64 0) 0 n)) (omega arith)
-
-fresh-out : (v f : ℕ) → inRange v f ≡ false → arraysOf (fresh v f) ≡ begun 0 0 0 (replicate 64 0)
-unfolding fresh freshCore freshOf
-fresh-out v f e =
-    ap (λ (p : Pages). arraysOf (bare p (freshTable (pick (inRange v f) (16 * v) 0)))) (pick-no (inRange v f) (blank v f) (blank 0 0) e)
-    ∙ ap (λ (n : ℕ). arraysOf (bare (blank 0 0) (freshTable n))) (pick-no (inRange v f) (16 * v) 0 e)
-    ∙ unfold freshTable in written-zero
+use Rattle.step.specs.Entries.{beginning, startOn}
+pub use Rattle.arrays.proofs.Starting.{begun, fresh-in, fresh-out}
 
 pub start-in : (v f : ℕ) → inRange v f ≡ true → beginning (answer 0 empty) (begun v f 1 (set (replicate 64 0) 0 (1048576 * v))) ≡ startOn v f
 unfolding startOn startOf

@@ -9,7 +9,7 @@ use Rattle.capabilities.specs.declared.Range.{Range}
 use Rattle.capabilities.specs.Range.{inside}
 use Rattle.capabilities.specs.Refusals.{first}
 use Rattle.pages.specs.declared.Place.{Place}
-use Rattle.revocation.specs.Revocation.{dying}
+use Rattle.reservations.specs.Revocation.{dying}
 use Rattle.calls.specs.declared.Call.{Call}
 use Rattle.calls.specs.declared.Call.the-variants.{Store}
 use Rattle.words.specs.declared.Slot.{Slot}

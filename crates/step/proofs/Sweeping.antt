@@ -13,9 +13,9 @@ use Rattle.capabilities.proofs.Choice.{pick-yes}
 use Rattle.pages.specs.Numbers.{layerOf}
 use Rattle.sweep.specs.declared.Swept.{Swept}
 use Rattle.sweep.specs.Sweep.{Passed, sweptTags, swept, passing, sweepOf}
-use Rattle.reservations.proofs.Truth.{both}
-use Rattle.revocation.specs.Core.{Core}
-use Rattle.revocation.specs.Revocation.{core, running, revoked}
+use Rattle.table.proofs.Truth.{both}
+use Rattle.reservations.specs.Core.{Core}
+use Rattle.reservations.specs.Revocation.{core, running, revoked}
 use Rattle.calls.specs.declared.Call.{Call}
 use Rattle.calls.specs.declared.Call.the-variants.{Sweep}
 use Rattle.words.specs.Words.{slot, empty}

@@ -11,17 +11,17 @@ use Rattle.capabilities.specs.Capability.{capability}
 use Rattle.capabilities.specs.Lists.{pick}
 use Rattle.capabilities.specs.Refusals.{first}
 use Rattle.capabilities.proofs.Choice.{pick-yes, pick-no}
-use Rattle.reservations.specs.Table.{Table}
-use Rattle.reservations.specs.Table.{Tabled}
-use Rattle.reservations.specs.Rows.{live}
-use Rattle.reservations.specs.Operations.{takeOf, splitOf, mergeOf, giveOf}
-use Rattle.reservations.specs.Tiling.{tableSound}
-use Rattle.reservations.proofs.Answers.{refused}
-use Rattle.reservations.proofs.Dying.{dyings}
-use Rattle.reservations.proofs.Unrevoked.{take-still, give-still, split-still, merge-still}
-use Rattle.revocation.specs.Core.{Core}
-use Rattle.revocation.specs.Revocation.{core}
-use Rattle.revocation.proofs.CoreKept.{core-facts, revoked-kept}
+use Rattle.table.specs.Table.{Table}
+use Rattle.table.specs.Table.{Tabled}
+use Rattle.table.specs.Rows.{live}
+use Rattle.table.specs.Operations.{takeOf, splitOf, mergeOf, giveOf}
+use Rattle.table.specs.Tiling.{tableSound}
+use Rattle.table.proofs.Answers.{refused}
+use Rattle.table.proofs.Dying.{dyings}
+use Rattle.table.proofs.Unrevoked.{take-still, give-still, split-still, merge-still}
+use Rattle.reservations.specs.Core.{Core}
+use Rattle.reservations.specs.Revocation.{core}
+use Rattle.reservations.proofs.CoreKept.{core-facts, revoked-kept}
 use Rattle.calls.specs.declared.Call.{Call}
 use Rattle.calls.specs.declared.Call.the-variants.{Take, Split, Merge, Give}
 use Rattle.words.specs.declared.Slot.{Slot}
@@ -32,9 +32,9 @@ use Rattle.machine.specs.Reasons.{reasons}
 use Rattle.machine.specs.Effects.{effect, effectOf, tableChange, putRegister, keepMailboxes, keepMemory}
 use Rattle.machine.specs.Step.{withCore, reasonsOn, effectOn, ruled}
 use Rattle.machine.proofs.Keeps.{facts}
-use Rattle.reservations.specs.Numbers.{tableOf, allWritten}
-use Rattle.reservations.specs.Lent.{Leaves, fitting, tabledOf}
-use Rattle.reservations.proofs.RoundTrip.{kept-written, left-numbers}
+use Rattle.table.specs.Numbers.{tableOf, allWritten}
+use Rattle.table.specs.Lent.{Leaves, fitting, tabledOf}
+use Rattle.table.proofs.RoundTrip.{kept-written, left-numbers}
 use Rattle.arrays.specs.declared.Arrays.{Arrays}
 use Rattle.arrays.specs.Reading.{coreOf, stateOf, arraysOf, Formed}
 use Rattle.arrays.specs.Steps.{Left, answer, leaving, leftOf, withWords, withRows, withTable, counted}

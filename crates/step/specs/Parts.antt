@@ -10,12 +10,12 @@ use Rattle.capabilities.specs.Lists.{pick, mapEach}
 use Rattle.pages.specs.declared.Place.{Place}
 use Rattle.pages.specs.declared.Place.the-variants.{At, Nowhere}
 use Rattle.pages.specs.Mapping.{lookupOf}
-use Rattle.reservations.specs.declared.Reservation.{Reservation}
-use Rattle.reservations.specs.declared.Found.{Found}
-use Rattle.reservations.specs.declared.Found.the-variants.{At as Row, Nowhere as None}
-use Rattle.reservations.specs.Rows.{blank}
-use Rattle.reservations.specs.Find.{revokingOf, rowOf}
-use Rattle.revocation.specs.Revocation.{collectedRow}
+use Rattle.table.specs.declared.Reservation.{Reservation}
+use Rattle.table.specs.declared.Found.{Found}
+use Rattle.table.specs.declared.Found.the-variants.{At as Row, Nowhere as None}
+use Rattle.table.specs.Rows.{blank}
+use Rattle.table.specs.Find.{revokingOf, rowOf}
+use Rattle.reservations.specs.Revocation.{collectedRow}
 use Rattle.calls.specs.declared.Call.{Call}
 use Rattle.words.specs.declared.Slot.{Slot}
 use Rattle.words.specs.Words.{empty, named, wordAt}
@@ -25,8 +25,8 @@ use Rattle.arrays.specs.declared.Answer.{Answer}
 use Rattle.arrays.specs.declared.Numbers.{Numbers}
 use Rattle.step.specs.declared.Stepped.{Stepped}
 use Rattle.pages.specs.Numbers.{layerOf, filled}
-use Rattle.reservations.specs.Numbers.{rowFrom, rowCode, tableOf}
-use Rattle.reservations.specs.Lent.{putAt}
+use Rattle.table.specs.Numbers.{rowFrom, rowCode, tableOf}
+use Rattle.table.specs.Lent.{putAt}
 use Rattle.arrays.specs.Reading.{arrays, Formed, stateOf, arraysOf}
 use Rattle.arrays.specs.Steps.{Does, leaving, leftOf, withWords, withRows, withPages, withMails, withTable}
 

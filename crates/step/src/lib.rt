@@ -36,6 +36,7 @@ pub mod entries;
 mod page_calls;
 pub mod printing;
 mod revoke_calls;
+pub mod runs;
 mod session;
 mod sweep_calls;
 mod table_calls;

@@ -19,6 +19,13 @@ use Rattle.sweep.specs.declared.Swept.{Swept}
 unfoldable pub passed : Pages → ℕ → ℕ → ℕ
 passed s place n = min n (16 * s .f - place)
 
+-- The place that a sweep of n cells reaches, and the cells left from a place on.
+abbrev pub reached : Pages → ℕ → ℕ → ℕ
+reached s place n = place + passed s place n
+
+abbrev pub cellsLeft : Pages → ℕ → ℕ
+cellsLeft s place = 16 * s .f - place
+
 abbrev pub shownAt : List FrameEntry → ℕ → Bool
 shownAt frames k = isShown (getD frames k (frameEntry Dirty) .state)
 
@@ -45,6 +52,6 @@ passing answer tags = record { answer = answer; tags = tags }
 -- "Answers the cells left." Lent memory of another size is refusal 2.
 unfoldable pub sweepOf : Pages → Range → ℕ → ℕ → List ℕ → List ℕ → Passed
 sweepOf s r place n cells tags =
-    let next = place + passed s place n in
-    pick (serves s (length cells) (length tags)) (passing (swept 0 (16 * s .f - next) next) (sweptTags (s .frames) r place next cells tags))
+    let next = reached s place n in
+    pick (serves s (length cells) (length tags)) (passing (swept 0 (cellsLeft s next) next) (sweptTags (s .frames) r place next cells tags))
     (passing (swept 2 0 place) tags)

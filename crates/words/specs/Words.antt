@@ -8,8 +8,8 @@ use lib.Dec.{ltb, eqb}
 use Rattle.capabilities.specs.Lists.{pick}
 use Rattle.pages.specs.declared.Place.{Place}
 use Rattle.pages.specs.declared.Place.the-variants.{At, Nowhere}
-use Rattle.revocation.specs.Core.{Core}
-use Rattle.revocation.specs.Revocation.{dying}
+use Rattle.reservations.specs.Core.{Core}
+use Rattle.reservations.specs.Revocation.{dying}
 use Rattle.words.specs.declared.Slot.{Slot}
 
 abbrev pub slot : ℕ → Bool → Slot
@@ -30,7 +30,7 @@ registerOf registers party reg = pick (named party && named reg) (getD registers
 unfoldable pub mailboxOf : List Slot → ℕ → Slot
 mailboxOf mailboxes party = getD mailboxes party empty
 
--- The one way in which a word loses its tag: it is kept only if a test holds. The cell's number stays.
+-- How a word that is loaded, stored or collected in a register may lose its tag: it is kept only if a test holds. The number stays.
 abbrev pub keepTag : Slot → Bool → Slot
 keepTag w b = slot (w .cell) (w .tag && b)
 

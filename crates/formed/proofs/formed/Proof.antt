@@ -12,7 +12,7 @@ use Rattle.formed.proofs.formed.Reads as reads
 use Rattle.formed.proofs.formed.Lts as lts
 use Rattle.formed.proofs.revocation_kept.Reads as revocation-kept-reads
 use Rattle.pages.proofs.sound.layer_sound.Reads as layer-sound-reads
-use Rattle.reservations.proofs.tiling.well_formed.Reads as well-formed-reads
+use Rattle.table.proofs.tiling.well_formed.Reads as well-formed-reads
 use Rattle.words.proofs.registers.bits.Reads as bits-reads
 use Rattle.words.proofs.registers.mailboxes_sound.Reads as mailboxes-sound-reads
 

@@ -7,7 +7,7 @@ use Rattle.capabilities.specs.declared.Range.{Range}
 use Rattle.capabilities.specs.Lists.{each}
 use Rattle.pages.specs.Freed.{freedIn}
 use Rattle.pages.specs.Numbers.{pageIn}
-use Rattle.revocation.specs.Revocation.{wholePages}
+use Rattle.reservations.specs.Revocation.{wholePages}
 use Rattle.formed.proofs.Revocation.{none-runs, one-runs}
 use borrow.Author.Needs.{needs}
 use Rattle.formed.proofs.revocation_kept.Statement.{statement}
@@ -15,11 +15,11 @@ use Rattle.formed.proofs.revocation_kept.Tie as tie
 use Rattle.formed.proofs.revocation_kept.Reads as reads
 use Rattle.formed.proofs.revocation_kept.Lts as lts
 use Rattle.formed.proofs.all_freed.Reads as all-freed-reads
-use Rattle.reservations.proofs.row.missing.Reads as missing-reads
-use Rattle.revocation.proofs.range_of.Reads as range-of-reads
-use Rattle.revocation.proofs.whole_pages.Reads as whole-pages-reads
-use Rattle.reservations.proofs.find.revoking.Reads as revoking-reads
-use Rattle.reservations.proofs.find.row_in.Reads as row-in-reads
+use Rattle.table.proofs.row.missing.Reads as missing-reads
+use Rattle.reservations.proofs.range_of.Reads as range-of-reads
+use Rattle.reservations.proofs.whole_pages.Reads as whole-pages-reads
+use Rattle.table.proofs.find.revoking.Reads as revoking-reads
+use Rattle.table.proofs.find.row_in.Reads as row-in-reads
 
 revoking-requires : tie.Need-revoking-requires
 revoking-requires c κs = search needs

@@ -1,6 +1,6 @@
 -- `pages::lent::map` meets its contract. Refused, the numbers are as given; granted, one of each is put.
 use mathlib.Core.Path.{_≡_, refl, sym, ap, _∙_}
-use Rattle.pages.proofs.Answers.{kept}
+use Rattle.capabilities.proofs.Choice.{kept}
 use Rattle.pages.specs.Numbers.{pageCode, frameCode}
 use borrow.Author.Needs.{needs}
 use Rattle.pages.proofs.lent.map.Statement.{statement}
@@ -16,7 +16,7 @@ same-length-2 : tie.Need-same-length-2
 same-length-2 c = search needs
 
 returns : tie.Need-returns
-returns c = (c .before .map-code .ensures, (kept _ _ _ (c .if1 .taken), kept _ _ _ (c .if1 .taken)))
+returns c = (c .before .map-code .ensures, (sym (kept _ _ _ (c .if1 .taken)), sym (kept _ _ _ (c .if1 .taken))))
 
 cast-put-page : tie.Need-cast-put-page
 cast-put-page c = search needs

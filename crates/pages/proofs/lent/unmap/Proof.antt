@@ -1,6 +1,6 @@
 -- `pages::lent::unmap` meets its contract. Refused, the numbers are as given; granted, the page is Freed and what it showed Dirty.
 use mathlib.Core.Path.{_≡_, refl, sym, ap, _∙_}
-use Rattle.pages.proofs.Answers.{kept}
+use Rattle.capabilities.proofs.Choice.{kept}
 use Prim.Native.Nat.{ℕ}
 use lib.ListN.{set}
 use Rattle.pages.specs.Entries.{frameNumber}
@@ -16,7 +16,7 @@ same-length : tie.Need-same-length
 same-length c = search needs
 
 returns : tie.Need-returns
-returns c = (λ f. c .before .unmap-code .ensures f (c .before .before .before .before .before .args .frames .now), (kept _ _ _ (c .if1 .taken), kept _ _ _ (c .if1 .taken)))
+returns c = (λ f. c .before .unmap-code .ensures f (c .before .before .before .before .before .args .frames .now), (sym (kept _ _ _ (c .if1 .taken)), sym (kept _ _ _ (c .if1 .taken))))
 
 cast-page-in : tie.Need-cast-page-in
 cast-page-in c = search needs

@@ -1,7 +1,7 @@
 -- `pages::lent::zero` meets its contract. Refused, all is as given; granted, the frame and its part of cells and tags are put.
 use native.Mathlib.Omega.{arith}
 use mathlib.Core.Path.{_≡_, refl, sym, ap, _∙_}
-use Rattle.pages.proofs.Answers.{kept}
+use Rattle.capabilities.proofs.Choice.{kept}
 use mathlib.Core.List.{[]}
 use lib.ListN.{length}
 use Rattle.pages.specs.Numbers.{frameCode, layerOf}
@@ -17,7 +17,7 @@ same-length : tie.Need-same-length
 same-length c = search needs
 
 returns : tie.Need-returns
-returns c = (c .before .zero-code .ensures, (kept _ _ _ (c .if1 .taken), (kept _ _ _ (c .if1 .taken), kept _ _ _ (c .if1 .taken))))
+returns c = (c .before .zero-code .ensures, (sym (kept _ _ _ (c .if1 .taken)), (sym (kept _ _ _ (c .if1 .taken)), sym (kept _ _ _ (c .if1 .taken)))))
 
 clear-cells-of-requires : tie.Need-clear-cells-of-requires
 clear-cells-of-requires c κs =

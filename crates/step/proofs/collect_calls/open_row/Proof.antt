@@ -5,10 +5,10 @@ use Rattle.step.proofs.collect_calls.open_row.Statement.{statement}
 use Rattle.step.proofs.collect_calls.open_row.Tie as tie
 use Rattle.step.proofs.collect_calls.open_row.Reads as reads
 use Rattle.step.proofs.collect_calls.open_row.Lts as lts
-use Rattle.revocation.proofs.collected_row.Reads as collected-row-reads
-use Rattle.reservations.proofs.find.put_row.Reads as put-row-reads
-use Rattle.reservations.proofs.find.revoking.Reads as revoking-reads
-use Rattle.reservations.proofs.find.row_in.Reads as row-in-reads
+use Rattle.reservations.proofs.collected_row.Reads as collected-row-reads
+use Rattle.table.proofs.find.put_row.Reads as put-row-reads
+use Rattle.table.proofs.find.revoking.Reads as revoking-reads
+use Rattle.table.proofs.find.row_in.Reads as row-in-reads
 
 revoking-requires : tie.Need-revoking-requires
 revoking-requires c κs = search needs

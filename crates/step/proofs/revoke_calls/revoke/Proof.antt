@@ -12,11 +12,11 @@ use Rattle.step.proofs.revoke_calls.revoke.Reads as reads
 use Rattle.step.proofs.revoke_calls.revoke.Lts as lts
 use Rattle.pages.proofs.lent.any_mapped.Reads as any-mapped-reads
 use Rattle.pages.proofs.lent.fill.Reads as fill-reads
-use Rattle.reservations.proofs.find.find.Reads as find-reads
-use Rattle.reservations.proofs.find.put_row.Reads as put-row-reads
-use Rattle.reservations.proofs.find.row_in.Reads as row-in-reads
-use Rattle.revocation.proofs.range_of.Reads as range-of-reads
-use Rattle.revocation.proofs.revoking_row.Reads as revoking-row-reads
+use Rattle.table.proofs.find.find.Reads as find-reads
+use Rattle.table.proofs.find.put_row.Reads as put-row-reads
+use Rattle.table.proofs.find.row_in.Reads as row-in-reads
+use Rattle.reservations.proofs.range_of.Reads as range-of-reads
+use Rattle.reservations.proofs.revoking_row.Reads as revoking-row-reads
 use Rattle.step.proofs.revoke_calls.revoke_code.Reads as revoke-code-reads
 use Rattle.step.proofs.word_calls.granted.Reads as granted-reads
 use Rattle.step.proofs.word_calls.refused.Reads as refused-reads

@@ -4,9 +4,9 @@ use Rattle.step.proofs.revoke_calls.revoke_code.Tie as tie
 use Rattle.step.proofs.revoke_calls.revoke_code.Reads as reads
 use Rattle.step.proofs.revoke_calls.revoke_code.Lts as lts
 use Rattle.capabilities.proofs.refusal.first.Reads as first-reads
-use Rattle.revocation.proofs.whole_pages.Reads as whole-pages-reads
-use Rattle.reservations.proofs.row.is_revoking.Reads as is-revoking-reads
-use Rattle.reservations.proofs.row.missing.Reads as missing-reads
+use Rattle.reservations.proofs.whole_pages.Reads as whole-pages-reads
+use Rattle.table.proofs.row.is_revoking.Reads as is-revoking-reads
+use Rattle.table.proofs.row.missing.Reads as missing-reads
 
 whole-pages-requires : tie.Need-whole-pages-requires
 whole-pages-requires c κs = search needs

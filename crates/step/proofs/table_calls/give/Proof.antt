@@ -6,7 +6,7 @@ use Rattle.step.proofs.table_calls.give.Statement.{statement}
 use Rattle.step.proofs.table_calls.give.Tie as tie
 use Rattle.step.proofs.table_calls.give.Reads as reads
 use Rattle.step.proofs.table_calls.give.Lts as lts
-use Rattle.reservations.proofs.operations.give.Reads as give-reads
+use Rattle.table.proofs.operations.give.Reads as give-reads
 use Rattle.step.proofs.table_calls.coded.Reads as coded-reads
 use Rattle.step.proofs.word_calls.refused.Reads as refused-reads
 

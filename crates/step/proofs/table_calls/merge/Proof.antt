@@ -6,7 +6,7 @@ use Rattle.step.proofs.table_calls.merge.Statement.{statement}
 use Rattle.step.proofs.table_calls.merge.Tie as tie
 use Rattle.step.proofs.table_calls.merge.Reads as reads
 use Rattle.step.proofs.table_calls.merge.Lts as lts
-use Rattle.reservations.proofs.rows.merge.Reads as merge-reads
+use Rattle.table.proofs.rows.merge.Reads as merge-reads
 use Rattle.step.proofs.table_calls.coded.Reads as coded-reads
 use Rattle.step.proofs.word_calls.refused.Reads as refused-reads
 

@@ -6,7 +6,7 @@ use Rattle.step.proofs.table_calls.split.Statement.{statement}
 use Rattle.step.proofs.table_calls.split.Tie as tie
 use Rattle.step.proofs.table_calls.split.Reads as reads
 use Rattle.step.proofs.table_calls.split.Lts as lts
-use Rattle.reservations.proofs.rows.split.Reads as split-reads
+use Rattle.table.proofs.rows.split.Reads as split-reads
 use Rattle.step.proofs.table_calls.coded.Reads as coded-reads
 use Rattle.step.proofs.word_calls.refused.Reads as refused-reads
 

@@ -7,7 +7,7 @@ use Rattle.step.proofs.table_calls.take.Tie as tie
 use Rattle.step.proofs.table_calls.take.Reads as reads
 use Rattle.step.proofs.table_calls.take.Lts as lts
 use Rattle.capabilities.proofs.capability.capability.Reads as capability-reads
-use Rattle.reservations.proofs.operations.take.Reads as take-reads
+use Rattle.table.proofs.operations.take.Reads as take-reads
 use Rattle.step.proofs.word_calls.granted.Reads as granted-reads
 use Rattle.words.proofs.registers.put_word.Reads as put-word-reads
 use Rattle.step.proofs.word_calls.refused.Reads as refused-reads

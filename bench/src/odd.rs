@@ -1,0 +1,200 @@
+//! States, lengths and bytes of all sorts, most of them wrong in one place.
+
+use crate::generate::{Author, Random};
+use crate::lent::{written, Lent};
+use crate::operands;
+use crate::plain::{read, Memory, State};
+
+/// Well-formed states of several sizes with their memory, from generated calls.
+pub fn sound_states(random: &mut Random, count: usize) -> Vec<Lent> {
+    (0..count).map(|_| sound_state(random)).collect()
+}
+
+fn sound_state(random: &mut Random) -> Lent {
+    let v = *random.pick(&[1, 2, 3, 5, 16, 64, 256]);
+    let f = *random.pick(&[1, 1, 2, 3, 4, 16, 128]);
+    let mut state = State::start(v, f).expect("V and F are in range");
+    let lent = state.pages.lent_cells();
+    let mut cells: Vec<u64> = (0..lent).map(|_| random.number()).collect();
+    let mut tags: Vec<u8> = (0..lent).map(|_| random.number() as u8).collect();
+    let bytes = random.below(1_500);
+    let input = Author::begin(random.number(), v, f).more(bytes);
+    let mut rest = &input[..];
+    while let Some((call, used)) = read(rest) {
+        state.step(&mut Memory { cells: &mut cells, tags: &mut tags }, call);
+        rest = &rest[used..];
+    }
+    Lent::of(&written(&state), &cells, &tags)
+}
+
+/// A sound one, one with a few entries changed, one with an array of another length, or noise.
+pub fn state(random: &mut Random, sound: &[Lent]) -> Lent {
+    let mut lent = random.pick(sound).clone();
+    match random.below(8) {
+        0 => noise(random, &mut lent),
+        1 | 2 => (0..1 + random.below(3)).for_each(|_| change(random, &mut lent)),
+        3 => resize(random, &mut lent),
+        _ => {}
+    }
+    lent
+}
+
+fn noise(random: &mut Random, lent: &mut Lent) {
+    for which in 0..10 {
+        let length = random.below(70);
+        set_length(which, length, lent);
+    }
+    (0..200).for_each(|_| change(random, lent));
+}
+
+fn resize(random: &mut Random, lent: &mut Lent) {
+    let which = random.below(10);
+    let length = lengths(lent)[which];
+    let other = *random.pick(&[0, 1, length.saturating_sub(1), length + 1, 2 * length, 300]);
+    set_length(which, other, lent);
+}
+
+fn lengths(lent: &Lent) -> [usize; 10] {
+    [
+        lent.numbers.len(),
+        lent.words.len(),
+        lent.marks.len(),
+        lent.mail.len(),
+        lent.flags.len(),
+        lent.rows.len(),
+        lent.pages.len(),
+        lent.frames.len(),
+        lent.cells.len(),
+        lent.tags.len(),
+    ]
+}
+
+fn set_length(which: usize, length: usize, lent: &mut Lent) {
+    match which {
+        0 => cut(&mut lent.numbers, length),
+        1 => cut(&mut lent.words, length),
+        2 => cut(&mut lent.marks, length),
+        3 => cut(&mut lent.mail, length),
+        4 => cut(&mut lent.flags, length),
+        5 => cut(&mut lent.rows, length),
+        6 => cut(&mut lent.pages, length),
+        7 => cut(&mut lent.frames, length),
+        8 => cut(&mut lent.cells, length),
+        _ => cut(&mut lent.tags, length),
+    }
+}
+
+fn cut<T: Copy + Default>(array: &mut Box<[T]>, length: usize) {
+    let mut entries = array.to_vec();
+    entries.resize(length, T::default());
+    *array = entries.into();
+}
+
+/// One entry of one array becomes another number, small or any.
+fn change(random: &mut Random, lent: &mut Lent) {
+    let which = random.below(10);
+    let length = lengths(lent)[which];
+    if length == 0 {
+        return;
+    }
+    // The first entries are in use.
+    let most = if random.one_in(2) { length.min(4) } else { length };
+    let at = random.below(most);
+    let number = match random.below(4) {
+        0 => random.number(),
+        1 => u64::MAX,
+        _ => random.below(260) as u64,
+    };
+    match which {
+        0 => lent.numbers[at] = number as u16,
+        1 => lent.words[at] = number,
+        2 => lent.marks[at] = number as u8,
+        3 => lent.mail[at] = number,
+        4 => lent.flags[at] = number as u8,
+        5 => lent.rows[at] = other_row(random, lent.rows[at]),
+        6 => lent.pages[at] = number as u16,
+        7 => lent.frames[at] = number as u8,
+        8 => lent.cells[at] = number,
+        _ => lent.tags[at] = number as u8,
+    }
+}
+
+/// A row with another holder, state, length or base, or another bit.
+fn other_row(random: &mut Random, row: u64) -> u64 {
+    let below = |random: &mut Random, limit, place| (random.below(limit) as u64) << place;
+    match random.below(5) {
+        0 => row & !(255 << 40) | below(random, 10, 40),
+        1 => row & !(255 << 32) | below(random, 4, 32),
+        2 => row & !(0xFFFF << 16) | below(random, 40, 16),
+        3 => row & !0xFFFF | below(random, 40, 0),
+        _ => row ^ 1 << random.below(64),
+    }
+}
+
+/// A few commands, most of whose operands the state may grant, or some forty bytes of any sort.
+pub fn bytes(random: &mut Random, lent: &Lent) -> Box<[u8]> {
+    if random.one_in(3) {
+        let below = *random.pick(&[4, 17, 64, 256]);
+        let count = random.below(40);
+        return (0..count).map(|_| random.below(below) as u8).collect();
+    }
+    let count = random.below(8);
+    let commands = (0..count).flat_map(|_| likely_command(random, lent));
+    let mut bytes: Vec<u8> = commands.collect();
+    if random.one_in(8) {
+        bytes.truncate(random.below(bytes.len() + 1));
+    }
+    bytes.into()
+}
+
+/// A command by the holder of a reservation on it, or by any party on small numbers.
+fn likely_command(random: &mut Random, lent: &Lent) -> Vec<u8> {
+    let rows = 1 + random.below(lent.numbers.get(2).map_or(1, |count| 1 + *count as usize));
+    let row = lent.rows.get(random.below(rows)).copied().unwrap_or(0);
+    let command = 1 + random.below(16) as u64;
+    let mut numbers = [command, 0, 0, 0, 0, 0, 0];
+    match command {
+        0x01..=0x05 => {
+            numbers[1] = row >> 40 & 255;
+            numbers[2] = row & 0xFFFF;
+            numbers[3] = if matches!(command, 1 | 2 | 4) { random.below(8) as u64 } else { 0 };
+        }
+        0x06..=0x0A => {
+            let most = usize::from(lent.numbers.first().copied().unwrap_or(8)).min(255) + 1;
+            numbers[2] = if command == 7 { 0 } else { random.below(most) as u64 };
+            numbers[3] = if command == 8 { random.below(4) as u64 } else { 0 };
+        }
+        _ => {
+            numbers[1] = random.below(4) as u64;
+            let count = [3, 3, 5, 2, 2, 1][command as usize - 0x0B];
+            numbers[2..2 + count].fill_with(|| random.below(8) as u64);
+        }
+    }
+    operands::bytes(&numbers).unwrap_or_default()
+}
+
+/// An input's beginning, a place in it, its end, or one beyond.
+pub fn place(random: &mut Random, length: usize) -> usize {
+    match random.below(16) {
+        0 => length,
+        1 => length + 1 + random.below(3),
+        2 => random.number() as usize,
+        3 => usize::MAX - random.below(16),
+        4 | 5 => random.below(length + 1),
+        _ => 0,
+    }
+}
+
+/// Seven numbers, or some other count of them; mostly a call.
+pub fn call_numbers(random: &mut Random) -> Box<[u64]> {
+    let count = if random.one_in(8) { random.below(12) } else { 7 };
+    let limit = *random.pick(&[8, 256, 300, 65_540]);
+    let operands = random.below(7);
+    let number = |place| match place {
+        0 => random.below(18) as u64,
+        _ if random.one_in(40) => random.number(),
+        _ if place <= operands => random.below(limit) as u64,
+        _ => 0,
+    };
+    (0..count).map(number).collect()
+}

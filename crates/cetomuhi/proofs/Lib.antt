@@ -1,0 +1,5 @@
+pub mod Writing
+pub mod Fits
+pub mod One
+pub mod Ways
+pub mod Laws

@@ -1,0 +1,69 @@
+-- No survivor until a take. Assumes nothing.
+use Prim.Native.Nat.{ℕ, _+_, _*_, _%_, _<_, _≤_}
+use native.Mathlib.Omega.{arith}
+use mathlib.Core.Bool.{true}
+use mathlib.Core.List.{List, [], _∷_}
+use mathlib.Core.Path.{_≡_, sym, ap, subst, _∙_}
+use Rattle.capabilities.specs.declared.Range.{Range}
+use Rattle.capabilities.specs.Capability.{baseOf, lengthOf, capability}
+use Rattle.capabilities.specs.Range.{inside}
+use Rattle.capabilities.proofs.Capabilities.{made-base, made-length, narrowed-base, narrowed-length}
+use Rattle.table.specs.Operations.{takeOf}
+use Rattle.table.specs.Rows.{rangeOf}
+use Rattle.table.proofs.Cells.{inside-made}
+use Rattle.calls.specs.declared.Call.{Call}
+use Rattle.calls.specs.declared.Call.the-variants.{Take, Collect}
+use Rattle.reservations.specs.Revocation.{revoked}
+use Rattle.histories.specs.Runs.{Machine, next, run}
+use Rattle.histories.specs.Live.{Into, NoneInto}
+use Rattle.histories.specs.Inv.{Inv, rowAt}
+use Rattle.histories.specs.Lending.{namedRange}
+use Rattle.histories.specs.Survivors.{Untaken, NoSurvivorUntilTaken}
+use Rattle.histories.proofs.Granted.{Went, went-core}
+use Rattle.histories.proofs.Calls.{less-of}
+use Rattle.histories.proofs.Always.{inv-reached, inv-step}
+use Rattle.histories.proofs.Origins.{All, Narrows, step-came}
+use Rattle.histories.proofs.Lending.{lends, named-range, take-number}
+use Rattle.histories.proofs.Between.{went-granted}
+use Rattle.histories.proofs.Carrying.{row-fits}
+use Rattle.histories.proofs.Survivors.{no-survivor}
+
+-- A capability has no cell in a range.
+abbrev Outside : Range → ℕ → Type 0
+Outside r c = Into r c → ⊥
+
+outside-narrows : (r : Range) → Narrows (Outside r)
+outside-narrows r c off len mask some ends starts out k =
+    let short : len < 65536 = omega (arith, less-of c) in
+    let b = narrowed-base c off len mask short (omega arith) in
+    let l = narrowed-length c off len mask short in
+    out (record { cell = k .cell; from = omega (arith, k .from, b); upto = omega (arith, k .upto, b, l, ends); hit = k .hit })
+
+-- What a granted take makes has its cells in the named range.
+taken-outside : (m : Machine) (p base reg : ℕ) (w : Went m (Take p base reg)) (r : Range)
+    → ((v : ℕ) → inside (namedRange m p base) v ≡ true → inside r v ≡ true → ⊥) → Outside r (capability base (takeOf (m .state .core .table) p base .length) 15)
+taken-outside m p base reg w r apart k =
+    let f = lends m p base reg w in
+    let row = rowAt (m .state .core .table) (f .row) in
+    let named = named-range m p base reg f in
+    let start : row .base ≡ base = sym (ap (λ x. x .base) (f .range)) in
+    let n : takeOf (m .state .core .table) p base .length ≡ row .length = sym (take-number m p base reg w) ∙ ap (λ x. x .length) (f .range) in
+    let fits = row-fits (m .state .core) (went-core m (Take p base reg) w) (f .row) (f .used) in
+    let b = made-base base (takeOf (m .state .core .table) p base .length) 15 (omega arith) (omega arith) (omega arith) in
+    let l = made-length base (takeOf (m .state .core .table) p base .length) 15 (omega arith) (omega arith) (omega arith) in
+    apart (k .cell) (subst (λ x. inside x (k .cell) ≡ true) (sym named) (inside-made (rangeOf row) (k .cell) (omega (arith, k .from, b)) (omega (arith, k .upto, b, l)))) (k .hit)
+
+run-outside : (r : Range) (calls : List Call) (m : Machine) → Inv m → All (Outside r) m → Untaken m calls r → All (Outside r) (run m calls)
+unfolding run
+run-outside r [] m inv all none = all
+run-outside r (c ∷ calls) m inv all none =
+    run-outside r calls (next m c) (inv-step m c inv)
+    (step-came (Outside r) (outside-narrows r) m c inv all
+    (λ p base reg e w.
+    let z : Went m (Take p base reg) = subst (Went m) e w in
+    taken-outside m p base reg z r (none [] p base reg calls (ap (λ x. x ∷ calls) e) (went-granted m (Take p base reg) z))))
+    (λ before q base reg after e g. none (c ∷ before) q base reg after (ap (λ l. c ∷ l) e) g)
+
+pub no-survivor-until-taken : NoSurvivorUntilTaken
+no-survivor-until-taken m r p g calls none =
+    run-outside (revoked (m .state .core)) calls (next m (Collect p)) (inv-step m (Collect p) (inv-reached m r)) (no-survivor m r p g) none

@@ -1,0 +1,143 @@
+-- Where one reservation is left, each Mapped page is unmapped, the highest first. Assumes nothing.
+use Prim.Native.Nat.{ℕ, suc, _<_, _≤_}
+use native.Mathlib.Omega.{arith}
+use mathlib.Core.Bool.{Bool, true, false}
+use mathlib.Core.Path.{_≡_, refl, ap, _∙_}
+use borrow.Author.Tests.{eqb-true, eqb-false, lt-leb}
+use lib.Dec.{eqb}
+use lib.ListN.{length}
+use Rattle.capabilities.specs.Refusals.{first}
+use Rattle.capabilities.proofs.Refusals.{first-clear}
+use Rattle.pages.specs.declared.PageState.{PageState}
+use Rattle.pages.specs.declared.PageState.the-variants.{Unmapped, Freed, Mapped}
+use Rattle.pages.specs.declared.FrameState.the-variants.{Dirty}
+use Rattle.pages.specs.Pages.{Pages}
+use Rattle.pages.specs.Entries.{isMapped}
+use Rattle.pages.specs.Layer.{pageAt, withPage}
+use Rattle.pages.specs.Mapping.{unmapReasons, soiled, unmapped}
+use Rattle.pages.proofs.Formed.{sound as layered}
+use Rattle.pages.proofs.View.{page-put, page-kept, page-of-frame}
+use Rattle.table.specs.declared.ReservationState.the-variants.{Taken}
+use Rattle.table.specs.Rows.{live}
+use Rattle.reservations.specs.Core.{Core}
+use Rattle.calls.specs.declared.Call.the-variants.{Unmap}
+use Rattle.calls.specs.Commands.{page}
+use Rattle.words.specs.WordReasons.{unnamed, notManager}
+use Rattle.machine.specs.Effects.{effect}
+use Rattle.machine.specs.Reasons.{reasons}
+use Rattle.machine.specs.Step.{done, reasonsOn}
+use Rattle.histories.specs.Runs.{Machine, Granted, next}
+use Rattle.histories.specs.Forming.{Standing}
+use Rattle.histories.specs.Restoring.{eachBelow, mappedAt, unmapping}
+use Rattle.histories.proofs.Granted.{Went, went, went-next}
+use Rattle.histories.proofs.Layer.{unmap-done}
+use Rattle.histories.proofs.Forming.{standing-facts, standing-code, standing-next}
+use Rattle.histories.proofs.Leading.{Leads, leads-to, each-leads}
+use Rattle.histories.proofs.Losing.{Whole}
+
+-- The states of pages after an unmap.
+soiled-page : (s : Pages) (x : PageState) (j : ℕ) → pageAt (soiled s x) j ≡ pageAt s j
+unfolding soiled
+soiled-page s Unmapped j = refl
+soiled-page s Freed j = refl
+soiled-page s (Mapped g) j = page-of-frame s (g .0) j Dirty
+
+module _ (s : Pages) (p : ℕ) where
+  unmapped-kept : (j : ℕ) → (j ≡ p → ⊥) → pageAt (unmapped s (page p)) j ≡ pageAt s j
+  unfolding unmapped
+  unmapped-kept j n = soiled-page (withPage s p Freed) (pageAt s p) j ∙ page-kept s p j Freed n
+
+  unmapped-here : p < length (s .pages) → pageAt (unmapped s (page p)) p ≡ Freed
+  unfolding unmapped
+  unmapped-here h = soiled-page (withPage s p Freed) (pageAt s p) p ∙ page-put s p Freed h
+
+module _ (m : Machine) (v f : ℕ) (k : Standing m v f) (p : ℕ) (h : p < v) (shown : isMapped (pageAt (m .state .core .pages) p) ≡ true) where
+  abbrev c : Core
+  c = m .state .core
+
+  no-reason : first (reasonsOn (m .state) (Unmap 0 (page p))) ≡ 0
+  unfolding reasons first unmapReasons
+  no-reason = rw (lt-leb (c .pages .v) p (omega (arith, k .of-v)), shown)
+
+  unmap-goes : Granted m (Unmap 0 (page p))
+  unmap-goes = standing-code m v f (Unmap 0 (page p)) k ∙ no-reason
+
+  w : Went m (Unmap 0 (page p))
+  w = went m (Unmap 0 (page p)) unmap-goes
+
+  clear : first (unmapReasons (c .pages) (page p)) ≡ 0
+  unfolding reasons
+  clear = first-clear 5 (notManager 0) (unmapReasons (c .pages) (page p)) (λ x. omega arith) (first-clear 4 (unnamed 0) _ (λ x. omega arith) (w .clear) .1) .1
+
+  unmap-pages : next m (Unmap 0 (page p)) .state .core .pages ≡ unmapped (c .pages) (page p)
+  unfolding effect done
+  unmap-pages = ap (λ n. n .state .core .pages) (went-next m (Unmap 0 (page p)) w) ∙ unmap-done (c .pages) (page p) clear
+
+  unmap-table : next m (Unmap 0 (page p)) .state .core .table ≡ c .table
+  unfolding effect done
+  unmap-table = ap (λ n. n .state .core .table) (went-next m (Unmap 0 (page p)) w)
+
+-- No page at n or above is Mapped, and those below are as they were in the layer s₀; one reservation is left.
+record UnmappedFrom (s₀ : Pages) (v f n : ℕ) (m : Machine) : Type 0 where
+  standing : Standing m v f
+  one : Whole v Taken 0 m
+  within : n ≤ v
+  below : (p : ℕ) → p < n → pageAt (m .state .core .pages) p ≡ pageAt s₀ p
+  above : (p : ℕ) → n ≤ p → p < v → isMapped (pageAt (m .state .core .pages) p) ≡ false
+
+-- The next one down: it is not Mapped, or it is unmapped.
+module _ (s₀ : Pages) (v f n : ℕ) (m : Machine) (q : UnmappedFrom s₀ v f (suc n) m) where
+  abbrev s : Pages
+  s = m .state .core .pages
+
+  same : pageAt s n ≡ pageAt s₀ n
+  same = q .below n (omega arith)
+
+  skip : isMapped (pageAt s₀ n) ≡ false → UnmappedFrom s₀ v f n m
+  skip e = record { standing = q .standing; one = q .one; within = omega (arith, q .within); below = λ p b. q .below p (omega arith); above = λ p a b. go p a b (eqb p n) refl }
+    where
+      go : (p : ℕ) → n ≤ p → p < v → (b : Bool) → eqb p n ≡ b → isMapped (pageAt s p) ≡ false
+      go p a b true z = ap (λ j. isMapped (pageAt s j)) (eqb-true p n z) ∙ ap isMapped same ∙ e
+      go p a b false z = q .above p (omega (arith, eqb-false p n z)) b
+
+  taken-off : isMapped (pageAt s₀ n) ≡ true → Granted m (Unmap 0 (page n)) × UnmappedFrom s₀ v f n (next m (Unmap 0 (page n)))
+  taken-off e = (
+    unmap-goes m v f (q .standing) n low shown,
+    record {
+      standing = standing-next m v f (Unmap 0 (page n)) (q .standing);
+      one = ap live (unmap-table m v f (q .standing) n low shown) ∙ q .one;
+      within = omega (arith, q .within);
+      below = λ p b. ap (λ x. pageAt x p) now ∙ unmapped-kept s n p (λ z. omega arith) ∙ q .below p (omega arith);
+      above = λ p a b. ap (λ x. isMapped (pageAt x p)) now ∙ go p a b (eqb p n) refl;
+    },
+  )
+    where
+      low : n < v
+      low = omega (arith, q .within)
+
+      shown : isMapped (pageAt s n) ≡ true
+      shown = ap isMapped same ∙ e
+
+      now : next m (Unmap 0 (page n)) .state .core .pages ≡ unmapped s (page n)
+      now = unmap-pages m v f (q .standing) n low shown
+
+      long : n < length (s .pages)
+      long = let l = layered s (standing-facts m v f (q .standing) .layer) in omega (arith, l .long-pages, l .v-most, q .standing .of-v)
+
+      go : (p : ℕ) → n ≤ p → p < v → (b : Bool) → eqb p n ≡ b → isMapped (pageAt (unmapped s (page n)) p) ≡ false
+      go p a b true z = ap (λ j. isMapped (pageAt (unmapped s (page n)) j)) (eqb-true p n z) ∙ ap isMapped (unmapped-here s n long)
+      go p a b false z = ap isMapped (unmapped-kept s n p (eqb-false p n z)) ∙ q .above p (omega (arith, eqb-false p n z)) b
+
+-- One reservation is left, and no page is Mapped.
+pub record Bare (v : ℕ) (m : Machine) : Type 0 where
+  pub one : Whole v Taken 0 m
+  pub none : (p : ℕ) → p < v → isMapped (pageAt (m .state .core .pages) p) ≡ false
+
+pub unmapping-leads : (m : Machine) (v f : ℕ) → Standing m v f → Whole v Taken 0 m → Leads (Bare v) m (unmapping m)
+unfolding unmapping
+unmapping-leads m v f k one =
+    let s = m .state .core .pages in
+    leads-to (UnmappedFrom s v f 0) (Bare v) m (eachBelow (mappedAt s) (λ p. Unmap 0 (page p)) (s .v))
+    (each-leads (mappedAt s) (λ p. Unmap 0 (page p)) (UnmappedFrom s v f) (λ n x q e. taken-off s v f n x q e) (λ n x q e. skip s v f n x q e) (s .v) m
+    (record { standing = k; one = one; within = omega (arith, k .of-v); below = λ p b. refl; above = λ p a b. absurd (omega (arith, k .of-v)) }))
+    (λ q. record { one = q .one; none = λ p h. q .above p (omega arith) h })

@@ -1,0 +1,81 @@
+-- Nothing lost, from every state. After every history some calls, each of them granted in its turn, lead back to one Open reservation of
+-- all cells, held by party 0, with every page Unmapped. The calls are computed from the state. Assumes nothing.
+use Prim.Native.Nat.{ℕ, zero, suc, _-_, _*_, _<_}
+use mathlib.Core.Bool.{Bool, false}
+use mathlib.Core.List.{List, [], _∷_, _++_}
+use mathlib.Core.Path.{_≡_}
+use lib.ListN.{length, replicate}
+use Rattle.capabilities.specs.Lists.{pick}
+use Rattle.pages.specs.declared.PageState.the-variants.{Unmapped}
+use Rattle.pages.specs.Pages.{Pages}
+use Rattle.pages.specs.Entries.{isMapped}
+use Rattle.pages.specs.Layer.{pageAt}
+use Rattle.table.specs.declared.ReservationState.the-variants.{Open}
+use Rattle.table.specs.Table.{Table}
+use Rattle.table.specs.Rows.{isOpen, live, reservation}
+use Rattle.reservations.specs.Revocation.{running}
+use Rattle.calls.specs.declared.Call.{Call}
+use Rattle.calls.specs.declared.Call.the-variants.{Take, Merge, Revoke, Sweep, Collect, Unmap}
+use Rattle.calls.specs.Commands.{page}
+use Rattle.histories.specs.Runs.{Machine, run, Reached}
+use Rattle.histories.specs.Inv.{rowAt}
+use Rattle.histories.specs.Losing.{AllGranted}
+
+-- A call for each number below n that passes a test, the highest first.
+unfoldable pub eachBelow : (ℕ → Bool) → (ℕ → Call) → ℕ → List Call
+eachBelow test call zero = []
+eachBelow test call (suc n) = pick (test n) (call n ∷ eachBelow test call n) (eachBelow test call n)
+
+-- All cells of F frames are swept, and the revocation is collected.
+unfoldable pub ending : ℕ → List Call
+ending f = Sweep 0 (16 * f) ∷ Collect 0 ∷ []
+
+-- 1. The revocation that runs, if one does, is brought to its end.
+unfoldable pub finishing : Machine → List Call
+finishing m = pick (running (m .state .core)) (ending (m .state .core .pages .f)) []
+
+-- 2. Each Open reservation is taken by its holder; then all are Taken, and party 0 holds them.
+abbrev pub openAt : Table → ℕ → Bool
+openAt t i = isOpen (rowAt t i .state)
+
+abbrev pub takeAt : Table → ℕ → Call
+takeAt t i = Take (rowAt t i .holder) (rowAt t i .base) 0
+
+unfoldable pub taking : Machine → List Call
+taking m =
+    let t = m .state .core .table in
+    eachBelow (openAt t) (takeAt t) (length (live t))
+
+-- 3. They are merged into one, which is made of whole pages, wherever the splits were.
+unfoldable pub merging : Machine → List Call
+merging m = replicate (length (live (m .state .core .table)) - 1) (Merge 0 0)
+
+-- 4. Each Mapped page is unmapped.
+abbrev pub mappedAt : Pages → ℕ → Bool
+mappedAt s p = isMapped (pageAt s p)
+
+unfoldable pub unmapping : Machine → List Call
+unmapping m =
+    let s = m .state .core .pages in
+    eachBelow (mappedAt s) (λ p. Unmap 0 (page p)) (s .v)
+
+-- 5. The one reservation is revoked, and the revocation brought to its end.
+unfoldable pub revoking : Machine → List Call
+revoking m = Revoke 0 0 ∷ ending (m .state .core .pages .f)
+
+-- Calls computed from a state, and then those computed from the state that they lead to.
+infixr 5 _andThen_
+unfoldable pub _andThen_ : (Machine → List Call) → (Machine → List Call) → Machine → List Call
+(a andThen b) m = a m ++ b (run m (a m))
+
+unfoldable pub restoring : Machine → List Call
+restoring = finishing andThen taking andThen merging andThen unmapping andThen revoking
+
+-- One Open reservation of 16 V cells, held by party 0; every page Unmapped; and no revocation runs.
+pub record Restored (m : Machine) (v : ℕ) : Type 0 where
+  pub one : live (m .state .core .table) ≡ reservation 0 (16 * v) Open 0 ∷ []
+  pub pages : (p : ℕ) → p < v → pageAt (m .state .core .pages) p ≡ Unmapped
+  pub quiet : running (m .state .core) ≡ false
+
+abbrev pub NothingLost : Type 0
+NothingLost = (m : Machine) (r : Reached m) → AllGranted m (restoring m) × Restored (run m (restoring m)) (r .v)

@@ -1,0 +1,97 @@
+-- The shapes of the wrong machines: with the rule in the place of what is wrong, each is the rule, for every input. A granted
+-- call of the kind leaves what the rule leaves, and every other outcome is the rule's own.
+use Prim.Native.Nat.{ℕ}
+use native.Mathlib.Omega.{arith}
+use mathlib.Core.Bool.{_&&_, _||_}
+use mathlib.Core.List.{List, _∷_}
+use mathlib.Core.Path.{_≡_, refl, sym, ap, subst, _∙_}
+use lib.ListN.{getD}
+use lib.Dec.{eqb}
+use borrow.Author.Tests.{eqb-true}
+use Rattle.capabilities.specs.Lists.{pick}
+use Rattle.capabilities.specs.Refusals.{reason}
+use Rattle.capabilities.proofs.Choice.{and-left, and-right}
+use Rattle.capabilities.proofs.Refusals.{first-clear}
+use Rattle.pages.specs.Mapping.{unmapReasons, unmapOf}
+use Rattle.sweep.specs.Sweep.{sweepOf}
+use Rattle.table.specs.Operations.{takeReasons, takeOf, splitReasons, splitOf}
+use Rattle.calls.specs.declared.Call.{Call}
+use Rattle.calls.specs.declared.Call.the-variants.{Take, Split, Unmap}
+use Rattle.calls.specs.Commands.{page, commandOf, operandsOf}
+use Rattle.calls.specs.Commands.{byteOf as kindOf}
+use Rattle.calls.proofs.Table.{listed}
+use Rattle.words.specs.Words.{stored, collectedRegister, collectedMailbox}
+use Rattle.words.specs.WordReasons.{unnamed, notManager}
+use Rattle.machine.specs.State.{State}
+use Rattle.machine.specs.Reasons.{reasons}
+use Rattle.machine.specs.Effects.{effect}
+use Rattle.machine.specs.Step.{Outcome, refused, registersAfter, mailboxesAfter, cellsAfter, tagsAfter, wordAfter, done, effectOn, withCore}
+use Rattle.machine.specs.WrongMachines.{Obeys, instead, sweepBy, takeBy, splitBy, unmapBy, storeBy, collectBy}
+use Rattle.machine.proofs.Judging.{Granted, pick-by, step-by}
+
+abbrev Made : Type 0
+Made = State → Call → List ℕ → List ℕ → Outcome → Outcome
+
+-- What is made of a granted call and the rule's outcome is that outcome.
+abbrev Exact : Made → State → Call → Type 0
+Exact made s c =
+    (cells tags : List ℕ) → Granted s c cells tags
+    → made s c cells tags (done s (effectOn s c) cells tags) ≡ done s (effectOn s c) cells tags
+
+-- It is enough that this holds of the calls of the kind, whatever their operands.
+obeys-by : (kind : ℕ) (made : Made) → ((s : State) (x : ℕ → ℕ) → Exact made s (commandOf kind .make x)) → Obeys (instead kind made)
+unfolding instead
+obeys-by kind made exact s c cells tags =
+    let mine = eqb (kindOf c) kind in
+    let granted = done s (effectOn s c) cells tags in
+    step-by s c cells tags (λ o. pick (mine && eqb (o .answer .code) 0) (made s c cells tags o) o ≡ o)
+    (λ g. pick-by (λ o. o ≡ granted) (mine && eqb (granted .answer .code) 0) (made s c cells tags granted) granted
+    (λ e. of-kind (eqb-true (kindOf c) kind (and-left mine (eqb (granted .answer .code) 0) e)) cells tags g) (λ e. refl))
+    (λ k n. pick-by (λ o. o ≡ refused k s cells tags) (mine && eqb k 0) (made s c cells tags (refused k s cells tags)) (refused k s cells tags)
+    (λ e. absurd (n (eqb-true k 0 (and-right mine (eqb k 0) e)))) (λ e. refl))
+  where
+    of-kind : kindOf c ≡ kind → Exact made s c
+    of-kind e =
+        let x : ℕ → ℕ = λ i. getD (operandsOf c) i 0 in
+        subst (Exact made s) (ap (λ k. commandOf k .make x) (sym e) ∙ listed c .made) (exact s x)
+
+pub sweep-obeys : Obeys (sweepBy sweepOf)
+unfolding sweepBy sweepOf done effect registersAfter mailboxesAfter cellsAfter tagsAfter wordAfter withCore
+sweep-obeys = obeys-by 0x06 _ (λ s x cells tags g. rw (g .served))
+
+pub store-obeys : Obeys (storeBy stored)
+unfolding storeBy done effect registersAfter mailboxesAfter cellsAfter tagsAfter wordAfter
+store-obeys = obeys-by 0x0C _ (λ s x cells tags g. refl)
+
+pub collect-obeys : Obeys (collectBy collectedRegister collectedMailbox)
+unfolding collectBy done effect registersAfter mailboxesAfter cellsAfter tagsAfter wordAfter
+collect-obeys = obeys-by 0x07 _ (λ s x cells tags g. refl)
+
+module _ (s : State) (cells tags : List ℕ) where
+  take-clear : (p base reg : ℕ) → Granted s (Take p base reg) cells tags → takeOf (s .core .table) p base .code ≡ 0
+  unfolding takeOf reasons
+  take-clear p base reg g =
+      first-clear 4 (unnamed p || unnamed reg) (takeReasons (s .core .table) p base) (λ z. omega arith) (g .clear) .1
+
+  split-clear : (p base len : ℕ) → Granted s (Split p base len) cells tags → splitOf (s .core .table) p base len .code ≡ 0
+  unfolding splitOf reasons
+  split-clear p base len g = first-clear 4 (unnamed p) (splitReasons (s .core .table) p base len) (λ z. omega arith) (g .clear) .1
+
+  unmap-clear : (p n : ℕ) → Granted s (Unmap p (page n)) cells tags → unmapOf (s .core .pages) (page n) .code ≡ 0
+  unfolding unmapOf reasons
+  unmap-clear p n g =
+      let rest = unmapReasons (s .core .pages) (page n) in
+      first-clear 5 (notManager p) rest (λ z. omega arith)
+      (first-clear 4 (unnamed p) (reason 5 (notManager p) ∷ rest) (λ z. omega arith) (g .clear) .1) .1
+
+pub take-obeys : Obeys (takeBy takeOf)
+unfolding takeBy done effect registersAfter mailboxesAfter cellsAfter tagsAfter wordAfter withCore
+take-obeys = obeys-by 0x01 _ (λ s x cells tags g. rw (take-clear s cells tags (x 0) (x 1) (x 2) g))
+
+pub split-obeys : Obeys (splitBy splitOf)
+unfolding splitBy done effect registersAfter mailboxesAfter cellsAfter tagsAfter wordAfter withCore
+split-obeys = obeys-by 0x02 _ (λ s x cells tags g. rw (split-clear s cells tags (x 0) (x 1) (x 2) g))
+
+pub unmap-obeys : Obeys (unmapBy unmapOf)
+unfolding unmapBy done effect registersAfter mailboxesAfter cellsAfter tagsAfter wordAfter withCore
+unmap-obeys = obeys-by 0x09 _ (λ s x cells tags g. rw (unmap-clear s cells tags (x 0) (x 1) g))

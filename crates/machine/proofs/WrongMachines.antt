@@ -1,0 +1,44 @@
+-- None of the wrong machines is the rule: by one computation over the list, and since equal outcomes have equal numbers.
+use Prim.Native.Nat.{ℕ}
+use mathlib.Core.Bool.{true, false, not, true≢false}
+use mathlib.Core.List.{List, [], _∷_}
+use mathlib.Core.Path.{_≡_, refl, sym, ap, _∙_}
+use lib.Dec.{eqb}
+use borrow.Author.Tests.{eq-eqb}
+use Rattle.capabilities.proofs.Choice.{and-left, and-right, both}
+use Rattle.pages.specs.Numbers.{pageCode, frameCode}
+use Rattle.table.specs.Numbers.{rowCode}
+use Rattle.machine.specs.Step.{Outcome, stepOf}
+use Rattle.machine.specs.Edges.{same, all}
+use Rattle.machine.specs.WrongMachines.{Wrong, Rule, Obeys, instead, sweepBy, takeBy, splitBy, unmapBy, storeBy, collectBy, clearsAll, inventsLeft, inventsLength, pleadsFull, turnsDown, answersAlike, keepsState, releases, tagged, tellsTags, refusalWrites, after, from, lent, splits, machines, numbers, leaves, differs, shown, NoneObeys}
+use Rattle.machine.proofs.Computing.{computing}
+
+pub all-shown : all shown machines ≡ true
+unfolding all shown machines differs numbers same instead sweepBy takeBy splitBy unmapBy storeBy collectBy clearsAll inventsLeft inventsLength pleadsFull turnsDown answersAlike keepsState releases tagged tellsTags refusalWrites after from lent splits pageCode frameCode rowCode computing
+all-shown = refl
+
+-- A list is the same as itself.
+same-self : (l : List ℕ) → same l l ≡ true
+unfolding same
+same-self [] = refl
+same-self (x ∷ l) = both (eqb x x) (same l l) (eq-eqb x x refl) (same-self l)
+
+-- A machine that obeys the rule does not differ from it.
+obeying : (m : Rule) (w : Wrong) → Obeys m → differs m w ≡ false
+unfolding differs
+obeying m w obeys =
+    let rule = numbers (leaves stepOf w) in
+    let equal : leaves m w ≡ leaves stepOf w = obeys (w .before .answer .state) (w .call) (w .before .cells) (w .before .tags) in
+    ap (λ (o : Outcome). not (same (numbers o) rule)) equal ∙ ap not (same-self rule)
+
+none-of : (l : List Wrong) → all shown l ≡ true → NoneObeys l
+unfolding NoneObeys all shown
+none-of [] e = tt
+none-of (w ∷ rest) e =
+    let here : shown w ≡ true = and-left (shown w) (all shown rest) e in
+    let wrong : differs (w .wrong) w ≡ true = and-left (differs (w .wrong) w) (not (differs (w .right) w)) here in
+    (λ obeys. true≢false (sym wrong ∙ obeying (w .wrong) w obeys), none-of rest (and-right (shown w) (all shown rest) e))
+
+-- No wrong machine of the list obeys the rule.
+pub none-obeys : NoneObeys machines
+none-obeys = none-of machines all-shown

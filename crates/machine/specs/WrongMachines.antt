@@ -1,0 +1,260 @@
+-- Document 01, 'The strength of each promise', 3, and 'Missteps that look sound': the wrong machines, as one list. Each is the rule
+-- with one thing changed, has the type of the rule that it replaces, and stands with a state, lent memory and a call for which it
+-- leaves something else than the rule. Since every contract is an equation with the rule for every input, no such program can be
+-- proved. Assumes nothing.
+use Prim.Native.Nat.{ℕ, zero, suc, _+_, _-_, _*_}
+use mathlib.Core.Bool.{Bool, false, not, _&&_}
+use mathlib.Core.List.{List, [], _∷_, _++_, map}
+use mathlib.Core.Path.{_≡_}
+use lib.ListN.{getD, set, replicate}
+use lib.Dec.{leb, eqb}
+use Rattle.capabilities.specs.declared.Range.{Range}
+use Rattle.capabilities.specs.Lists.{pick}
+use Rattle.pages.specs.declared.VirtualPage.{VirtualPage}
+use Rattle.pages.specs.declared.PageState.the-variants.{Unmapped}
+use Rattle.pages.specs.Pages.{Pages, Paged}
+use Rattle.pages.specs.Layer.{withPage}
+use Rattle.pages.specs.Mapping.{paged, unmapOf}
+use Rattle.pages.specs.Numbers.{pageCode, frameCode}
+use Rattle.sweep.specs.Sweep.{Passed, swept, passing, sweepOf}
+use Rattle.table.specs.Table.{Table, Tabled}
+use Rattle.table.specs.Table.{Taken as Took}
+use Rattle.table.specs.Operations.{tabled, takeOf, splitOf}
+use Rattle.table.specs.Numbers.{numbersOf as rowNumbers}
+use Rattle.reservations.specs.Core.{Core}
+use Rattle.reservations.specs.Revocation.{core, revoked}
+use Rattle.calls.specs.declared.Call.{Call}
+use Rattle.calls.specs.declared.Call.the-variants.{Take, Split, Revoke, Sweep, Collect, Map, Unmap, Zero, Load, Store, Number, Grant}
+use Rattle.calls.specs.Commands.{page, frame, operandsOf}
+use Rattle.calls.specs.Commands.{byteOf as kindOf}
+use Rattle.words.specs.declared.Slot.{Slot}
+use Rattle.words.specs.Words.{slot, empty, byteOf, tagOf, placeNumber, stored, collectedRegister, collectedMailbox}
+use Rattle.words.specs.Lent.{cellsOf, bytesOf}
+use Rattle.machine.specs.State.{State}
+use Rattle.machine.specs.Formed.{answered, startOf}
+use Rattle.machine.specs.Reasons.{reads, addressed}
+use Rattle.machine.specs.Effects.{withTable, withPages}
+use Rattle.machine.specs.Step.{Outcome, left, refused, withCore, stepOf}
+use Rattle.machine.specs.Edges.{same}
+
+-- What a step is: the type of the rule `stepOf`.
+abbrev pub Rule : Type 0
+Rule = State → Call → List ℕ → List ℕ → Outcome
+
+-- A machine that leaves what the rule leaves, of every state, call and lent memory.
+abbrev pub Obeys : Rule → Type 0
+Obeys m = (s : State) (c : Call) (cells tags : List ℕ) → m s c cells tags ≡ stepOf s c cells tags
+
+-- The rule, but that a granted call of one kind leaves what is made of state, call, memory and the rule's own outcome.
+unfoldable pub instead : ℕ → (State → Call → List ℕ → List ℕ → Outcome → Outcome) → Rule
+instead kind made s c cells tags =
+    let o = stepOf s c cells tags in
+    pick (eqb (kindOf c) kind && eqb (o .answer .code) 0) (made s c cells tags o) o
+
+abbrev pub operand : Call → ℕ → ℕ
+operand c i = getD (operandsOf c) i 0
+
+-- The rule, but with another sweep, take, split or unmap, of the type of `sweepOf`, `takeOf`, `splitOf` or `unmapOf`.
+unfoldable pub sweepBy : (Pages → Range → ℕ → ℕ → List ℕ → List ℕ → Passed) → Rule
+sweepBy sweep =
+    instead 0x06
+    (λ s c cells tags o.
+    let p = sweep (s .core .pages) (revoked (s .core)) (s .core .place) (operand c 1) cells tags in
+    let after = withCore s (core (s .core .pages) (s .core .table) (p .answer .place)) in
+    left (answered (p .answer .code) (slot (p .answer .left) false) after) cells (p .tags))
+
+unfoldable pub takeBy : (Table → ℕ → ℕ → Took) → Rule
+takeBy take =
+    instead 0x01
+    (λ s c cells tags o.
+    let t = take (s .core .table) (operand c 0) (operand c 1) in
+    left (answered (t .code) (slot (t .length) false) (withCore (o .answer .state) (withTable (s .core) (t .table)))) cells tags)
+
+unfoldable pub splitBy : (Table → ℕ → ℕ → ℕ → Tabled) → Rule
+splitBy split =
+    instead 0x02
+    (λ s c cells tags o.
+    let t = split (s .core .table) (operand c 0) (operand c 1) (operand c 2) in
+    left (answered (t .code) empty (withCore s (withTable (s .core) (t .table)))) cells tags)
+
+unfoldable pub unmapBy : (Pages → VirtualPage → Paged) → Rule
+unmapBy unmap =
+    instead 0x09
+    (λ s c cells tags o.
+    let p = unmap (s .core .pages) (page (operand c 1)) in
+    left (answered (p .code) empty (withCore s (withPages (s .core) (p .pages)))) cells tags)
+
+-- The rule, but with another word stored, of the type of `stored`; or other words left by a collect, in registers and in
+-- mailboxes, of the type of `collectedRegister` and `collectedMailbox`.
+unfoldable pub storeBy : (Core → Slot → Slot) → Rule
+storeBy word =
+    instead 0x0C
+    (λ s c cells tags o.
+    let r = reads (s .registers) c in
+    let w = word (s .core) (r .two) in
+    let at = placeNumber (addressed (s .core) (r .one) (operand c 2)) in
+    left (o .answer) (set cells at (w .cell)) (set tags at (byteOf (w .tag))))
+
+unfoldable pub collectBy : (Core → Slot → Slot) → (Core → Slot → Slot) → Rule
+collectBy register mailbox =
+    instead 0x07
+    (λ s c cells tags o.
+    let words = map (register (s .core)) (s .registers) in
+    let mail = map (mailbox (s .core)) (s .mailboxes) in
+    left (answered 0 empty (record { core = o .answer .state .core; registers = words; mailboxes = mail })) cells tags)
+
+-- "A sweep that clears all on its first call and feigns the rest": it answers as the rule does.
+unfoldable pub clearsAll : Pages → Range → ℕ → ℕ → List ℕ → List ℕ → Passed
+clearsAll s r place n cells tags =
+    passing (sweepOf s r place n cells tags .answer) (sweepOf s r place (16 * s .f) cells tags .tags)
+
+-- A sweep with another number in its answer.
+abbrev pub answering : ℕ → Passed → Passed
+answering number p = passing (swept (p .answer .code) number (p .answer .place)) (p .tags)
+
+-- "A sweep or take with an invented number": one more than the rule's.
+unfoldable pub inventsLeft : Pages → Range → ℕ → ℕ → List ℕ → List ℕ → Passed
+inventsLeft s r place n cells tags =
+    let p = sweepOf s r place n cells tags in
+    answering (p .answer .left + 1) p
+
+unfoldable pub inventsLength : Table → ℕ → ℕ → Took
+inventsLength t party base =
+    let took = takeOf t party base in
+    record { code = took .code; length = took .length + 1; table = took .table }
+
+-- "A split pleading a full table below 64": at 63.
+unfoldable pub pleadsFull : Table → ℕ → ℕ → ℕ → Tabled
+pleadsFull t party base len = pick (leb 63 (t .count)) (tabled 9 t t) (splitOf t party base len)
+
+-- "A machine that turns down every call": those that the rule refuses as the rule does, the others under 19.
+unfoldable pub turnsDown : Rule
+turnsDown s c cells tags =
+    let o = stepOf s c cells tags in
+    pick (eqb (o .answer .code) 0) (refused 19 s cells tags) o
+
+-- "One with a fixed answer": state and memory are the rule's.
+unfoldable pub answersAlike : Rule
+answersAlike s c cells tags =
+    let o = stepOf s c cells tags in
+    left (answered 0 empty (o .answer .state)) (o .cells) (o .tags)
+
+-- "One that changes no state": answer and memory are the rule's.
+unfoldable pub keepsState : Rule
+keepsState s c cells tags =
+    let o = stepOf s c cells tags in
+    left (answered (o .answer .code) (slot (o .answer .number) (o .answer .tag)) s) (o .cells) (o .tags)
+
+-- "Sweeping memory and forgetting registers and mailboxes": a word that a collect forgets. "Dropping the store filter": a word
+-- that is stored as it is.
+abbrev pub untouched : Core → Slot → Slot
+untouched c w = w
+
+-- "Making an unmapped page Unmapped, so that it is mapped again before its capabilities are gone."
+unfoldable pub releases : Pages → VirtualPage → Paged
+releases s page =
+    let p = unmapOf s page in
+    paged (p .code) s (withPage (p .pages) (page .0) Unmapped)
+
+-- How many tags are set.
+unfoldable pub tagged : List ℕ → ℕ
+tagged [] = 0
+tagged (t ∷ tags) = byteOf (tagOf t) + tagged tags
+
+-- "Answering a sweep with the tags it cleared, which tells the manager what a house stored."
+unfoldable pub tellsTags : Pages → Range → ℕ → ℕ → List ℕ → List ℕ → Passed
+tellsTags s r place n cells tags =
+    let p = sweepOf s r place n cells tags in
+    answering (tagged tags - tagged (p .tags)) p
+
+-- Beside document 01's: a refusal that does not keep every bit, against "every bit of state and memory kept"; it clears cell 0.
+unfoldable pub refusalWrites : Rule
+refusalWrites s c cells tags =
+    let o = stepOf s c cells tags in
+    left (o .answer) (pick (eqb (o .answer .code) 0) (o .cells) (set (o .cells) 0 0)) (o .tags)
+
+-- A wrong machine, the same shape with the rule in the place of what is wrong, and what stands before a call, with the call.
+pub record Wrong : Type 0 where
+  pub wrong : Rule
+  pub right : Rule
+  pub before : Outcome
+  pub call : Call
+
+abbrev pub entry : {A : Type 0} → (A → Rule) → A → A → Outcome → Call → Wrong
+entry by wrong right before call = record { wrong = by wrong; right = by right; before = before; call = call }
+
+-- What calls leave, one after the other; those of an entry begin with a fresh start of two pages and one frame, or four and one.
+unfoldable pub after : Outcome → List Call → Outcome
+after o [] = o
+after o (c ∷ rest) = after (stepOf (o .answer .state) c (o .cells) (o .tags)) rest
+
+unfoldable pub from : ℕ → List Call → Outcome
+from v calls = after (left (startOf v 1) (replicate 16 0) (replicate 16 0)) calls
+
+-- Party 0 takes cells 0 to 15 into register 0, and 16 to 31, which the frame shows, into register 1; there it stores a number
+-- at offset 0 and the first capability at offset 5, which it also grants to party 3.
+unfoldable pub lent : List Call
+lent =
+    Zero 0 (frame 0)
+    ∷ Map 0 (page 1) (frame 0)
+    ∷ Split 0 0 16
+    ∷ Take 0 0 0
+    ∷ Take 0 16 1
+    ∷ Number 0 2 42 ∷ Store 0 1 0 2 ∷ Store 0 1 5 0 ∷ Grant 0 0 3 ∷ []
+
+-- Cells 0 to 15 are revoked, and some of the sixteen cells of memory swept.
+abbrev pub revoking : ℕ → List Call
+revoking n = lent ++ (Revoke 0 0 ∷ Sweep 0 n ∷ [])
+
+-- Splits of one cell each, from a cell on.
+unfoldable pub splits : ℕ → ℕ → List Call
+splits base zero = []
+splits base (suc n) = Split 0 base 1 ∷ splits (base + 1) n
+
+unfoldable pub machines : List Wrong
+machines =
+    -- The six that must be unprovable.
+    entry sweepBy clearsAll sweepOf (from 2 (revoking 0)) (Sweep 0 3)
+    ∷ entry sweepBy inventsLeft sweepOf (from 2 (revoking 0)) (Sweep 0 3)
+    ∷ entry takeBy inventsLength takeOf (from 2 []) (Take 0 0 0)
+    ∷ entry splitBy pleadsFull splitOf (from 4 (splits 0 62)) (Split 0 62 1)
+    ∷ entry (λ m. m) turnsDown stepOf (from 2 []) (Take 0 0 0)
+    ∷ entry (λ m. m) answersAlike stepOf (from 2 []) (Take 0 0 0)
+    ∷ entry (λ m. m) keepsState stepOf (from 2 []) (Take 0 0 0)
+    -- The four missteps.
+    ∷ entry (λ f. collectBy f collectedMailbox) untouched collectedRegister (from 2 (revoking 16)) (Collect 0)
+    ∷ entry (λ f. collectBy collectedRegister f) untouched collectedMailbox (from 2 (revoking 16)) (Collect 0)
+    ∷ entry storeBy untouched stored (from 2 (revoking 8)) (Store 0 1 2 0)
+    ∷ entry unmapBy releases unmapOf (from 2 lent) (Unmap 0 (page 1))
+    ∷ entry sweepBy tellsTags sweepOf (from 2 (revoking 0)) (Sweep 0 16)
+    -- Beside them.
+    ∷ entry (λ m. m) refusalWrites stepOf (from 2 lent) (Load 0 1 16 3) ∷ []
+
+-- All numbers of an outcome, so that outcomes with different numbers differ.
+unfoldable pub numbers : Outcome → List ℕ
+numbers o =
+    let a = o .answer in
+    let s = a .state in
+    let p = s .core .pages in
+    (a .code ∷ a .number ∷ byteOf (a .tag) ∷ p .v ∷ p .f ∷ s .core .table .count ∷ s .core .place ∷ [])
+    ++ (map (λ e. pageCode (e .state)) (p .pages)
+    ++ (map (λ e. frameCode (e .state)) (p .frames)
+    ++ (rowNumbers (s .core .table)
+    ++ (cellsOf (s .registers)
+    ++ (bytesOf (s .registers) ++ (cellsOf (s .mailboxes) ++ (bytesOf (s .mailboxes) ++ (o .cells ++ o .tags))))))))
+
+abbrev pub leaves : Rule → Wrong → Outcome
+leaves m w = m (w .before .answer .state) (w .call) (w .before .cells) (w .before .tags)
+
+unfoldable pub differs : Rule → Wrong → Bool
+differs m w = not (same (numbers (leaves m w)) (numbers (leaves stepOf w)))
+
+-- The wrong machine's outcome differs from the rule's; as a control, that of the right one in the same shape does not (that it
+-- never does is proved in `Shapes`).
+unfoldable pub shown : Wrong → Bool
+shown w = differs (w .wrong) w && not (differs (w .right) w)
+
+-- None of the wrong machines obeys the rule.
+unfoldable pub NoneObeys : List Wrong → Type 0
+NoneObeys [] = Unit {0}
+NoneObeys (w ∷ rest) = (Obeys (w .wrong) → ⊥) × NoneObeys rest

@@ -1,0 +1,129 @@
+// A call as seven numbers: its command, its operands in the order of their bytes, and 0 after them.
+mod making;
+mod slices;
+
+use calls::Call;
+use calls::Reading;
+use calls::Written;
+use calls::read_at;
+use calls::write_call;
+pub use making::call_from;
+use slices::same;
+ghost use mathlib.Core.List.{[], _∷_};
+ghost use mathlib.Core.Path.{_≡_};
+ghost use lib.ListN.{length};
+ghost use Rattle.operands.specs.Numbers.{numbersOf, answered, writeNumbers, readNumbers};
+
+// Copies one slice into another that is as long.
+fn copy(from: &[u64], to: &mut [u64])
+    requires { ⌜ length (now from) ≡ length (now to) ⌝ }
+    ensures { λ _. ⌜ now (to .exit) ≡ now (from .entry) ⌝ }
+{
+    let mut i: usize = 0;
+    while i < from.len() {
+        to[i] = from[i];
+        i += 1;
+    }
+}
+
+// The numbers of load and store, which have their operands alike.
+fn access_numbers(command: u64, party: u8, a: u8, off: u16, other: u8) -> [u64; 7]
+    ensures { λ r. ⌜ r ≡ command ∷ party ∷ a ∷ off ∷ other ∷ 0 ∷ 0 ∷ [] ⌝ }
+{
+    [
+        command,
+        party as u64,
+        a as u64,
+        off as u64,
+        other as u64,
+        0,
+        0,
+    ]
+}
+
+fn narrow_numbers(party: u8, s: u8, off: u16, len: u16, mask: u8, d: u8) -> [u64; 7]
+    ensures { λ r. ⌜ r ≡ 13 ∷ party ∷ s ∷ off ∷ len ∷ mask ∷ d ∷ [] ⌝ }
+{
+    [
+        13,
+        party as u64,
+        s as u64,
+        off as u64,
+        len as u64,
+        mask as u64,
+        d as u64,
+    ]
+}
+
+// A call's seven numbers.
+pub fn numbers_of(call: Call) -> [u64; 7]
+    ensures { λ r. ⌜ r ≡ numbersOf call ⌝ }
+{
+    match call {
+        Call::Take { party, base, reg } => [1, party as u64, base as u64, reg as u64, 0, 0, 0],
+        Call::Split { party, base, len } => [2, party as u64, base as u64, len as u64, 0, 0, 0],
+        Call::Merge { party, base } => [3, party as u64, base as u64, 0, 0, 0, 0],
+        Call::Give { party, base, to } => [4, party as u64, base as u64, to as u64, 0, 0, 0],
+        Call::Revoke { party, base } => [5, party as u64, base as u64, 0, 0, 0, 0],
+        Call::Sweep { party, n } => [6, party as u64, n as u64, 0, 0, 0, 0],
+        Call::Collect { party } => [7, party as u64, 0, 0, 0, 0, 0],
+        Call::Map { party, page, frame } => [
+            8,
+            party as u64,
+            page.0 as u64,
+            frame.0 as u64,
+            0,
+            0,
+            0,
+        ],
+        Call::Unmap { party, page } => [9, party as u64, page.0 as u64, 0, 0, 0, 0],
+        Call::Zero { party, frame } => [10, party as u64, frame.0 as u64, 0, 0, 0, 0],
+        Call::Load { party, a, off, d } => access_numbers(11, party, a, off, d),
+        Call::Store { party, a, off, s } => access_numbers(12, party, a, off, s),
+        Call::Narrow {
+            party,
+            s,
+            off,
+            len,
+            mask,
+            d,
+        } => narrow_numbers(party, s, off, len, mask, d),
+        Call::Number { party, d, value } => [14, party as u64, d as u64, value, 0, 0, 0],
+        Call::Grant { party, s, to } => [15, party as u64, s as u64, to as u64, 0, 0, 0],
+        Call::Receive { party, d } => [16, party as u64, d as u64, 0, 0, 0, 0],
+    }
+}
+
+// Writes the call that numbers are into a lent buffer and answers its length; 0 if they are no call or the buffer is too short,
+// which is left as it was.
+pub fn write_numbers(numbers: &[u64], out: &mut [u8]) -> usize
+    ensures { λ r. ⌜ answered r (now (out .exit)) ≡ writeNumbers (now (numbers .entry)) (now (out .entry)) ⌝ }
+{
+    let call = call_from(numbers);
+    let own = numbers_of(call);
+    if !same(&own, numbers) {
+        return 0;
+    }
+    match write_call(call, out) {
+        Written::Wrote { len } => len,
+        Written::TooShort => 0,
+    }
+}
+
+// Fills seven lent numbers with those of the call at a place of an input and answers the bytes it used; 0 if no call is there or
+// another count of numbers is lent, which are left as they were.
+pub fn read_numbers(input: &[u8], at: usize, numbers: &mut [u64]) -> usize
+    ensures { λ r. ⌜ answered r (now (numbers .exit)) ≡ readNumbers (now (input .entry)) at (now (numbers .entry)) ⌝ }
+{
+    if numbers.len() != 7 {
+        return 0;
+    }
+    match read_at(input, at) {
+        Reading::Read { call, used } => {
+            let all = numbers_of(call);
+            copy(&all, numbers);
+            used
+        }
+        Reading::Refused => 0,
+    }
+}

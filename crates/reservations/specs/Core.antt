@@ -1,0 +1,15 @@
+-- The core: what no party's data enters. Assumes nothing.
+use Prim.Native.Nat.{ℕ}
+use Rattle.pages.specs.Pages.{Pages}
+use Rattle.table.specs.Table.{Table}
+
+-- The page layer, the table, and the place that the sweep has reached.
+pub record Core : Type 0 where
+  pub pages : Pages
+  pub table : Table
+  pub place : ℕ
+
+-- What revoke and collect answer: 0 or the refusal's number, and the core after it.
+pub record Cored : Type 0 where
+  pub code : ℕ
+  pub core : Core

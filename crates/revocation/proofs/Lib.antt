@@ -1,5 +1,0 @@
-pub mod CoreKept
-pub mod Revocations
-pub mod Starts
-pub mod Refused
-pub mod CoreAfter

@@ -1,0 +1,131 @@
+// Split and merge, which move rows within the table: each row is written once, in place, and the writes are counted.
+use crate::Moved;
+use crate::Reservation;
+use crate::ReservationState;
+use crate::find::find;
+use crate::find::next;
+use crate::find::place_of;
+use crate::find::row_in;
+use crate::find::used;
+use crate::number::number_of;
+use crate::parts::joined;
+use crate::parts::lower_part;
+use crate::parts::merge_code;
+use crate::parts::split_code;
+ghost use mathlib.Core.Path.{_≡_};
+ghost use Prim.Native.Nat.{_+_, _-_, _<_, _≤_};
+ghost use lib.ListN.{length};
+ghost use Rattle.table.specs.Operations.{upperPart, splitOf, mergeOf};
+ghost use Rattle.table.specs.Numbers.{tableOf};
+ghost use Rattle.table.specs.Lent.{Leaves, fitting, spreadAt, gatherAt, splitWrites, mergeWrites};
+
+fn upper_part(row: Reservation, len: u16) -> Reservation
+    requires { ⌜ len ≤ row .length ⌝ }
+    ensures { λ r. ⌜ r ≡ upperPart row len ⌝ }
+{
+    let base = (row.base as u32 + len as u32) % 65536;
+    Reservation {
+        base: base as u16,
+        length: row.length - len,
+        state: ReservationState::Open,
+        holder: row.holder,
+    }
+}
+
+// One row more: those above row i move up, from the top down, and the two stand at i and i + 1.
+fn spread(rows: &mut [u64], n: usize, i: usize, lower: u64, upper: u64) -> usize
+    requires { ⌜ (i < n) × (n < length (now rows)) ⌝ }
+    ensures { λ r. ⌜ (now (rows .exit) ≡ spreadAt (now (rows .entry)) n i lower upper) × (r ≡ n - i + 1) ⌝ }
+{
+    let mut writes: usize = 0;
+    let mut j = n;
+    while j > i + 1 {
+        rows[j] = rows[j - 1];
+        writes += 1;
+        j -= 1;
+    }
+    rows[i + 1] = upper;
+    rows[i] = lower;
+    writes + 2
+}
+
+// One row less: the joined one stands at i, those above i + 1 move down, and the last row is unused.
+fn gather(rows: &mut [u64], n: usize, i: usize, joined: u64) -> usize
+    requires { ⌜ (i + 1 < n) × (n ≤ length (now rows)) ⌝ }
+    ensures { λ r. ⌜ (now (rows .exit) ≡ gatherAt (now (rows .entry)) n i joined 0) × (r ≡ n - i) ⌝ }
+{
+    rows[i] = joined;
+    let mut writes: usize = 1;
+    let mut j = i + 1;
+    while j + 1 < n {
+        rows[j] = rows[j + 1];
+        writes += 1;
+        j += 1;
+    }
+    rows[j] = 0;
+    writes + 1
+}
+
+// One Open reservation becomes two, the lower of `len` cells.
+pub fn split(rows: &mut [u64], count: usize, party: u8, base: u16, len: u16) -> Moved
+    ensures { λ r. ⌜ Leaves (now (rows .entry)) (now (rows .exit)) (r .code) (r .count) (fitting (now (rows .entry)) count (splitOf (tableOf (now (rows .entry)) count) party base len)) × (r .writes ≡ splitWrites (tableOf (now (rows .entry)) count) party base (r .code)) ⌝ }
+{
+    if rows.len() != 64 {
+        return Moved {
+            code: 1,
+            count,
+            writes: 0,
+        };
+    }
+    let found = find(&rows[..], count, party, base);
+    let row = row_in(&rows[..], count, found);
+    let code = split_code(found, row, len, count);
+    if code != 0 {
+        return Moved {
+            code,
+            count,
+            writes: 0,
+        };
+    }
+    let lower = number_of(lower_part(row, len));
+    let upper = number_of(upper_part(row, len));
+    let writes = spread(rows, count, place_of(found), lower, upper);
+    Moved {
+        code,
+        count: count + 1,
+        writes,
+    }
+}
+
+// The reservation and the next one above become one.
+pub fn merge(rows: &mut [u64], count: usize, party: u8, base: u16) -> Moved
+    ensures { λ r. ⌜ Leaves (now (rows .entry)) (now (rows .exit)) (r .code) (r .count) (fitting (now (rows .entry)) count (mergeOf (tableOf (now (rows .entry)) count) party base)) × (r .writes ≡ mergeWrites (tableOf (now (rows .entry)) count) party base (r .code)) ⌝ }
+{
+    if rows.len() != 64 {
+        return Moved {
+            code: 1,
+            count,
+            writes: 0,
+        };
+    }
+    let found = find(&rows[..], count, party, base);
+    let above = next(&rows[..], count, found);
+    let row = row_in(&rows[..], count, found);
+    let other = row_in(&rows[..], count, above);
+    let code = merge_code(found, above, row, other, party);
+    if code != 0 {
+        return Moved {
+            code,
+            count,
+            writes: 0,
+        };
+    }
+    let n = used(&rows[..], count);
+    let one = number_of(joined(row, other));
+    let writes = gather(rows, n, place_of(found), one);
+    Moved {
+        code,
+        count: n - 1,
+        writes,
+    }
+}

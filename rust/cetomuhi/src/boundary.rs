@@ -1,0 +1,261 @@
+//! The C boundary, `include/cetomuhi.h`, and all `unsafe` of the crate.
+//!
+//! Each function here is safe for slices of every length and content. What the boundary asks of its
+//! pointers holds of slices: they are valid and aligned for their lengths, never null, and those
+//! that are written overlap nothing else. What the functions do with them is proved.
+
+#[cfg(doc)]
+use crate::VERSION;
+
+/// The eight arrays of a state, lent for reading: those of [`State`](crate::State), of any lengths.
+#[derive(Clone, Copy, Debug)]
+#[allow(missing_docs)]
+pub struct Arrays<'a> {
+    pub numbers: &'a [u16],
+    pub words: &'a [u64],
+    pub marks: &'a [u8],
+    pub mail: &'a [u64],
+    pub flags: &'a [u8],
+    pub rows: &'a [u64],
+    pub pages: &'a [u16],
+    pub frames: &'a [u8],
+}
+
+/// The same lent for a call, which may change them.
+#[derive(Debug)]
+#[allow(missing_docs)]
+pub struct ArraysMut<'a> {
+    pub numbers: &'a mut [u16],
+    pub words: &'a mut [u64],
+    pub marks: &'a mut [u8],
+    pub mail: &'a mut [u64],
+    pub flags: &'a mut [u8],
+    pub rows: &'a mut [u64],
+    pub pages: &'a mut [u16],
+    pub frames: &'a mut [u8],
+}
+
+/// Lent memory: cells, and as many tag bytes.
+#[derive(Debug)]
+#[allow(missing_docs)]
+pub struct Memory<'a> {
+    pub cells: &'a mut [u64],
+    pub tags: &'a mut [u8],
+}
+
+mod c {
+    /// Declares functions that are lent a state between their other arguments.
+    macro_rules! over_a_state {
+        ($($pointer:ident: $name:ident($($b:ident: $bt:ty),*; $($a:ident: $at:ty),*) -> $r:ty;)*) => {
+            extern "C" {
+                $(pub fn $name(
+                    $($b: $bt,)*
+                    numbers: over_a_state!($pointer u16), numbers_len: usize,
+                    words: over_a_state!($pointer u64), words_len: usize,
+                    marks: over_a_state!($pointer u8), marks_len: usize,
+                    mail: over_a_state!($pointer u64), mail_len: usize,
+                    flags: over_a_state!($pointer u8), flags_len: usize,
+                    rows: over_a_state!($pointer u64), rows_len: usize,
+                    pages: over_a_state!($pointer u16), pages_len: usize,
+                    frames: over_a_state!($pointer u8), frames_len: usize,
+                    $($a: $at,)*
+                ) -> $r;)*
+            }
+        };
+        (reads $number:ty) => { *const $number };
+        (writes $number:ty) => { *mut $number };
+    }
+
+    over_a_state! {
+        writes: cetomuhi_start(v: u64, f: u64;) -> u8;
+        reads: cetomuhi_well_formed(;) -> bool;
+        writes: cetomuhi_command(;
+            cells: *mut u64, cells_len: usize, tags: *mut u8, tags_len: usize,
+            input: *const u8, input_len: usize, at: usize,
+            answers: *mut u64, answers_len: usize
+        ) -> usize;
+        writes: cetomuhi_commands(;
+            cells: *mut u64, cells_len: usize, tags: *mut u8, tags_len: usize,
+            input: *const u8, input_len: usize, at: *mut usize,
+            answers: *mut u64, answers_len: usize
+        ) -> usize;
+    }
+
+    extern "C" {
+        pub fn cetomuhi_write(
+            numbers: *const u64,
+            numbers_len: usize,
+            out: *mut u8,
+            out_len: usize,
+        ) -> usize;
+        pub fn cetomuhi_read(
+            input: *const u8,
+            input_len: usize,
+            at: usize,
+            numbers: *mut u64,
+            numbers_len: usize,
+        ) -> usize;
+        pub fn cetomuhi_version() -> u64;
+        pub fn cetomuhi_size(which: u64) -> usize;
+    }
+}
+
+/// Calls a function with each array of a state as pointer and length.
+macro_rules! lend {
+    ($function:ident, $pointer:ident, ($($b:expr),*), $state:expr, ($($a:expr),*)) => {
+        c::$function(
+            $($b,)*
+            $state.numbers.$pointer(), $state.numbers.len(),
+            $state.words.$pointer(), $state.words.len(),
+            $state.marks.$pointer(), $state.marks.len(),
+            $state.mail.$pointer(), $state.mail.len(),
+            $state.flags.$pointer(), $state.flags.len(),
+            $state.rows.$pointer(), $state.rows.len(),
+            $state.pages.$pointer(), $state.pages.len(),
+            $state.frames.$pointer(), $state.frames.len(),
+            $($a,)*
+        )
+    };
+}
+
+/// A fresh state for V and F: 0. Where V or F is out of range: 1, and the state is all 0. Where an
+/// array has another length than a state's: 1, and nothing is written.
+pub fn start(v: u64, f: u64, state: ArraysMut) -> u8 {
+    // SAFETY: all pointers are those of live slices with their lengths.
+    unsafe { lend!(cetomuhi_start, as_mut_ptr, (v, f), state, ()) }
+}
+
+/// Whether the arrays are a well-formed state.
+pub fn well_formed(state: Arrays) -> bool {
+    // SAFETY: as above; nothing is written.
+    unsafe { lend!(cetomuhi_well_formed, as_ptr, (), state, ()) }
+}
+
+/// The command at a place of the input: its code, number, tag and bytes used come first in
+/// `answers`, and 1 is answered. Without room for those four nothing is done, and 0 is answered.
+pub fn command(
+    state: ArraysMut,
+    memory: Memory,
+    input: &[u8],
+    at: usize,
+    answers: &mut [u64],
+) -> usize {
+    let (cells, tags) = (memory.cells, memory.tags);
+    // SAFETY: all pointers are those of live slices with their lengths. Those that are written are
+    // mutable borrows, so they overlap nothing.
+    unsafe {
+        lend!(
+            cetomuhi_command,
+            as_mut_ptr,
+            (),
+            state,
+            (
+                cells.as_mut_ptr(),
+                cells.len(),
+                tags.as_mut_ptr(),
+                tags.len(),
+                input.as_ptr(),
+                input.len(),
+                at,
+                answers.as_mut_ptr(),
+                answers.len()
+            )
+        )
+    }
+}
+
+/// The commands from a place of the input on; the answer is how many were done, and `at` is then
+/// where the run stands. Each has its four numbers in `answers`. The run ends at the input's end,
+/// after a refusal 1 to 3, whose answer counts, or where `answers` has no room for four more.
+pub fn commands(
+    state: ArraysMut,
+    memory: Memory,
+    input: &[u8],
+    at: &mut usize,
+    answers: &mut [u64],
+) -> usize {
+    let (cells, tags) = (memory.cells, memory.tags);
+    // SAFETY: as for one command; `at` is a mutable borrow.
+    unsafe {
+        lend!(
+            cetomuhi_commands,
+            as_mut_ptr,
+            (),
+            state,
+            (
+                cells.as_mut_ptr(),
+                cells.len(),
+                tags.as_mut_ptr(),
+                tags.len(),
+                input.as_ptr(),
+                input.len(),
+                at,
+                answers.as_mut_ptr(),
+                answers.len()
+            )
+        )
+    }
+}
+
+/// Puts the bytes of the call that seven numbers name first in `out` and answers how many they are.
+/// Where the numbers are no call, or the bytes do not fit, it answers 0 and writes nothing.
+pub fn write(numbers: &[u64], out: &mut [u8]) -> usize {
+    // SAFETY: both pointers are those of live slices with their lengths, which do not overlap.
+    unsafe { c::cetomuhi_write(numbers.as_ptr(), numbers.len(), out.as_mut_ptr(), out.len()) }
+}
+
+/// The seven numbers of the call at a place of the input, and how many bytes it has. Where no call
+/// is there, or `numbers` is not seven long, it answers 0 and writes nothing.
+pub fn read(input: &[u8], at: usize, numbers: &mut [u64]) -> usize {
+    let (to, room) = (numbers.as_mut_ptr(), numbers.len());
+    // SAFETY: both pointers are those of live slices with their lengths, which do not overlap.
+    unsafe { c::cetomuhi_read(input.as_ptr(), input.len(), at, to, room) }
+}
+
+/// The library's version, which changes with the layout of a state. This crate is for [`VERSION`].
+pub fn version() -> u64 {
+    // SAFETY: no pointers.
+    unsafe { c::cetomuhi_version() }
+}
+
+/// How long each array is, by its place in [`Arrays`] (0 to 7); the numbers of an answer (8) and of
+/// a call (9); 0 for any other question.
+pub fn size(which: u64) -> usize {
+    // SAFETY: no pointers.
+    unsafe { c::cetomuhi_size(which) }
+}
+
+#[cfg(feature = "session")]
+mod sessions {
+    extern "C" {
+        fn cetomuhi_session(
+            input: *const u8,
+            input_len: usize,
+            out: *mut u8,
+            out_len: usize,
+        ) -> usize;
+        fn cetomuhi_session_checked(
+            input: *const u8,
+            input_len: usize,
+            out: *mut u8,
+            out_len: usize,
+        ) -> usize;
+    }
+
+    /// The lines of a session put first in `out`, and their length; 0 if they do not fit.
+    pub fn session(input: &[u8], out: &mut [u8]) -> usize {
+        // SAFETY: both pointers are those of live slices with their lengths, which do not overlap.
+        unsafe { cetomuhi_session(input.as_ptr(), input.len(), out.as_mut_ptr(), out.len()) }
+    }
+
+    /// The same with the state tested at every command.
+    pub fn session_checked(input: &[u8], out: &mut [u8]) -> usize {
+        // SAFETY: as above.
+        unsafe {
+            cetomuhi_session_checked(input.as_ptr(), input.len(), out.as_mut_ptr(), out.len())
+        }
+    }
+}
+
+#[cfg(feature = "session")]
+pub use sessions::{session, session_checked};

@@ -1,0 +1,82 @@
+//! The reservation machine of a composition server: a manager and seven houses that trust no one
+//! share one address space, and the machine keeps who may use which range of it.
+//!
+//! This crate is the safe Rust side of the library `libcetomuhi.a`, whose functions are proved to
+//! answer for all bytes, numbers and lengths by the rules of document 01, "The reservation machine
+//! of the composition server". A [`Machine`] owns its state and memory; a [`State`] is lent memory
+//! at every call. A [`Call`] is one of sixteen kinds; its [`Answer`] is granted, or one of nineteen
+//! [`Refusal`]s, and then nothing has changed.
+//!
+//! ```
+//! use cetomuhi::{Call, Frame, Machine, Refusal, VirtualPage};
+//!
+//! # fn main() -> Result<(), Refusal> {
+//! let mut machine = Machine::start(2, 1)?;
+//! machine.call(&Call::Zero { party: 0, frame: Frame(0) }).granted()?;
+//! machine.call(&Call::Map { party: 0, page: VirtualPage(0), frame: Frame(0) }).granted()?;
+//! machine.call(&Call::Give { party: 0, base: 0, to: 3 }).granted()?;
+//!
+//! // Party 3 takes the range, which nobody can take again.
+//! let take = Call::Take { party: 3, base: 0, reg: 0 };
+//! assert_eq!(machine.call(&take).granted()?.number, 32);
+//! assert_eq!(machine.call(&take).granted(), Err(Refusal::NotHeld));
+//! println!("{take}: {}", machine.call(&take));
+//!
+//! for reservation in machine.state().reservations() {
+//!     println!("{reservation}");
+//! }
+//! # Ok(())
+//! # }
+//! ```
+//!
+//! A server with a queue writes calls as bytes and has them done in one run, in which the state is
+//! tested once:
+//!
+//! ```
+//! use cetomuhi::{Call, Frame, Machine};
+//!
+//! let mut machine = Machine::start(16, 16).expect("V and F are in range");
+//! let mut queue = Vec::new();
+//! for frame in 0..16 {
+//!     Call::Zero { party: 0, frame: Frame(frame) }.append(&mut queue);
+//! }
+//! let run = machine.commands(&queue);
+//! assert_eq!((run.answers.len(), run.at), (16, queue.len()));
+//! assert!(run.answers.iter().all(|done| done.answer.code() == 0));
+//! ```
+//!
+//! The archive is looked for in the folder that `CETOMUHI_LIB_DIR` names, or where `rt staticlib
+//! cetomuhi` writes it. What is proved ends at the C boundary; this crate is tested.
+
+#![deny(missing_docs)]
+#![deny(unsafe_op_in_unsafe_fn)]
+
+mod answer;
+mod boundary;
+mod call;
+mod machine;
+mod refusal;
+#[cfg(feature = "session")]
+pub mod session;
+mod shown;
+mod state;
+mod word;
+
+pub use answer::{Answer, Done, Run, ANSWER_NUMBERS};
+pub use call::{Call, Frame, VirtualPage, CALL_NUMBERS, LONGEST};
+pub use machine::{Machine, PAGE_CELLS};
+pub use refusal::Refusal;
+pub use shown::{FrameState, Mailbox, PageState, Register};
+pub use shown::{Reservation, ReservationState, Revocation};
+pub use state::State;
+pub use word::{Capability, Word};
+
+/// The version of the library that this crate is for.
+pub const VERSION: u64 = 1;
+
+/// The exported functions over slices of any lengths, one for one. They are safe; the rest of the
+/// crate is more convenient.
+pub mod raw {
+    pub use crate::boundary::{command, commands, read, size, start, version, well_formed, write};
+    pub use crate::boundary::{Arrays, ArraysMut, Memory};
+}

@@ -1,0 +1,31 @@
+/* What the tests in C share: claims are counted, those that fail are printed. */
+#ifndef CHECK_H
+#define CHECK_H
+
+#include <cetomuhi.h>
+
+#include <stdio.h>
+#include <stdlib.h>
+
+#define COUNT(array) (sizeof(array) / sizeof(array)[0])
+#define CHECK(claim) check(claim, #claim, __FILE__, __LINE__)
+
+static unsigned long checks;
+static unsigned long failures;
+
+static void check(bool holds, const char *claim, const char *file, int line) {
+    checks++;
+    if (holds)
+        return;
+    if (failures < 20)
+        printf("%s:%d: does not hold: %s\n", file, line, claim);
+    failures++;
+}
+
+/* The exit status of the program. */
+static int end(const char *name) {
+    printf("%s: %lu claims hold, %lu do not\n", name, checks - failures, failures);
+    return failures == 0 && checks > 0 ? 0 : 1;
+}
+
+#endif

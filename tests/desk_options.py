@@ -1,0 +1,388 @@
+#!/usr/bin/env python3
+"""Tries ./desk: its help, its errors, the words of refusals, and the tables of the state."""
+
+import itertools
+import os
+import pathlib
+import re
+import shutil
+import subprocess
+import sys
+import tempfile
+import unittest
+
+ROOT = pathlib.Path(__file__).resolve().parent.parent
+SESSIONS = sorted(ROOT.glob("sessions/*.hex"))
+LIBRARY = os.environ.get("CETOMUHI_LIB_DIR", str(ROOT / "target/staticlib"))
+
+
+def desk(*words, root=ROOT, **changed):
+    """Exit status, output and error text of ./desk, with these variables of the environment."""
+    command = [str(root / "desk"), *map(str, words)]
+    environment = {**os.environ, **changed}
+    done = subprocess.run(command, capture_output=True, check=False, env=environment, text=True)
+    return done.returncode, done.stdout, done.stderr
+
+
+def setUpModule():
+    """What is not built yet is built, once."""
+    status, _, error = desk(SESSIONS[0], "--state")
+    if status != 0:
+        raise RuntimeError(error)
+
+
+class Case(unittest.TestCase):
+    """A folder of its own, and what every test says of ./desk."""
+
+    def setUp(self):
+        holder = tempfile.TemporaryDirectory()
+        self.addCleanup(holder.cleanup)
+        self.folder = pathlib.Path(holder.name)
+
+    def session(self, text):
+        path = self.folder / "session.hex"
+        path.write_text(text)
+        return path
+
+    def prints(self, expected, *words):
+        self.assertEqual(desk(*words), (0, expected, ""))
+
+    def fails(self, fault, *words, **changed):
+        self.assertEqual(desk(*words, **changed), (1, "", f"desk: {fault}\n"))
+
+
+class Words(Case):
+    """Help, and the errors that the words of the command line and the file make."""
+
+    def test_help(self):
+        for word in ("--help", "-h"):
+            status, output, error = desk(word)
+            self.assertEqual((status, error), (0, ""))
+            for option in ("./desk FILE.hex", "--explain", "--state", "--state=end", "--help"):
+                self.assertIn(option, output)
+
+    def test_words_that_are_wrong(self):
+        session = SESSIONS[0]
+        self.fails("no file is named; ./desk --help says how")
+        self.fails("no file is named; ./desk --help says how", "--explain")
+        for word in ("--states", "--state=all", "-x"):
+            fault = f"{word}: no such option; ./desk --help says which there are"
+            self.fails(fault, session, word)
+        self.fails("a.hex and b.hex: one file at a time", "a.hex", "b.hex")
+
+    def test_files_that_are_wrong(self):
+        missing = self.folder / "missing.hex"
+        for options in ((), ("--explain",), ("--state",)):
+            self.fails(f"{missing}: No such file or directory", missing, *options)
+            self.fails(f"{self.folder}: Is a directory", self.folder, *options)
+            odd = self.session("00 02 01 # V and F\n\n0A 00 0\n")
+            self.fails(f"{odd}: line 3: 5 digits, an odd count", odd, *options)
+            other = self.session("00 02 01\n0A 00 0G\n")
+            self.fails(f"{other}: line 2: 'G' is no hexadecimal digit", other, *options)
+
+    def test_a_file_that_is_read_once(self):
+        text = (ROOT / "sessions/document.hex").read_text()
+        command = [ROOT / "desk", "/dev/stdin", "--explain"]
+        done = subprocess.run(command, input=text, capture_output=True, check=False, text=True)
+        expected = desk(ROOT / "sessions/document.hex", "--explain")
+        self.assertEqual((done.returncode, done.stdout, done.stderr), expected)
+
+
+class Building(Case):
+    """Errors where something is missing, in a copy of what ./desk needs."""
+
+    def setUp(self):
+        super().setUp()
+        self.root = self.folder / "root"
+        (self.root / "target/bin").mkdir(parents=True)
+        shutil.copy(ROOT / "desk", self.root)
+        for name in ("tools", "include"):
+            (self.root / name).symlink_to(ROOT / name)
+        self.program = self.root / "target/bin/desk"
+        self.program.symlink_to(ROOT / "target/bin/desk")
+        self.document = ROOT / "sessions/document.hex"
+
+    def path(self, *names):
+        """A PATH with these programs and those that ./desk always uses."""
+        folder = self.folder / "bin"
+        folder.mkdir()
+        (folder / "python3").symlink_to(sys.executable)
+        for name in ("bash", "cat", "cmp", "dirname", "grep", "mktemp", "rm", "sed", *names):
+            (folder / name).symlink_to(shutil.which(name))
+        return str(folder)
+
+    def misses(self, fault, *words, **changed):
+        self.fails(fault, self.document, *words, root=self.root, **changed)
+
+    def test_no_rt(self):
+        path = self.path()
+        archive = self.root / "target/staticlib/libcetomuhi.a"
+        fault = f"{archive} is missing, and rt, which builds it, is not found"
+        self.misses(fault, "--state", PATH=path, CETOMUHI_LIB_DIR="")
+        self.program.unlink()
+        self.misses(f"{self.program} is missing, and rt, which builds it, is not found", PATH=path)
+
+    def test_an_rt_that_fails(self):
+        path = self.path()
+        failing = pathlib.Path(path, "rt")
+        failing.write_text("#!/bin/sh\necho not proved\nexit 1\n")
+        failing.chmod(0o755)
+        archive = self.root / "target/staticlib/libcetomuhi.a"
+        fault = f"not proved\ndesk: {archive} could not be built"
+        self.misses(fault, "--state", PATH=path, CETOMUHI_LIB_DIR="")
+
+    def test_no_library_and_no_compiler(self):
+        archive = self.folder / "libcetomuhi.a"
+        self.misses(f"{archive} is missing", "--state", CETOMUHI_LIB_DIR=str(self.folder))
+        fault = "--state needs a C compiler, and no-cc is not found"
+        self.misses(fault, "--state", CC="no-cc", CETOMUHI_LIB_DIR=LIBRARY)
+
+    def test_a_program_with_other_lines(self):
+        self.program.unlink()
+        self.program.write_text("#!/bin/sh\necho 0 0 0\n")
+        self.program.chmod(0o755)
+        fault = f"{self.document}: the program's lines are not the library's"
+        self.misses(fault, "--state", CETOMUHI_LIB_DIR=LIBRARY)
+
+
+# Each command after a start with V 2 and F 1, and why it is refused; granted ones have no reason.
+REFUSED = [
+    ("01 08 0000 00", "there is no party 8"),
+    ("04 00 0000 09", "there is no party 9"),
+    ("0D 08 09 0000 0001 0F 0A", "there is no party 8 and no register 9 and no register 10"),
+    ("05 01 0000", "only party 0 may"),
+    ("06 01 0001", "only party 0 may"),
+    ("07 01", "only party 0 may"),
+    ("08 01 00 00", "only party 0 may"),
+    ("09 01 00", "only party 0 may"),
+    ("0A 01 00", "only party 0 may"),
+    ("01 01 0000 00", "party 1 holds none that begins there"),
+    ("02 01 0000 0001", "party 1 holds none that begins there"),
+    ("03 01 0000", "party 1 holds none that begins there"),
+    ("04 01 0000 01", "party 1 holds none that begins there"),
+    ("05 00 0001", "party 0 holds none that begins there"),
+    ("03 00 0000", "party 0 holds no next one, or the two are not both Open or both Taken"),
+    ("02 00 0000 0000", "the length is 0 or not below the reservation's"),
+    ("06 00 0001", "no revocation runs"),
+    ("07 00", "no revocation runs, or cells are left to sweep"),
+    ("08 00 02 01", "there is no page 2 or no frame 1"),
+    ("09 00 02", "there is no page 2"),
+    ("0A 00 01", "there is no frame 1"),
+    ("09 00 00", "the page is not Mapped"),
+    ("08 00 00 00", "the frame is not Free"),
+    ("0A 00 00", None),
+    ("0A 00 00", "the frame is not Dirty"),
+    ("08 00 00 00", None),
+    ("08 00 00 00", "the page is not Unmapped"),
+    ("0B 00 00 0000 01", "register 0 holds no capability"),
+    ("0C 00 01 0000 01", "register 1 holds no capability"),
+    ("0D 00 02 0000 0001 0F 01", "register 2 holds no capability"),
+    ("0F 00 03 01", "register 3 holds no capability"),
+    ("10 00 00", "the mailbox of party 0 is empty"),
+    ("02 00 0000 000F", None),
+    ("05 00 0000", "its base or its length is no multiple of 16"),
+    ("03 00 0000", None),
+    ("02 00 0000 0010", None),
+    ("01 00 0000 00", None),
+    ("01 00 0000 00", "it is not Open"),
+    ("02 00 0000 0001", "it is not Open"),
+    ("04 00 0000 01", "it is not Open"),
+    ("05 00 0000", "a page of it is Mapped"),
+    ("0D 00 00 0000 0010 00 01", None),
+    ("0B 00 01 0000 02", "the capability has no permission to load"),
+    (
+        "0C 00 01 0000 02",
+        "the capability has no permission to store, or none to store capabilities",
+    ),
+    ("0B 00 00 0010 02", "the offset is not below the capability's length"),
+    ("0C 00 00 0010 02", "the offset is not below the capability's length"),
+    (
+        "0D 00 00 0000 0000 0F 02",
+        "the length is 0, or the range ends past the capability or begins above 65,535",
+    ),
+    ("01 00 0010 03", None),
+    ("0B 00 03 0000 02", "the page there is not Mapped"),
+    ("0C 00 03 0000 02", "the page there is not Mapped"),
+    ("0F 00 00 01", None),
+    ("0F 00 00 01", "the mailbox of party 1 is full"),
+    ("05 00 0010", None),
+    ("05 00 0010", "it is Revoking already"),
+    ("05 00 0000", "a revocation runs already"),
+    ("11", "11 is no command"),
+]
+
+
+class Explained(Case):
+    def test_lines_and_refusals_of_every_session(self):
+        for path in SESSIONS:
+            stored = path.with_suffix(".out").read_text()
+            self.prints(stored, path)
+            status, output, error = desk(path, "--explain")
+            self.assertEqual((status, error), (0, ""))
+            shown = output.splitlines()
+            lines = [" ".join(line.split()[:3]) for line in shown]
+            self.assertEqual(lines, stored.splitlines())
+            for line in shown:
+                self.assertEqual(line.startswith("0 "), "refused: " not in line)
+
+    def test_every_refusal_has_its_words(self):
+        path = self.session("0002 01\n" + "\n".join(command for command, _ in REFUSED))
+        status, output, error = desk(path, "--explain")
+        self.assertEqual((status, error), (0, ""))
+        reasons = [(line.split("refused: ") + [None])[1] for line in output.splitlines()]
+        self.assertEqual(reasons, [None, *(reason for _, reason in REFUSED)])
+
+    def test_a_full_table(self):
+        splits = "".join(f"02 00 {base:04X} 0001\n" for base in range(64))
+        output = desk(self.session(f"0005 01\n{splits}"), "--explain")[1].splitlines()
+        self.assertEqual(output[64].split("refused: ")[1], "the table has 64 reservations")
+        self.assertNotIn("refused", output[63])
+
+    def test_starts(self):
+        expected = "start with V 257 and F 1; refused: V is not 1 to 256, or F is not 1 to 128"
+        self.prints(f"1 0 0  {expected}\n", self.session("0101 01 0700"), "--explain")
+        self.prints("1 0 0  refused: start, cut short\n", self.session("0001"), "--explain")
+        expected = (
+            "0 0 0  start with V 1 and F 1\n3 0 0  refused: the input ends within command 08\n"
+        )
+        self.prints(expected, self.session("0001 01 08 00"), "--explain")
+
+
+# A table's row: its word or none, what it is about, what is said of it.
+ROW = re.compile(r" {4}(.{14})(.{20})(\S.*)")
+CELLS = re.compile(r"cells? (\d+)(?: to (\d+))?")
+RANGE = re.compile(r"(\d+)(?: to (\d+))?")
+SHOWN = re.compile(r"Mapped to frames? (\d+)(?: to (\d+))?")
+CAPABILITY = (
+    r"base \d+, length \d+, "
+    r"(no permission|load(, store)?(, load capability)?(, store capability)?"
+    r"|store(, load capability)?(, store capability)?"
+    r"|load capability(, store capability)?|store capability), tag 1"
+)
+SAID = {
+    "reservations": r"Open, held by party [0-7]|Taken|Revoking",
+    "revocation": r"sweep place \d+ of \d+",
+    "pages": r"Unmapped|Freed|Mapped to frames? \d+( to \d+)?",
+    "frames": r"Dirty|Free|Mapped",
+    "registers": CAPABILITY + r"|number \d+, tag 0",
+    "mailboxes": CAPABILITY,
+}
+
+
+def spanned(pattern, text):
+    """The numbers of a range in words."""
+    first, last = re.fullmatch(pattern, text).groups()
+    return list(range(int(first), int(last or first) + 1))
+
+
+def split_tables(output):
+    """The lines of an output, and the tables that stand below them, as texts."""
+    lines = [line for line in output.splitlines() if line[:1].isdigit()]
+    tables = re.findall(r"(?:^    .*\n)+", output, re.MULTILINE)
+    return lines, tables
+
+
+# By hand: frames 4 to 7, 2 and 1 are zeroed and mapped to pages 0 to 5, and page 5 is unmapped
+# again; cell 0 is taken, narrowed to permissions 5 and to none, and granted.
+SUMMED = """\
+    reservations  cell 0              Taken
+                  cells 1 to 4095     Open, held by party 0
+    pages         0 to 3              Mapped to frames 4 to 7
+                  4                   Mapped to frame 2
+                  5                   Freed
+                  6 to 255            Unmapped
+    frames        0 to 1              Dirty
+                  2                   Mapped
+                  3                   Dirty
+                  4 to 7              Mapped
+                  8 to 127            Dirty
+    registers     party 0 register 0  base 0, length 1, load, load capability, tag 1
+                  party 0 register 1  base 0, length 1, no permission, tag 1
+                  party 0 register 7  base 0, length 1, load, store, load capability, store capability, tag 1
+    mailboxes     party 7             base 0, length 1, load, load capability, tag 1
+"""
+
+
+class State(Case):
+    def tables(self, text):
+        """A table's rows by its words."""
+        found = {}
+        for line in text.splitlines():
+            word, thing, said = ROW.fullmatch(line).groups()
+            latest = word.strip() or latest
+            self.assertRegex(said, f"^({SAID[latest]})$")
+            found.setdefault(latest, []).append((thing.strip(), said))
+        self.assertEqual(list(found), [word for word in SAID if word in found])
+        return found
+
+    def agrees(self, text, v, f):
+        """The rows cover each cell, page and frame once, and say the same of Mapped frames and of
+        a revocation."""
+        found = self.tables(text)
+        cells = [n for thing, _ in found["reservations"] for n in spanned(CELLS, thing)]
+        pages = [n for thing, _ in found["pages"] for n in spanned(RANGE, thing)]
+        frames = [n for thing, _ in found["frames"] for n in spanned(RANGE, thing)]
+        self.assertEqual(cells, list(range(16 * v)))
+        self.assertEqual((pages, frames), (list(range(v)), list(range(f))))
+        mapped = [thing for thing, said in found["frames"] if said == "Mapped"]
+        shown = [said for _, said in found["pages"] if said.startswith("Mapped")]
+        self.assertEqual(
+            sorted(n for said in shown for n in spanned(SHOWN, said)),
+            [n for thing in mapped for n in spanned(RANGE, thing)],
+        )
+        revoked = [thing for thing, said in found["reservations"] if said == "Revoking"]
+        self.assertEqual([thing for thing, _ in found.get("revocation", [])], revoked)
+
+    # sessions/document.state was written by hand from document 01, before the tables were first
+    # printed: its commands and lines are those of "One session in full", and what each command
+    # changes is the sentence for it under "Commands". The sums: V 2 is cells 0 to 31 and F 1 is 16
+    # cells of memory; a take gives permissions 15, which are all four; 64425558016 is
+    # 15 x 2^32 + 16 x 2^16, the number that is left of it when the collect clears its tag; the
+    # stores change lent memory alone, so that the state is as before.
+    def test_document(self):
+        document = ROOT / "sessions/document.hex"
+        expected = document.with_suffix(".state").read_text()
+        self.prints(expected, document, "--explain", "--state")
+
+    def test_state_without_words(self):
+        document = ROOT / "sessions/document.hex"
+        _, tables = split_tables(document.with_suffix(".state").read_text())
+        lines = document.with_suffix(".out").read_text()
+        both = [line + "\n" + table for line, table in zip(lines.splitlines(), tables)]
+        self.prints("\n".join(both), document, "--state")
+        self.prints(lines + "\n" + tables[-2], document, "--state=end")
+
+    def test_every_session(self):
+        for path in SESSIONS:
+            stored = path.with_suffix(".out").read_text().splitlines()
+            status, output, error = desk(path, "--state")
+            self.assertEqual((status, error), (0, ""))
+            lines, tables = split_tables(output)
+            self.assertEqual((lines, len(tables)), (stored, len(stored)))
+            start = bytes.fromhex(re.search("(?m)^0[0-9A-F ]*", path.read_text())[0])
+            size = (start[0] << 8 | start[1], start[2])
+            shown = [table for table in tables if table != "    as before\n"]
+            for table in shown:
+                self.agrees(table, *size)
+            refused = [not line.startswith("0 ") for line in lines]
+            for table in itertools.compress(tables, refused):
+                self.assertEqual(table, "    as before\n")
+            self.prints("\n".join([*stored, "", shown[-1]]), path, "--state=end")
+
+    def test_a_refused_start(self):
+        for text in ("0101 01 0700", "0001 00", "0001", ""):
+            self.prints("1 0 0\n    all zero\n", self.session(text), "--state")
+            self.prints("1 0 0\n\n    all zero\n", self.session(text), "--state=end")
+
+    def test_rows_are_summed_up(self):
+        frames = [4, 5, 6, 7, 2, 1]
+        commands = [f"0A 00 {frame:02X}" for frame in frames]
+        commands += [f"08 00 {page:02X} {frame:02X}" for page, frame in enumerate(frames)]
+        commands += ["09 00 05", "02 00 0000 0001", "01 00 0000 07"]
+        commands += ["0D 00 07 0000 0001 05 00", "0D 00 07 0000 0001 10 01", "0F 00 00 07"]
+        path = self.session("0100 80\n" + "\n".join(commands))
+        self.prints("0 0 0\n" * 15 + "0 1 0\n" + "0 0 0\n" * 3 + "\n" + SUMMED, path, "--state=end")
+
+
+if __name__ == "__main__":
+    unittest.main()

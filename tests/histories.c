@@ -1,0 +1,354 @@
+/* Tests of calls through the inline functions of cetomuhi.h: document 01's session, every refusal
+ * with every byte kept, random histories in which a run equals single commands, showing a state.
+ *
+ *   histories [ROUNDS]    ROUNDS random histories, 200 if not given */
+#include "check.h"
+
+static bool seen[20];
+
+/* Makes a call. The code and the number are those given; a refused one keeps every byte; the state
+ * is well formed after it. */
+static void expect(cetomuhi_machine *machine, cetomuhi_call call, uint64_t code, uint64_t number) {
+    static cetomuhi_machine before;
+    uint8_t bytes[CETOMUHI_COMMAND_BYTES];
+    const size_t length = cetomuhi_call_write(call, bytes, sizeof bytes);
+    before = *machine;
+    const cetomuhi_answer answer = cetomuhi_machine_call(machine, call);
+    CHECK(answer.code == code);
+    CHECK(answer.number == number);
+    CHECK(answer.used == length);
+    CHECK(cetomuhi_machine_well_formed(machine));
+    if (answer.code != CETOMUHI_GRANTED) {
+        CHECK(answer.tag == 0);
+        CHECK(memcmp(machine, &before, sizeof before) == 0);
+    }
+    if (answer.code < COUNT(seen))
+        seen[answer.code] = true;
+}
+
+static void grant(cetomuhi_machine *machine, cetomuhi_call call) {
+    expect(machine, call, CETOMUHI_GRANTED, 0);
+}
+
+static void refuse(cetomuhi_machine *machine, cetomuhi_call call, uint64_t code) {
+    expect(machine, call, code, 0);
+}
+
+/* ---- Document 01's session ---- */
+
+static void test_session(void) {
+    static cetomuhi_machine m;
+    CHECK(cetomuhi_machine_start(&m, 2, 1) == 0);
+    grant(&m, cetomuhi_zero(0, 0));
+    grant(&m, cetomuhi_map(0, 0, 0));
+    grant(&m, cetomuhi_split(0, 0, 16));
+    grant(&m, cetomuhi_give(0, 0, 3));
+    expect(&m, cetomuhi_take(3, 0, 0), 0, 16);
+    grant(&m, cetomuhi_number(3, 1, 0x2A));
+    grant(&m, cetomuhi_store(3, 0, 5, 1));
+    grant(&m, cetomuhi_store(3, 0, 6, 0));
+    expect(&m, cetomuhi_load(3, 0, 6, 2), 0, UINT64_C(64425558016));
+    CHECK(cetomuhi_register_at(&m.state, 3, 2).tag == 1);
+    refuse(&m, cetomuhi_revoke(0, 0), CETOMUHI_REFUSED_WRONG_PAGE);
+    grant(&m, cetomuhi_unmap(0, 0));
+    grant(&m, cetomuhi_revoke(0, 0));
+    expect(&m, cetomuhi_sweep(0, 10), 0, 6);
+    refuse(&m, cetomuhi_collect(0), CETOMUHI_REFUSED_REVOCATION_ORDER);
+    grant(&m, cetomuhi_sweep(0, 0xFF));
+    grant(&m, cetomuhi_collect(0));
+    refuse(&m, cetomuhi_load(3, 0, 6, 2), CETOMUHI_REFUSED_UNTAGGED);
+}
+
+/* ---- Every refusal ---- */
+
+/* A state that is not well formed, by a single command and by a run. */
+static void spoil(cetomuhi_machine *machine) {
+    static cetomuhi_machine before;
+    const uint8_t bytes[] = {CETOMUHI_COLLECT, 0, CETOMUHI_COLLECT, 0};
+    cetomuhi_answer answers[2] = {{9, 9, 9, 9}, {9, 9, 9, 9}};
+    size_t at = 0;
+    machine->state.marks[5] = 2;
+    before = *machine;
+    const cetomuhi_answer answer = cetomuhi_machine_command(machine, bytes, sizeof bytes, 0);
+    CHECK(answer.code == CETOMUHI_REFUSED_ILL_FORMED && answer.used == 0);
+    CHECK(cetomuhi_machine_commands(machine, bytes, sizeof bytes, &at, answers, 2) == 1);
+    CHECK(memcmp(answers, &answer, sizeof answer) == 0 && answers[1].code == 9 && at == 0);
+    CHECK(memcmp(machine, &before, sizeof before) == 0);
+    machine->state.marks[5] = 0;
+    seen[answer.code] = true;
+}
+
+/* No pointers, too little memory, no call. */
+static void lend_nothing(cetomuhi_machine *machine) {
+    const cetomuhi_memory none = {NULL, NULL, 0};
+    const cetomuhi_memory short_by_one = {machine->cells, machine->tags, 47};
+    const cetomuhi_call call = cetomuhi_zero(0, 0);
+    const uint8_t byte = 0;
+    cetomuhi_answer answer = cetomuhi_state_call(&machine->state, none, call);
+    size_t at = 0;
+    CHECK(answer.code == CETOMUHI_REFUSED_LENT_LENGTH && answer.used == 0);
+    answer = cetomuhi_state_call(&machine->state, short_by_one, call);
+    CHECK(answer.code == CETOMUHI_REFUSED_LENT_LENGTH);
+    seen[answer.code] = true;
+    CHECK(cetomuhi_machine_command(machine, NULL, 0, 0).code == CETOMUHI_REFUSED_NO_COMMAND);
+    CHECK(cetomuhi_machine_command(machine, &byte, 1, 0).code == CETOMUHI_REFUSED_NO_COMMAND);
+    CHECK(cetomuhi_machine_commands(machine, NULL, 0, &at, &answer, 1) == 0);
+    CHECK(cetomuhi_machine_commands(machine, &byte, 1, &at, NULL, 0) == 0);
+    refuse(machine, cetomuhi_zero(256, 0), CETOMUHI_REFUSED_NO_COMMAND);
+    refuse(machine, cetomuhi_take(0, 65536, 0), CETOMUHI_REFUSED_NO_COMMAND);
+    refuse(machine, cetomuhi_call_of(17, 0, 0, 0, 0), CETOMUHI_REFUSED_NO_COMMAND);
+}
+
+/* 4 and 5. */
+static void wrong_caller(cetomuhi_machine *m) {
+    refuse(m, cetomuhi_collect(8), CETOMUHI_REFUSED_ABOVE_SEVEN);
+    refuse(m, cetomuhi_take(0, 0, 8), CETOMUHI_REFUSED_ABOVE_SEVEN);
+    refuse(m, cetomuhi_give(0, 0, 8), CETOMUHI_REFUSED_ABOVE_SEVEN);
+    refuse(m, cetomuhi_number(0, 255, 1), CETOMUHI_REFUSED_ABOVE_SEVEN);
+    refuse(m, cetomuhi_revoke(1, 0), CETOMUHI_REFUSED_NOT_MANAGER);
+    refuse(m, cetomuhi_sweep(2, 0), CETOMUHI_REFUSED_NOT_MANAGER);
+    refuse(m, cetomuhi_collect(3), CETOMUHI_REFUSED_NOT_MANAGER);
+    refuse(m, cetomuhi_map(4, 0, 0), CETOMUHI_REFUSED_NOT_MANAGER);
+    refuse(m, cetomuhi_unmap(5, 0), CETOMUHI_REFUSED_NOT_MANAGER);
+    refuse(m, cetomuhi_zero(7, 0), CETOMUHI_REFUSED_NOT_MANAGER);
+}
+
+/* 6 to 9; the marked edges of split and take among them. */
+static void wrong_reservation(cetomuhi_machine *m) {
+    refuse(m, cetomuhi_take(1, 0, 0), CETOMUHI_REFUSED_NOT_HELD);
+    refuse(m, cetomuhi_split(0, 1, 1), CETOMUHI_REFUSED_NOT_HELD);
+    grant(m, cetomuhi_split(0, 0, 16));
+    refuse(m, cetomuhi_split(0, 0, 0), CETOMUHI_REFUSED_SPLIT_LENGTH);
+    refuse(m, cetomuhi_split(0, 0, 16), CETOMUHI_REFUSED_SPLIT_LENGTH);
+    grant(m, cetomuhi_split(0, 0, 15));
+    grant(m, cetomuhi_merge(0, 0));
+    grant(m, cetomuhi_give(0, 0, 1));
+    refuse(m, cetomuhi_merge(1, 0), CETOMUHI_REFUSED_WRONG_RESERVATION);
+    expect(m, cetomuhi_take(1, 0, 0), 0, 16);
+    refuse(m, cetomuhi_take(1, 0, 0), CETOMUHI_REFUSED_NOT_HELD);
+    refuse(m, cetomuhi_take(0, 0, 0), CETOMUHI_REFUSED_WRONG_RESERVATION);
+    refuse(m, cetomuhi_give(0, 0, 1), CETOMUHI_REFUSED_WRONG_RESERVATION);
+    refuse(m, cetomuhi_merge(0, 0), CETOMUHI_REFUSED_WRONG_RESERVATION);
+}
+
+/* 12, 13 and 14. */
+static void wrong_page(cetomuhi_machine *m) {
+    refuse(m, cetomuhi_map(0, 4, 0), CETOMUHI_REFUSED_NO_SUCH_PAGE);
+    refuse(m, cetomuhi_map(0, 0, 3), CETOMUHI_REFUSED_NO_SUCH_PAGE);
+    refuse(m, cetomuhi_zero(0, 3), CETOMUHI_REFUSED_NO_SUCH_PAGE);
+    refuse(m, cetomuhi_unmap(0, 0), CETOMUHI_REFUSED_WRONG_PAGE);
+    refuse(m, cetomuhi_map(0, 0, 0), CETOMUHI_REFUSED_WRONG_FRAME);
+    grant(m, cetomuhi_zero(0, 0));
+    refuse(m, cetomuhi_zero(0, 0), CETOMUHI_REFUSED_WRONG_FRAME);
+    grant(m, cetomuhi_map(0, 0, 0));
+    refuse(m, cetomuhi_map(0, 0, 1), CETOMUHI_REFUSED_WRONG_PAGE);
+    refuse(m, cetomuhi_revoke(0, 0), CETOMUHI_REFUSED_WRONG_PAGE);
+}
+
+/* 15 to 19; party 1 has cells 0 to 15 in register 0. */
+static void wrong_word(cetomuhi_machine *m) {
+    refuse(m, cetomuhi_load(1, 1, 0, 2), CETOMUHI_REFUSED_UNTAGGED);
+    refuse(m, cetomuhi_grant(1, 7, 2), CETOMUHI_REFUSED_UNTAGGED);
+    grant(m, cetomuhi_narrow(1, 0, 0, 16, CETOMUHI_MAY_LOAD, 1));
+    refuse(m, cetomuhi_store(1, 1, 0, 1), CETOMUHI_REFUSED_NO_PERMISSION);
+    grant(m, cetomuhi_narrow(1, 0, 0, 16, CETOMUHI_MAY_STORE, 2));
+    refuse(m, cetomuhi_load(1, 2, 0, 3), CETOMUHI_REFUSED_NO_PERMISSION);
+    refuse(m, cetomuhi_store(1, 2, 0, 0), CETOMUHI_REFUSED_NO_PERMISSION);
+    expect(m, cetomuhi_load(1, 0, 15, 3), 0, 0);
+    refuse(m, cetomuhi_load(1, 0, 16, 3), CETOMUHI_REFUSED_OUT_OF_BOUNDS);
+    refuse(m, cetomuhi_narrow(1, 0, 0, 0, 15, 3), CETOMUHI_REFUSED_OUT_OF_BOUNDS);
+    refuse(m, cetomuhi_narrow(1, 0, 10, 7, 15, 3), CETOMUHI_REFUSED_OUT_OF_BOUNDS);
+    refuse(m, cetomuhi_receive(2, 0), CETOMUHI_REFUSED_MAILBOX);
+    grant(m, cetomuhi_grant(1, 1, 2));
+    refuse(m, cetomuhi_grant(1, 0, 2), CETOMUHI_REFUSED_MAILBOX);
+    grant(m, cetomuhi_unmap(0, 0));
+    refuse(m, cetomuhi_load(1, 0, 0, 3), CETOMUHI_REFUSED_NOT_MAPPED);
+}
+
+/* 10 and 11; a revocation of cells 0 to 15 is left running at place 10. */
+static void wrong_order(cetomuhi_machine *m) {
+    refuse(m, cetomuhi_sweep(0, 1), CETOMUHI_REFUSED_REVOCATION_ORDER);
+    refuse(m, cetomuhi_collect(0), CETOMUHI_REFUSED_REVOCATION_ORDER);
+    grant(m, cetomuhi_split(0, 16, 15));
+    refuse(m, cetomuhi_revoke(0, 16), CETOMUHI_REFUSED_NOT_WHOLE_PAGES);
+    grant(m, cetomuhi_revoke(0, 0));
+    refuse(m, cetomuhi_revoke(0, 0), CETOMUHI_REFUSED_WRONG_RESERVATION);
+    refuse(m, cetomuhi_map(0, 0, 1), CETOMUHI_REFUSED_WRONG_PAGE);
+    expect(m, cetomuhi_sweep(0, 10), 0, 38);
+    refuse(m, cetomuhi_collect(0), CETOMUHI_REFUSED_REVOCATION_ORDER);
+}
+
+static void fill_table(void) {
+    static cetomuhi_machine m;
+    CHECK(cetomuhi_machine_start(&m, 256, 128) == 0);
+    for (uint64_t base = 0; base < CETOMUHI_ROWS - 1; base++)
+        grant(&m, cetomuhi_split(0, base, 1));
+    CHECK(cetomuhi_row_count(&m.state) == CETOMUHI_ROWS);
+    refuse(&m, cetomuhi_split(0, CETOMUHI_ROWS - 1, 1), CETOMUHI_REFUSED_TABLE_FULL);
+}
+
+static void test_refusals_and_showing(void) {
+    static cetomuhi_machine m;
+    CHECK(cetomuhi_machine_start(&m, 4, 3) == 0);
+    spoil(&m);
+    lend_nothing(&m);
+    wrong_caller(&m);
+    wrong_reservation(&m);
+    wrong_page(&m);
+    wrong_word(&m);
+    wrong_order(&m);
+    fill_table();
+    for (size_t code = 0; code < COUNT(seen); code++)
+        CHECK(seen[code]);
+    const cetomuhi_reservation row = cetomuhi_reservation_at(&m.state, 0);
+    const cetomuhi_capability sent = cetomuhi_capability_of(cetomuhi_mailbox_at(&m.state, 2).cell);
+    const cetomuhi_revocation running = cetomuhi_revocation_of(&m.state);
+    CHECK(row.base == 0 && row.length == 16 && row.state == CETOMUHI_REVOKING && row.holder == 0);
+    CHECK(cetomuhi_reservation_at(&m.state, 1).base == 16);
+    CHECK(cetomuhi_reservation_at(&m.state, 64).length == 0);
+    CHECK(running.base == 0 && running.length == 16 && running.place == 10);
+    CHECK(sent.base == 0 && sent.length == 16 && sent.permissions == CETOMUHI_MAY_LOAD);
+    CHECK(cetomuhi_mailbox_at(&m.state, 2).tag == 1 && cetomuhi_mailbox_at(&m.state, 8).tag == 0);
+    CHECK(cetomuhi_page_at(&m.state, 0).state == CETOMUHI_PAGE_FREED);
+    CHECK(cetomuhi_page_at(&m.state, 256).state == CETOMUHI_PAGE_UNMAPPED);
+    CHECK(cetomuhi_frame_at(&m.state, 0) == CETOMUHI_FRAME_DIRTY);
+    grant(&m, cetomuhi_zero(0, 2));
+    grant(&m, cetomuhi_map(0, 3, 2));
+    CHECK(cetomuhi_page_at(&m.state, 3).frame == 2 && cetomuhi_frame_at(&m.state, 2) == 2);
+}
+
+/* Every code, kind and state has words of its own. */
+static void test_words(void) {
+    for (uint64_t code = 0; code < 20; code++)
+        for (uint64_t other = code + 1; other < 21; other++)
+            CHECK(strcmp(cetomuhi_refusal_words(code), cetomuhi_refusal_words(other)) != 0);
+    CHECK(strcmp(cetomuhi_kind_word(CETOMUHI_TAKE), "take") == 0);
+    CHECK(strcmp(cetomuhi_kind_word(CETOMUHI_RECEIVE), "receive") == 0);
+    CHECK(strcmp(cetomuhi_kind_word(UINT64_MAX), cetomuhi_kind_word(0)) == 0);
+    CHECK(strcmp(cetomuhi_reservation_word(CETOMUHI_REVOKING), "Revoking") == 0);
+    CHECK(strcmp(cetomuhi_page_word(CETOMUHI_PAGE_FREED), "Freed") == 0);
+    CHECK(strcmp(cetomuhi_frame_word(CETOMUHI_FRAME_DIRTY), "Dirty") == 0);
+}
+
+/* ---- A run equals single commands ---- */
+
+enum { CALLS = 300, BYTES = CALLS * CETOMUHI_COMMAND_BYTES };
+
+static uint64_t seed = UINT64_C(0x9E3779B97F4A7C15);
+
+static uint64_t below(uint64_t limit) {
+    seed ^= seed << 13;
+    seed ^= seed >> 7;
+    seed ^= seed << 17;
+    return (seed >> 11) % limit;
+}
+
+/* A call that is often granted on the state: it names a reservation by its base and holder. */
+static cetomuhi_call random_call(const cetomuhi_state *state) {
+    const uint64_t kind = below(40) ? 1 + below(16) : below(20);
+    const cetomuhi_reservation row =
+        cetomuhi_reservation_at(state, below(cetomuhi_row_count(state)));
+    const bool named = kind <= CETOMUHI_REVOKE && below(8);
+    const bool manager = kind >= CETOMUHI_REVOKE && kind <= CETOMUHI_ZERO && below(20);
+    const uint64_t other = below(below(30) ? 3 : 9);
+    const uint64_t party = manager ? 0 : named ? row.holder : other;
+    const uint64_t base = named ? row.base : below(100);
+    const uint64_t first = below(30) ? below(3) : below(9);
+    const uint64_t second = below(30) ? below(3) : below(9);
+    const uint64_t off = below(20);
+    const uint64_t len = below(3) ? 16 : below(40);
+    switch (kind) {
+    case CETOMUHI_TAKE:
+    case CETOMUHI_GIVE:
+        return cetomuhi_call_of(kind, party, base, first, 0);
+    case CETOMUHI_SPLIT:
+        return cetomuhi_split(party, base, len);
+    case CETOMUHI_MERGE:
+    case CETOMUHI_REVOKE:
+        return cetomuhi_call_of(kind, party, base, 0, 0);
+    case CETOMUHI_SWEEP:
+        return cetomuhi_sweep(party, len);
+    case CETOMUHI_COLLECT:
+        return cetomuhi_collect(party);
+    case CETOMUHI_LOAD:
+    case CETOMUHI_STORE:
+        return cetomuhi_call_of(kind, party, first, off, second);
+    case CETOMUHI_NARROW:
+        return cetomuhi_narrow(party, first, off / 4, len / 2, base ? 15 : off, second);
+    case CETOMUHI_NUMBER:
+        return cetomuhi_number(party, first, seed);
+    case CETOMUHI_MAP:
+    case CETOMUHI_GRANT:
+        return cetomuhi_call_of(kind, party, first, second, 0);
+    default:
+        return cetomuhi_call_of(kind, party, first, 0, 0);
+    }
+}
+
+/* Commands in a row, now and then with a byte that is another, or cut short. */
+static size_t random_input(const cetomuhi_machine *fresh, uint8_t *bytes) {
+    static cetomuhi_machine guide;
+    size_t length = 0;
+    guide = *fresh;
+    for (size_t i = 0; i < CALLS; i++) {
+        const cetomuhi_call call = random_call(&guide.state);
+        cetomuhi_machine_call(&guide, call);
+        length += cetomuhi_call_write(call, bytes + length, BYTES - length);
+    }
+    if (below(4) == 0) {
+        const size_t place = below(length);
+        bytes[place] = (uint8_t)below(256);
+    }
+    return length - below(3);
+}
+
+/* The run's answers one by one on the other machine; whether the last one ends a session. */
+static bool follow(cetomuhi_machine *single, const uint8_t *bytes, size_t length, size_t *at,
+                   const cetomuhi_answer *answers, size_t done) {
+    bool ended = false;
+    for (size_t i = 0; i < done; i++) {
+        const cetomuhi_answer answer = cetomuhi_machine_command(single, bytes, length, *at);
+        CHECK(!ended);
+        CHECK(memcmp(&answer, &answers[i], sizeof answer) == 0);
+        ended = answer.code >= 1 && answer.code <= 3;
+        CHECK(ended == (answer.used == 0));
+        *at += answer.used;
+    }
+    return ended;
+}
+
+static void random_history(size_t room) {
+    static cetomuhi_machine run;
+    static cetomuhi_machine single;
+    static uint8_t bytes[BYTES];
+    cetomuhi_answer answers[CALLS];
+    size_t at = 0;
+    size_t place = 0;
+    bool ended = false;
+    const uint64_t pages = 1 + below(4);
+    const uint64_t frames = 1 + below(4);
+    CHECK(cetomuhi_machine_start(&run, pages, frames) == 0);
+    single = run;
+    const size_t length = random_input(&run, bytes);
+    while (!ended && at < length) {
+        const size_t done = cetomuhi_machine_commands(&run, bytes, length, &at, answers, room);
+        ended = follow(&single, bytes, length, &place, answers, done);
+        CHECK(at == place);
+        CHECK(memcmp(&run, &single, sizeof run) == 0);
+        CHECK(ended || done == room || at == length);
+        if (done == 0)
+            break;
+    }
+    CHECK(cetomuhi_machine_well_formed(&run));
+}
+
+int main(int count, char **words) {
+    const size_t rooms[] = {1, 2, 7, 16, CALLS};
+    const long rounds = count > 1 ? atol(words[1]) : 200;
+    test_session();
+    test_refusals_and_showing();
+    test_words();
+    for (long i = 0; i < rounds; i++)
+        random_history(rooms[(size_t)i % COUNT(rooms)]);
+    return end("histories");
+}

@@ -1,0 +1,245 @@
+/* Runs a session over the library and prints its lines with the machine's state in tables.
+ *
+ *     show_state each <BYTES    after each line the state, or 'as before'
+ *     show_state end <BYTES     the state once, after the last line
+ *
+ * The bytes are those that the program `desk` reads. Its lines begin with a digit, those of a table
+ * with blanks. */
+#include <inttypes.h>
+#include <stdbool.h>
+#include <stdio.h>
+#include <string.h>
+
+#include "cetomuhi.h"
+
+#define INPUT 32768 /* the bytes of its input that a session looks at */
+#define START 3     /* the bytes of V and F */
+#define THING 20    /* columns for what a row is about */
+
+/* ---- Rows: a table's word in its first row, what the row is about, what is said of it ---- */
+
+static void row(const char **word)
+{
+    printf("    %-14s", *word);
+    *word = "";
+}
+
+static void fill(int used)
+{
+    printf("%*s", used < THING ? THING - used : 1, "");
+}
+
+static int range(size_t first, size_t last)
+{
+    return first == last ? printf("%zu", first) : printf("%zu to %zu", first, last);
+}
+
+static int named_range(const char *name, size_t first, size_t last)
+{
+    const int used = printf(first == last ? "%s " : "%ss ", name);
+    return used + range(first, last);
+}
+
+static int cells(size_t base, size_t length)
+{
+    return named_range("cell", base, base + length - 1);
+}
+
+/* ---- The tables ---- */
+
+static void show_reservations(const cetomuhi_state *state)
+{
+    const char *word = "reservations";
+    for (size_t index = 0; index < cetomuhi_row_count(state); index++) {
+        const cetomuhi_reservation it = cetomuhi_reservation_at(state, index);
+        row(&word);
+        fill(cells(it.base, it.length));
+        printf("%s", cetomuhi_reservation_word(it.state));
+        if (it.state == CETOMUHI_OPEN)
+            printf(", held by party %u", it.holder);
+        putchar('\n');
+    }
+}
+
+static void show_revocation(const cetomuhi_state *state)
+{
+    const char *word = "revocation";
+    const cetomuhi_revocation it = cetomuhi_revocation_of(state);
+    if (it.length == 0)
+        return;
+    row(&word);
+    fill(cells(it.base, it.length));
+    printf("sweep place %u of %zu\n", it.place, CETOMUHI_PAGE_CELLS * cetomuhi_frame_count(state));
+}
+
+/* Whether a page is like the one below it: in the same state, and Mapped to the next frame. */
+static bool page_goes_on(const cetomuhi_state *state, size_t page)
+{
+    const cetomuhi_page below = cetomuhi_page_at(state, page - 1);
+    const cetomuhi_page it = cetomuhi_page_at(state, page);
+    return it.state == below.state &&
+           (it.state != CETOMUHI_PAGE_MAPPED || it.frame == below.frame + 1);
+}
+
+static void show_pages(const cetomuhi_state *state)
+{
+    const char *word = "pages";
+    const size_t count = cetomuhi_page_count(state);
+    for (size_t first = 0, next = 1; first < count; first = next++) {
+        const cetomuhi_page it = cetomuhi_page_at(state, first);
+        while (next < count && page_goes_on(state, next))
+            next++;
+        row(&word);
+        fill(range(first, next - 1));
+        printf("%s", cetomuhi_page_word(it.state));
+        if (it.state == CETOMUHI_PAGE_MAPPED) {
+            printf(" to ");
+            named_range("frame", it.frame, it.frame + (next - 1 - first));
+        }
+        putchar('\n');
+    }
+}
+
+static void show_frames(const cetomuhi_state *state)
+{
+    const char *word = "frames";
+    const size_t count = cetomuhi_frame_count(state);
+    for (size_t first = 0, next = 1; first < count; first = next++) {
+        const uint8_t it = cetomuhi_frame_at(state, first);
+        while (next < count && cetomuhi_frame_at(state, next) == it)
+            next++;
+        row(&word);
+        fill(range(first, next - 1));
+        printf("%s\n", cetomuhi_frame_word(it));
+    }
+}
+
+/* A capability by its parts, or a number. */
+static void show_word(cetomuhi_word word)
+{
+    static const char *const permissions[] = {"load", "store", "load capability",
+                                              "store capability"};
+    const cetomuhi_capability it = cetomuhi_capability_of(word.cell);
+    if (word.tag == 0) {
+        printf("number %" PRIu64 ", tag 0\n", word.cell);
+        return;
+    }
+    printf("base %u, length %u, ", it.base, it.length);
+    if (it.permissions == 0)
+        printf("no permission, ");
+    for (unsigned bit = 0; bit < 4; bit++)
+        if (it.permissions >> bit & 1)
+            printf("%s, ", permissions[bit]);
+    printf("tag 1\n");
+}
+
+static void show_registers(const cetomuhi_state *state)
+{
+    const char *word = "registers";
+    for (size_t party = 0; party < CETOMUHI_PARTIES; party++)
+        for (size_t d = 0; d < CETOMUHI_REGISTERS; d++) {
+            const cetomuhi_word it = cetomuhi_register_at(state, party, d);
+            if (it.cell == 0 && it.tag == 0)
+                continue;
+            row(&word);
+            fill(printf("party %zu register %zu", party, d));
+            show_word(it);
+        }
+}
+
+static void show_mailboxes(const cetomuhi_state *state)
+{
+    const char *word = "mailboxes";
+    for (size_t party = 0; party < CETOMUHI_PARTIES; party++) {
+        const cetomuhi_word it = cetomuhi_mailbox_at(state, party);
+        if (it.tag == 0)
+            continue;
+        row(&word);
+        fill(printf("party %zu", party));
+        show_word(it);
+    }
+}
+
+static void show_state(const cetomuhi_state *state)
+{
+    if (cetomuhi_page_count(state) == 0)
+        printf("    all zero\n");
+    show_reservations(state);
+    show_revocation(state);
+    show_pages(state);
+    show_frames(state);
+    show_registers(state);
+    show_mailboxes(state);
+}
+
+/* ---- The session ---- */
+
+static void show_answer(cetomuhi_answer answer)
+{
+    printf("%" PRIu64 " %" PRIu64 " %" PRIu64 "\n", answer.code, answer.number, answer.tag);
+}
+
+/* A start by the first bytes; V 0, which is refused, if they are cut short. */
+static cetomuhi_answer start(cetomuhi_machine *machine, const uint8_t *input, size_t length)
+{
+    const unsigned v = length < START ? 0 : (unsigned)input[0] << 8 | input[1];
+    const unsigned f = length < START ? 0 : input[2];
+    const cetomuhi_answer answer = {cetomuhi_machine_start(machine, v, f), 0, 0, START};
+    return answer;
+}
+
+static bool goes_on(cetomuhi_answer answer)
+{
+    return answer.code == CETOMUHI_GRANTED || answer.code > CETOMUHI_REFUSED_NO_COMMAND;
+}
+
+static void run(const uint8_t *input, size_t length, bool each)
+{
+    static cetomuhi_machine machine;
+    cetomuhi_state before;
+    cetomuhi_answer answer = start(&machine, input, length);
+    size_t at = START;
+    show_answer(answer);
+    if (each)
+        show_state(&machine.state);
+    while (goes_on(answer) && at < length) {
+        before = machine.state;
+        answer = cetomuhi_machine_command(&machine, input, length, at);
+        at += (size_t)answer.used;
+        if (each)
+            putchar('\n');
+        show_answer(answer);
+        if (each && memcmp(&before, &machine.state, sizeof before) == 0)
+            printf("    as before\n");
+        else if (each)
+            show_state(&machine.state);
+    }
+    if (!each) {
+        putchar('\n');
+        show_state(&machine.state);
+    }
+}
+
+static int fail(const char *words)
+{
+    fprintf(stderr, "desk: %s\n", words);
+    return 1;
+}
+
+int main(int argc, char **argv)
+{
+    static uint8_t input[INPUT];
+    const bool each = argc == 2 && strcmp(argv[1], "each") == 0;
+    const bool end = argc == 2 && strcmp(argv[1], "end") == 0;
+    if (!each && !end)
+        return fail("show_state each|end <BYTES");
+    if (!cetomuhi_matches())
+        return fail("the library is not the one that include/cetomuhi.h describes");
+    const size_t length = fread(input, 1, sizeof input, stdin);
+    if (ferror(stdin))
+        return fail("standard input could not be read");
+    run(input, length, each);
+    if (fflush(stdout) != 0 || ferror(stdout))
+        return fail("standard output could not be written");
+    return 0;
+}
