@@ -33,7 +33,7 @@ use Rattle.histories.specs.Lending.{lentRange, Ended, EndedBetween}
 use Rattle.histories.proofs.Table.{Around, Carried, inside-wider, collect-kept}
 use Rattle.histories.proofs.Carrying.{take-kept, split-kept, merge-kept, give-kept, revoke-kept}
 use Rattle.histories.proofs.Granted.{Went, went, went-or-not, went-next, went-core}
-use Rattle.histories.proofs.Calls.{Ends, row-first}
+use Rattle.histories.proofs.Findings.{Ends, row-first}
 use Rattle.histories.proofs.Lending.{Lends, lends}
 use Rattle.histories.proofs.Survivors.{collect-core, collect-ends}
 

@@ -45,7 +45,7 @@ use Rattle.histories.specs.Runs.{Machine, Granted, next, run}
 use Rattle.histories.specs.Inv.{rowAt}
 use Rattle.histories.specs.Cleaning.{CleanedBetween}
 use Rattle.histories.proofs.Granted.{Went, went, went-or-not, went-next, went-core}
-use Rattle.histories.proofs.Calls.{Ends}
+use Rattle.histories.proofs.Findings.{Ends}
 use Rattle.histories.proofs.Layer.{map-done, unmap-done}
 use Rattle.histories.proofs.Between.{IsCollect, Ending, run-until}
 use Rattle.histories.proofs.Survivors.{collect-core, collect-ends}

@@ -20,7 +20,7 @@ use Rattle.histories.specs.Inv.{Inv, rowAt}
 use Rattle.histories.specs.Lending.{namedRange}
 use Rattle.histories.specs.Survivors.{Untaken, NoSurvivorUntilTaken}
 use Rattle.histories.proofs.Granted.{Went, went-core}
-use Rattle.histories.proofs.Calls.{less-of}
+use Rattle.histories.proofs.Findings.{less-of}
 use Rattle.histories.proofs.Always.{inv-reached, inv-step}
 use Rattle.histories.proofs.Origins.{All, Narrows, step-came}
 use Rattle.histories.proofs.Lending.{lends, named-range, take-number}

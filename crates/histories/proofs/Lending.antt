@@ -33,7 +33,7 @@ use Rattle.histories.specs.Live.{Spot, register, mailbox, virtual, wordI
 use Rattle.histories.specs.Inv.{Inv, rowAt}
 use Rattle.histories.specs.Lending.{lentRange, namedRange, LentOnce, LentBy, LentByCapability}
 use Rattle.histories.proofs.Granted.{Went, went, went-next, went-core}
-use Rattle.histories.proofs.Calls.{take-length}
+use Rattle.histories.proofs.Findings.{take-length}
 use Rattle.histories.proofs.Always.{inv-reached}
 use Rattle.histories.proofs.Confining.{none-into-open}
 

@@ -4,6 +4,7 @@ pub mod Carrying
 pub mod Keep
 pub mod Granted
 pub mod Layer
+pub mod Findings
 pub mod Calls
 pub mod Origins
 pub mod Always

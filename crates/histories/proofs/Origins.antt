@@ -47,7 +47,7 @@ use Rattle.histories.proofs.View.{put-each, shown-by, shown-at, seen, w
 use Rattle.histories.proofs.Keep.{Blank, frame-lookup, place-below, write-word, clear-word, sweep-word}
 use Rattle.histories.proofs.Granted.{Went, handed, went-or-not, went-next, went-core, went-cells, went-tags}
 use Rattle.histories.proofs.Layer.{map-done, map-view, unmap-done, unmap-view, freed-shows, released-shows}
-use Rattle.histories.proofs.Calls.{ends, found, revoke-parts, not-none}
+use Rattle.histories.proofs.Findings.{ends, found, revoke-parts, not-none}
 
 -- A word, if it is a capability, has a property.
 abbrev pub Tagged : (ℕ → Type 0) → Slot → Type 0

@@ -45,7 +45,7 @@ use Rattle.histories.specs.Inv.{rowAt}
 use Rattle.histories.specs.Forming.{Standing}
 use Rattle.histories.specs.Restoring.{ending, finishing, revoking, Restored}
 use Rattle.histories.proofs.Granted.{went, went-next}
-use Rattle.histories.proofs.Calls.{Ends}
+use Rattle.histories.proofs.Findings.{Ends}
 use Rattle.histories.proofs.Survivors.{collect-core, collect-ends}
 use Rattle.histories.proofs.Forming.{standing-core, standing-facts, standing-code, standing-next}
 use Rattle.histories.proofs.Leading.{Leads, leads-none, leads-more, leads-to}

@@ -3,30 +3,16 @@ use Prim.Native.Nat.{ℕ}
 use mathlib.Core.List.{List, [], _∷_, map}
 use mathlib.Core.Path.{_≡_, refl}
 use lib.ListN.{replicate}
-use Rattle.capabilities.specs.Lists.{each, mapEach}
-use Rattle.capabilities.specs.Range.{inside}
-use Rattle.capabilities.specs.Refusals.{first}
 use Rattle.pages.specs.declared.PageState.{PageState}
 use Rattle.pages.specs.declared.PageState.the-variants.{Unmapped}
-use Rattle.pages.specs.Freed.{freedIn, allFreed}
-use Rattle.pages.specs.Layer.{pageAt, frameAt, withPage, withFrame, freshOf, mappings, pageSound, frameSound, wellFormed as pages-wellFormed}
-use Rattle.pages.specs.Mapping.{mapReasons, mapped, mapOf, unmapReasons, soiled, unmapped, unmapOf, dirtyReasons, cleared, lookupOf, notMappedIn, anyMapped, freedEntry, freedOf, releasedEntry, releasedOf}
-use Rattle.sweep.specs.Sweep.{passed, sweptTag, sweptTags}
+use Rattle.pages.specs.Layer.{pageAt}
 use Rattle.table.specs.declared.Reservation.{Reservation}
 use Rattle.table.specs.declared.ReservationState.the-variants.{Open}
-use Rattle.table.specs.Find.{seek, findOf, nextOf, revokingOf, rowOf, withRow}
-use Rattle.table.specs.Operations.{openReasons, takeReasons, takeOf, splitReasonsAt, splitReasons, splitAt, splitOf, mergeable, mergeReasonsAt, mergeReasons, mergeAt, mergeOf, giveReasons, giveOf}
-use Rattle.table.specs.Rows.{live, splice, spread, gather, reservation}
-use Rattle.table.specs.Tiling.{tiles, allBlank, revokings, sized, tableSound, freshTable}
-use Rattle.reservations.specs.Revocation.{freshCore, running, revoked, dying, revokeReasonsAt, revokeReasons, revokeAt, revokeOf, collectReasons, collected, collectOf, revocationSound, coreSound}
+use Rattle.table.specs.Rows.{live, reservation}
 use Rattle.calls.specs.declared.Call.the-variants.{Take, Split, Merge, Give, Revoke, Sweep, Collect, Map, Unmap, Zero, Store}
 use Rattle.calls.specs.Commands.{page, frame}
-use Rattle.words.specs.Words.{registerOf, mailboxOf, wordAt}
 use Rattle.machine.specs.State.{Answered}
-use Rattle.machine.specs.Effects.{effect}
-use Rattle.machine.specs.Formed.{mailboxesSound, wellFormed, fresh, startOf}
-use Rattle.machine.specs.Reasons.{addressed, reasons}
-use Rattle.machine.specs.Step.{registersAfter, mailboxesAfter, cellsAfter, tagsAfter, wordAfter, done, ruled, judged, stepOf}
+use Rattle.machine.proofs.Computing.{computing}
 use Rattle.histories.specs.Runs.{Machine, outcome, next, run, answers, begun}
 use Rattle.histories.specs.Restoring.{eachBelow, ending, finishing, taking, merging, unmapping, revoking, _andThen_, restoring}
 use Rattle.histories.proofs.Examples.{start}
@@ -50,7 +36,7 @@ pub lists :
     ∷ (Take 0 25 0 ∷ Take 0 5 0 ∷ Merge 0 0 ∷ Merge 0 0 ∷ Unmap 0 (page 1) ∷ Revoke 0 0 ∷ Sweep 0 16 ∷ Collect 0 ∷ [])
     ∷ (Sweep 0 16 ∷ Collect 0 ∷ Take 5 23 0 ∷ Take 0 0 0 ∷ Merge 0 0 ∷ Merge 0 0 ∷ Revoke 0 0 ∷ Sweep 0 16 ∷ Collect 0 ∷ [])
     ∷ []
-unfolding swept cut shared start eachBelow ending finishing taking merging unmapping revoking _andThen_ restoring outcome next run answers begun effect mailboxesSound wellFormed fresh startOf addressed reasons registersAfter mailboxesAfter cellsAfter tagsAfter wordAfter done ruled judged stepOf registerOf mailboxOf wordAt seek findOf nextOf revokingOf rowOf withRow openReasons takeReasons takeOf splitReasonsAt splitReasons splitAt splitOf mergeable mergeReasonsAt mergeReasons mergeAt mergeOf giveReasons giveOf freshCore running revoked dying revokeReasonsAt revokeReasons revokeAt revokeOf collectReasons collected collectOf revocationSound coreSound live splice spread gather tiles allBlank revokings sized tableSound freshTable freedIn allFreed pageAt frameAt withPage withFrame freshOf mappings pageSound frameSound pages-wellFormed each mapEach mapReasons mapped mapOf unmapReasons soiled unmapped unmapOf dirtyReasons cleared lookupOf notMappedIn anyMapped freedEntry freedOf releasedEntry releasedOf inside first passed sweptTag sweptTags
+unfolding swept cut shared start eachBelow ending finishing taking merging unmapping revoking _andThen_ restoring outcome next run answers begun computing
 lists = refl
 
 -- Their answers' codes, the reservations that they leave, and the two pages.
@@ -63,5 +49,5 @@ pub back :
     ∷ (replicate 8 0, reservation 0 32 Open 0 ∷ [], Unmapped, Unmapped)
     ∷ (replicate 9 0, reservation 0 32 Open 0 ∷ [], Unmapped, Unmapped)
     ∷ []
-unfolding told swept cut shared start eachBelow ending finishing taking merging unmapping revoking _andThen_ restoring outcome next run answers begun effect mailboxesSound wellFormed fresh startOf addressed reasons registersAfter mailboxesAfter cellsAfter tagsAfter wordAfter done ruled judged stepOf registerOf mailboxOf wordAt seek findOf nextOf revokingOf rowOf withRow openReasons takeReasons takeOf splitReasonsAt splitReasons splitAt splitOf mergeable mergeReasonsAt mergeReasons mergeAt mergeOf giveReasons giveOf freshCore running revoked dying revokeReasonsAt revokeReasons revokeAt revokeOf collectReasons collected collectOf revocationSound coreSound live splice spread gather tiles allBlank revokings sized tableSound freshTable freedIn allFreed pageAt frameAt withPage withFrame freshOf mappings pageSound frameSound pages-wellFormed each mapEach mapReasons mapped mapOf unmapReasons soiled unmapped unmapOf dirtyReasons cleared lookupOf notMappedIn anyMapped freedEntry freedOf releasedEntry releasedOf inside first passed sweptTag sweptTags
+unfolding told swept cut shared start eachBelow ending finishing taking merging unmapping revoking _andThen_ restoring outcome next run answers begun computing
 back = refl

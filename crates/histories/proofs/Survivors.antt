@@ -17,7 +17,7 @@ use Rattle.histories.specs.Live.{NoneInto}
 use Rattle.histories.specs.Survivors.{NoSurvivor}
 use Rattle.histories.proofs.Table.{collect-open}
 use Rattle.histories.proofs.Granted.{Went, went, went-next, went-core}
-use Rattle.histories.proofs.Calls.{Ends, ends}
+use Rattle.histories.proofs.Findings.{Ends, ends}
 use Rattle.histories.proofs.Always.{inv-reached, inv-step}
 use Rattle.histories.proofs.Confining.{none-into-open}
 

@@ -34,7 +34,7 @@ use Rattle.histories.specs.Inv.{rowAt, Confined, Inv}
 use Rattle.histories.specs.Inv.{Sound as Bounded}
 use Rattle.histories.specs.Runs.{Machine, outcome, next, run, begun}
 use Rattle.histories.proofs.Always.{inv-step, inv-run, inv-begun}
-use Rattle.histories.proofs.Calls.{row-first}
+use Rattle.histories.proofs.Findings.{row-first}
 use Rattle.histories.proofs.View.{shown-at}
 use Rattle.privacy.specs.Rule.{housed, granted, Time, lasting, takenRange, timeAfter, into, told, heard}
 use Rattle.privacy.specs.Claim.{Privacy}

@@ -41,7 +41,7 @@ use Rattle.words.specs.WordReasons.{unnamed, notManager}
 use Rattle.machine.specs.Reasons.{Reads, reasons}
 use Rattle.machine.specs.Effects.{effect}
 use Rattle.histories.specs.Inv.{rowAt}
-use Rattle.histories.proofs.Calls.{Ends, ends}
+use Rattle.histories.proofs.Findings.{Ends, ends}
 use Rattle.histories.proofs.Table.{Around, Carried, take-carried, split-carried, merge-carried, give-carried, revoke-carried, collect-kept}
 use Rattle.privacy.specs.Rule.{contains, into, isCollect}
 use Rattle.privacy.proofs.House.{Apart, into-cell}
