@@ -19,17 +19,18 @@ use Rattle.reservations.specs.Revocation.{freshCore}
 use Rattle.calls.specs.declared.Call.{Call}
 use Rattle.words.specs.Words.{empty}
 use Rattle.machine.specs.Formed.{fresh, startOf}
+use Rattle.machine.proofs.Deeds.{deed}
 use Rattle.histories.specs.Runs.{Machine, next, run, begun, Reached}
 use Rattle.histories.specs.Inv.{Sound, Inv}
 use Rattle.histories.proofs.View.{seen, shown-by}
 use Rattle.histories.proofs.Keep.{none-sound}
 use Rattle.histories.proofs.Granted.{went-or-not, went-next, went-core, went-cells, went-tags}
-use Rattle.histories.proofs.Calls.{keep-call}
+use Rattle.histories.proofs.Calls.{keep-deed}
 
 -- A step keeps the invariant, granted or refused.
 pub inv-step : (m : Machine) (c : Call) → Inv m → Inv (next m c)
 inv-step m c i =
-    ⊎-elim (λ w. subst Inv (sym (went-next m c w)) (keep-call (m .state) (m .cells) (m .tags) i (went-core m c w) (went-cells m c w) (went-tags m c w) c (w .clear)))
+    ⊎-elim (λ w. subst Inv (sym (went-next m c w)) (keep-deed (m .state) (m .cells) (m .tags) i (went-core m c w) (went-cells m c w) (went-tags m c w) (deed (m .state) c (w .clear))))
     (λ n. subst Inv (sym (n .0)) i) (went-or-not m c)
 
 pub inv-run : (calls : List Call) (m : Machine) → Inv m → Inv (run m calls)

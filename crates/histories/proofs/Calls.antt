@@ -1,30 +1,29 @@
--- Each call's effect keeps the invariant. Assumes nothing.
-use Prim.Native.Nat.{ℕ, _+_, _*_, _%_, _<_}
+-- Whatever a granted call does keeps the invariant. Assumes nothing.
+use Prim.Native.Nat.{ℕ, _+_, _*_, _%_, _<_, _≤_}
 use native.Mathlib.Omega.{arith}
-use mathlib.Core.Bool.{Bool, true, false, not, _&&_, true≢false, false≢true, _||_}
+use mathlib.Core.Bool.{Bool, true, false, not, _&&_, true≢false, false≢true}
 use mathlib.Core.List.{List, [], _∷_, map}
 use mathlib.Core.Logic.{inl, inr, ⊎-elim}
 use mathlib.Core.Path.{_≡_, refl, sym, ap, subst, _∙_}
-use borrow.Author.Tests.{eqb-true, eqb-false, ltb-false, leb-false, not-true, not-false}
-use lib.Dec.{eqb, ltb}
-use lib.ListN.{length, getD, set, take}
-use Rattle.capabilities.specs.Capability.{baseOf, lengthOf, capability, narrowed, permits}
+use borrow.Author.Tests.{eqb-true, not-true}
+use lib.Dec.{eqb}
+use lib.ListN.{length, getD, set}
+use Rattle.capabilities.specs.Capability.{baseOf, lengthOf, capability, permits}
 use Rattle.capabilities.specs.Lists.{pick}
 use Rattle.capabilities.specs.Range.{inside}
 use Rattle.capabilities.specs.Refusals.{first}
-use Rattle.capabilities.proofs.Choice.{and-left, and-right, or-false}
-use Rattle.capabilities.proofs.Refusals.{first-clear}
+use Rattle.capabilities.proofs.Choice.{and-left, and-right}
 use Rattle.pages.specs.declared.Frame.{Frame}
 use Rattle.pages.specs.Pages.{Pages}
 use Rattle.pages.specs.declared.Place.{Place}
 use Rattle.pages.specs.declared.Place.the-variants.{At, Nowhere}
 use Rattle.pages.specs.declared.VirtualPage.{VirtualPage}
-use Rattle.pages.specs.Mapping.{lookupOf, freedOf, releasedOf, mapReasons, unmapReasons, dirtyReasons, mapped, unmapped, mapOf, unmapOf, noFrame}
-use Rattle.pages.specs.Entries.{isDirty}
-use Rattle.pages.specs.Layer.{frameAt}
+use Rattle.pages.specs.Mapping.{lookupOf, freedOf, releasedOf, mapReasons, unmapReasons, dirtyReasons, mapped, unmapped, mapOf, unmapOf}
+use Rattle.pages.specs.Layer.{withFrame}
+use Rattle.pages.specs.declared.FrameState.the-variants.{Free}
 use Rattle.pages.proofs.Formed.{Sound as Layered, sound as layered}
 use Rattle.pages.proofs.Kept.{mappable, unmappable}
-use Rattle.pages.proofs.States.{is-dirty}
+use Rattle.sweep.specs.Sweep.{cellsLeft}
 use Rattle.table.specs.Table.{Table}
 use Rattle.table.specs.Find.{findOf, rowOf}
 use Rattle.table.specs.Operations.{takeReasons, takeOf, takenRow, splitReasons, splitOf, lowerPart, upperPart, mergeReasons, mergeOf, joined, giveReasons, giveOf, givenRow}
@@ -40,17 +39,15 @@ use Rattle.reservations.specs.Core.{Core}
 use Rattle.reservations.specs.Revocation.{core, revoked, dying, revokeReasons, revokeOf, collectReasons, collectOf, coreSound}
 use Rattle.reservations.proofs.CoreAfter.{dying-inside}
 use Rattle.reservations.proofs.CoreKept.{CoreFacts, core-facts}
-use Rattle.calls.specs.declared.Call.{Call}
-use Rattle.calls.specs.declared.Call.the-variants.{Take, Split, Merge, Give, Revoke, Sweep, Collect, Map, Unmap, Zero, Load, Store, Narrow, Number, Grant, Receive}
 use Rattle.words.specs.declared.Slot.{Slot}
-use Rattle.words.specs.Words.{slot, empty, named, registerOf, mailboxOf, keepTag, wordAt, stored, collectedRegister, collectedMailbox}
-use Rattle.words.specs.Words.{nowhere}
-use Rattle.words.specs.WordReasons.{unnamed, notManager, mayNotLoad, mayNotStore, pastEnd, badNarrow}
-use Rattle.words.specs.Words.{placeNumber}
+use Rattle.words.specs.Words.{slot, empty, registerOf, mailboxOf, keepTag, wordAt, stored, collectedRegister, collectedMailbox}
 use Rattle.machine.specs.State.{State}
-use Rattle.machine.specs.Reasons.{reasons, addressed}
-use Rattle.machine.specs.Effects.{effect, sweptTo}
-use Rattle.machine.specs.Step.{done, reasonsOn, effectOn, registersAfter, mailboxesAfter, cellsAfter, tagsAfter}
+use Rattle.machine.specs.Roles.{Sources, Asked}
+use Rattle.machine.specs.Effects.{keepRegisters, putRegister, fetchInto, keepMailboxes, putMailbox, keepMemory, writeWord, clearFrame, sweepCells, Effect, effectOf, withTable, withPages, sweptTo, taking}
+use Rattle.machine.specs.Step.{done, registersAfter, mailboxesAfter, cellsAfter, tagsAfter}
+use Rattle.machine.proofs.Deeds.{coreAlone, collecting, Recored, splits, merges, gives, revokes, maps, unmaps, Filling, narrows, numbers, aimedAt, Deed, took, recored, swept, collectedAll, zeroed, filled, loaded, wrote, granted, received}
+use Rattle.machine.proofs.Found.{Addressing}
+use Rattle.machine.proofs.PagesKept.{zero-clear}
 use Rattle.histories.specs.Runs.{Machine, machine}
 use Rattle.histories.specs.Inv.{rowAt, Confined, Sound, Memory, Inv}
 use Rattle.histories.proofs.View.{put-each, collected-registers, collected-mailboxes, seen}
@@ -59,7 +56,7 @@ use Rattle.histories.proofs.Carrying.{row-fits, split-kept, merge-kept,
 use Rattle.histories.proofs.Keep.{Blank, none-sound, carried-sound, place-sound, place-below, keep-table, keep-begun, keep-pages, keep-write, keep-clear, keep-sweep, collect-sound, keep-ended}
 use Rattle.histories.proofs.Granted.{handed}
 use Rattle.histories.proofs.Layer.{map-done, map-view, map-free, unmap-done, unmap-view, unmap-free, freed-shows, freed-free, released-shows, released-free, none-shown}
-use Rattle.histories.proofs.Findings.{Ends, ends, found, further, kept-sound, made-confined, mailbox-sound, narrowed-confined, not-none, register-sound, revoke-parts, row-first, short-of, take-length}
+use Rattle.histories.proofs.Findings.{Ends, ends, further, kept-sound, made-confined, mailbox-sound, narrowed-confined, register-sound, revoke-parts, row-first, short-of, take-length}
 
 module _ (s : State) (cells tags : List ℕ) (inv : Inv (machine s cells tags)) where
   abbrev c : Core
@@ -68,9 +65,9 @@ module _ (s : State) (cells tags : List ℕ) (inv : Inv (machine s cells tags)) 
   abbrev t : Table
   t = s .core .table
 
-  -- What a call leaves.
-  abbrev after : Call → Machine
-  after call = handed (done s (effectOn s call) cells tags)
+  -- What an effect leaves.
+  abbrev after : Effect → Machine
+  after e = handed (done s e cells tags)
 
   module _ (ok : coreSound (s .core) ≡ true) (of-cells : length cells ≡ 16 * s .core .pages .f) (of-tags : length tags ≡ 16 * s .core .pages .f) where
     abbrev facts : CoreFacts (s .core)
@@ -106,9 +103,9 @@ module _ (s : State) (cells tags : List ℕ) (inv : Inv (machine s cells tags)) 
     register-change p r w k = record { registers = put-each (Sound t) (s .registers) (8 * p + r) w k (inv .registers); mailboxes = inv .mailboxes; memory = inv .memory }
 
     -- 01 take.
-    take-change : (p base reg i : ℕ) (u : Table) (n : ℕ) → isOpen (rowAt t i .state) ≡ true → Replaced t u p base i 1 (takenRow (rowAt t i) ∷ []) → n ≡ rowAt t i .length
-        → Inv (machine (record { core = core (c .pages) u (c .place); registers = set (s .registers) (8 * p + reg) (slot (capability base n 15) true); mailboxes = s .mailboxes }) cells tags)
-    take-change p base reg i u n o r e =
+    take-change : (p base reg x i : ℕ) (u : Table) (n : ℕ) → x ≤ 15 → isOpen (rowAt t i .state) ≡ true → Replaced t u p base i 1 (takenRow (rowAt t i) ∷ []) → n ≡ rowAt t i .length
+        → Inv (machine (record { core = core (c .pages) u (c .place); registers = set (s .registers) (8 * p + reg) (slot (capability base n x) true); mailboxes = s .mailboxes }) cells tags)
+    take-change p base reg x i u n few o r e =
         let k = take-carried t u p base i o r in
         let h : i < length (live t) = omega (arith, r .within) in
         let d = dies-same c (core (c .pages) u (c .place)) (dyings-one t u i (takenRow (rowAt t i) ∷ []) h (r .now) (open-still (rowAt t i .state) o) (open-no-dying (takenRow (rowAt t i)) refl)) in
@@ -119,26 +116,24 @@ module _ (s : State) (cells tags : List ℕ) (inv : Inv (machine s cells tags)) 
         let some = row-long i h in
         let b : rowAt u i .base ≡ rowAt t i .base = ap (λ x. x .base) row in
         let l : rowAt u i .length ≡ rowAt t i .length = ap (λ x. x .length) row in
-        let made : Confined u (capability base n 15) =
-        made-confined u i base n 15 used (ap (λ x. isOpen (x .state)) row) (omega arith) (omega arith) (omega arith) (omega arith) (omega arith) (omega arith)
+        let made : Confined u (capability base n x) =
+        made-confined u i base n x used (ap (λ y. isOpen (y .state)) row) (omega arith) (omega arith) few (omega arith) (omega arith) (omega arith)
         in
-        record { registers = put-each (Sound u) (s .registers) (8 * p + reg) (slot (capability base n 15) true) (λ x. made) (j .registers); mailboxes = j .mailboxes; memory = j .memory }
+        record { registers = put-each (Sound u) (s .registers) (8 * p + reg) (slot (capability base n x) true) (λ y. made) (j .registers); mailboxes = j .mailboxes; memory = j .memory }
 
-    keep-take : (p base reg : ℕ) → first (reasonsOn s (Take p base reg)) ≡ 0 → Inv (after (Take p base reg))
-    unfolding reasons effect done registersAfter mailboxesAfter cellsAfter tagsAfter
-    keep-take p base reg z =
-        let clear = first-clear 4 (unnamed p || unnamed reg) (takeReasons t p base) (λ x. omega arith) z .1 in
-        let code : takeOf t p base .code ≡ 0 = unfold takeOf in clear in
+    keep-take : (p base reg x : ℕ) → x ≤ 15 → first (takeReasons t p base) ≡ 0 → Inv (after (taking c p base reg x))
+    unfolding done registersAfter mailboxesAfter cellsAfter tagsAfter
+    keep-take p base reg x few z =
+        let code : takeOf t p base .code ≡ 0 = unfold takeOf in z in
         let (i, o, r) = take-after size t (facts .rows) p base code in
-        take-change p base reg i (takeOf t p base .table) (takeOf t p base .length) o r
+        take-change p base reg x i (takeOf t p base .table) (takeOf t p base .length) few o r
         (take-length t p base code ∙ ap (λ f. rowOf t f .length) (r .found) ∙ ap (λ x. x .length) (row-live t i (omega (arith, r .within))))
 
     -- 02 split, 03 merge, 04 give.
-    keep-split : (p base len : ℕ) → first (reasonsOn s (Split p base len)) ≡ 0 → Inv (after (Split p base len))
-    unfolding reasons effect done registersAfter mailboxesAfter cellsAfter tagsAfter
+    keep-split : (p base len : ℕ) → first (splitReasons t p base len) ≡ 0 → Inv (after (coreAlone (withTable c (splitOf t p base len .table))))
+    unfolding done registersAfter mailboxesAfter cellsAfter tagsAfter
     keep-split p base len z =
-        let clear = first-clear 4 (unnamed p) (splitReasons t p base len) (λ x. omega arith) z .1 in
-        let code : splitOf t p base len .code ≡ 0 = unfold splitOf in clear in
+        let code : splitOf t p base len .code ≡ 0 = unfold splitOf in z in
         let u = splitOf t p base len .table in
         let (i, o, r) = split-after size t (facts .rows) p base len code in
         let h : i < length (live t) = omega (arith, r .within) in
@@ -146,11 +141,10 @@ module _ (s : State) (cells tags : List ℕ) (inv : Inv (machine s cells tags)) 
         (dies-same c (core (c .pages) u (c .place))
         (dyings-one t u i (lowerPart (rowAt t i) len ∷ upperPart (rowAt t i) len ∷ []) h (r .now) (open-still (rowAt t i .state) o) (unfold dyings in refl)))
 
-    keep-merge : (p base : ℕ) → first (reasonsOn s (Merge p base)) ≡ 0 → Inv (after (Merge p base))
-    unfolding reasons effect done registersAfter mailboxesAfter cellsAfter tagsAfter
+    keep-merge : (p base : ℕ) → first (mergeReasons t p base) ≡ 0 → Inv (after (coreAlone (withTable c (mergeOf t p base .table))))
+    unfolding done registersAfter mailboxesAfter cellsAfter tagsAfter
     keep-merge p base z =
-        let clear = first-clear 4 (unnamed p) (mergeReasons t p base) (λ x. omega arith) z .1 in
-        let code : mergeOf t p base .code ≡ 0 = unfold mergeOf in clear in
+        let code : mergeOf t p base .code ≡ 0 = unfold mergeOf in z in
         let u = mergeOf t p base .table in
         let (i, same, r) = merge-after size t (facts .rows) p base code in
         let h : i + 1 < length (live t) = omega (arith, r .within) in
@@ -159,11 +153,10 @@ module _ (s : State) (cells tags : List ℕ) (inv : Inv (machine s cells tags)) 
         (dies-same c (core (c .pages) u (c .place))
         (dyings-two t u i (joined (rowAt t i) (rowAt t (i + 1)) ∷ []) h (r .now) (still .0) (still .1) (open-no-dying (joined (rowAt t i) (rowAt t (i + 1))) (still .0))))
 
-    keep-give : (p base to : ℕ) → first (reasonsOn s (Give p base to)) ≡ 0 → Inv (after (Give p base to))
-    unfolding reasons effect done registersAfter mailboxesAfter cellsAfter tagsAfter
+    keep-give : (p base to : ℕ) → first (giveReasons t p base) ≡ 0 → Inv (after (coreAlone (withTable c (giveOf t p base to .table))))
+    unfolding done registersAfter mailboxesAfter cellsAfter tagsAfter
     keep-give p base to z =
-        let clear = first-clear 4 (unnamed p || unnamed to) (giveReasons t p base) (λ x. omega arith) z .1 in
-        let code : giveOf t p base to .code ≡ 0 = unfold giveOf in clear in
+        let code : giveOf t p base to .code ≡ 0 = unfold giveOf in z in
         let u = giveOf t p base to .table in
         let (i, o, r) = give-after size t (facts .rows) p base to code in
         let h : i < length (live t) = omega (arith, r .within) in
@@ -171,38 +164,28 @@ module _ (s : State) (cells tags : List ℕ) (inv : Inv (machine s cells tags)) 
         table-change u (give-kept c ok p base to code)
         (dies-same c (core (c .pages) u (c .place)) (dyings-one t u i (givenRow (rowAt t i) to ∷ []) h (r .now) still (open-no-dying (givenRow (rowAt t i) to) still)))
 
-    -- 0D narrow, 0E number, 0F grant, 10 receive.
-    keep-narrow : (p r off len mask d : ℕ) → first (reasonsOn s (Narrow p r off len mask d)) ≡ 0 → Inv (after (Narrow p r off len mask d))
-    unfolding reasons effect done registersAfter mailboxesAfter cellsAfter tagsAfter
-    keep-narrow p r off len mask d z =
-        let w = registerOf (s .registers) p r in
-        let one = first-clear 4 ((unnamed p || unnamed r) || unnamed d) _ (λ x. omega arith) z in
-        let two = first-clear 15 (not (w .tag)) _ (λ x. omega arith) (one .1) in
-        let three = first-clear 17 (pastEnd w off || badNarrow w off len) _ (λ x. omega arith) (two .1) .0 in
-        let fits = or-false (eqb len 0 || ltb (lengthOf (w .cell)) (off + len)) (ltb 65535 (baseOf (w .cell) + off)) (or-false (pastEnd w off) (badNarrow w off len) three .1) in
-        let size = or-false (eqb len 0) (ltb (lengthOf (w .cell)) (off + len)) (fits .0) in
-        register-change p d (slot (narrowed (w .cell) off len mask) true)
-        (λ x.
-        narrowed-confined t (w .cell) off len mask (register-sound t (s .registers) p r (inv .registers) (not-false (w .tag) (two .0)))
-        (not-none len (eqb-false len 0 (size .0)))
-        (ltb-false (lengthOf (w .cell)) (off + len) (size .1))
-        (ltb-false 65535 (baseOf (w .cell) + off) (fits .1)))
+    -- 0D narrow, 0E number.
+    filling-sound : (p : ℕ) {from : Sources} {w : Slot} → Filling s p from w → Sound t w
+    filling-sound p (narrows x off len mask g) =
+        λ e. narrowed-confined t (registerOf (s .registers) p x .cell) off len mask (register-sound t (s .registers) p x (inv .registers) (g .tagged)) (g .some) (g .ends) (g .starts)
+    filling-sound p (numbers value) = λ e. absurd (false≢true e)
 
-    keep-number : (p d value : ℕ) → Inv (after (Number p d value))
-    unfolding effect done registersAfter mailboxesAfter cellsAfter tagsAfter
-    keep-number p d value = register-change p d (slot value false) (λ x. absurd (false≢true x))
+    keep-filled : (p d : ℕ) (from : Sources) (w : Slot) → Filling s p from w → Inv (after (effectOf c (putRegister p d w) keepMailboxes keepMemory empty))
+    unfolding done registersAfter mailboxesAfter cellsAfter tagsAfter
+    keep-filled p d from w g = register-change p d w (filling-sound p g)
 
-    keep-grant : (p r to : ℕ) → Inv (after (Grant p r to))
-    unfolding effect done registersAfter mailboxesAfter cellsAfter tagsAfter
-    keep-grant p r to =
+    -- 0F grant, 10 receive.
+    keep-grant : (p x to : ℕ) → Inv (after (effectOf c keepRegisters (putMailbox to (registerOf (s .registers) p x)) keepMemory empty))
+    unfolding done registersAfter mailboxesAfter cellsAfter tagsAfter
+    keep-grant p x to =
         record {
           registers = inv .registers;
-          mailboxes = put-each (Sound t) (s .mailboxes) to (registerOf (s .registers) p r) (register-sound t (s .registers) p r (inv .registers)) (inv .mailboxes);
+          mailboxes = put-each (Sound t) (s .mailboxes) to (registerOf (s .registers) p x) (register-sound t (s .registers) p x (inv .registers)) (inv .mailboxes);
           memory = inv .memory;
         }
 
-    keep-receive : (p d : ℕ) → Inv (after (Receive p d))
-    unfolding effect done registersAfter mailboxesAfter cellsAfter tagsAfter
+    keep-receive : (p d : ℕ) → Inv (after (effectOf c (putRegister p d (mailboxOf (s .mailboxes) p)) (putMailbox p empty) keepMemory (mailboxOf (s .mailboxes) p)))
+    unfolding done registersAfter mailboxesAfter cellsAfter tagsAfter
     keep-receive p d =
         record {
           registers = put-each (Sound t) (s .registers) (8 * p + d) (mailboxOf (s .mailboxes) p) (mailbox-sound t (s .mailboxes) p (inv .mailboxes)) (inv .registers);
@@ -211,92 +194,70 @@ module _ (s : State) (cells tags : List ℕ) (inv : Inv (machine s cells tags)) 
         }
 
     -- 0B load.
-    keep-load : (p a off d : ℕ) → first (reasonsOn s (Load p a off d)) ≡ 0 → Inv (after (Load p a off d))
-    unfolding reasons effect done registersAfter mailboxesAfter cellsAfter tagsAfter
-    keep-load p a off d z =
+    keep-load : (p a off d : ℕ) → Addressing c (registerOf (s .registers) p a) off
+        → Inv (after (effectOf c (fetchInto p d (aimedAt s p a off) (permits (registerOf (s .registers) p a .cell) 4)) keepMailboxes keepMemory empty))
+    unfolding done registersAfter mailboxesAfter cellsAfter tagsAfter
+    keep-load p a off d g =
         let w = registerOf (s .registers) p a in
-        let one = first-clear 4 ((unnamed p || unnamed a) || unnamed d) _ (λ x. omega arith) z in
-        let two = first-clear 15 (not (w .tag)) _ (λ x. omega arith) (one .1) in
-        let three = first-clear 16 (mayNotLoad w) _ (λ x. omega arith) (two .1) in
-        let four = first-clear 17 (pastEnd w off) _ (λ x. omega arith) (three .1) in
-        let five = first-clear 18 (nowhere (addressed c w off)) _ (λ x. omega arith) (four .1) .0 in
-        register-change p d (keepTag (wordAt cells tags (placeNumber (addressed c w off))) (permits (w .cell) 4))
-        (kept-sound t (wordAt cells tags (placeNumber (addressed c w off))) (permits (w .cell) 4)
-        (place-sound c cells tags (inv .memory) (baseOf (w .cell) + off) (placeNumber (addressed c w off)) (found c w off five)))
+        register-change p d (keepTag (wordAt cells tags (aimedAt s p a off)) (permits (w .cell) 4))
+        (kept-sound t (wordAt cells tags (aimedAt s p a off)) (permits (w .cell) 4) (place-sound c cells tags (inv .memory) (baseOf (w .cell) + off) (aimedAt s p a off) (g .place)))
 
     -- 0C store.
-    keep-store : (p a off r : ℕ) → first (reasonsOn s (Store p a off r)) ≡ 0 → Inv (after (Store p a off r))
-    unfolding reasons effect done registersAfter mailboxesAfter cellsAfter tagsAfter
-    keep-store p a off r z =
+    keep-store : (p a off r : ℕ) → Addressing c (registerOf (s .registers) p a) off
+        → Inv (after (effectOf c keepRegisters keepMailboxes (writeWord (aimedAt s p a off) (stored c (registerOf (s .registers) p r))) empty))
+    unfolding done registersAfter mailboxesAfter cellsAfter tagsAfter
+    keep-store p a off r g =
         let w = registerOf (s .registers) p a in
         let x = registerOf (s .registers) p r in
-        let one = first-clear 4 ((unnamed p || unnamed a) || unnamed r) _ (λ x. omega arith) z in
-        let two = first-clear 15 (not (w .tag)) _ (λ x. omega arith) (one .1) in
-        let three = first-clear 16 (mayNotStore w x) _ (λ x. omega arith) (two .1) in
-        let four = first-clear 17 (pastEnd w off) _ (λ x. omega arith) (three .1) in
-        let five = first-clear 18 (nowhere (addressed c w off)) _ (λ x. omega arith) (four .1) .0 in
-        let k = register-sound t (s .registers) p a (inv .registers) (not-false (w .tag) (two .0)) in
         record {
           registers = inv .registers;
           mailboxes = inv .mailboxes;
           memory =
-              keep-write c cells tags (inv .memory) layer of-cells of-tags (baseOf (w .cell) + off) (placeNumber (addressed c w off)) (stored c x) (found c w off five)
+              keep-write c cells tags (inv .memory) layer of-cells of-tags (baseOf (w .cell) + off) (aimedAt s p a off) (stored c x) (g .place)
               (kept-sound t x (not (dying c (x .cell))) (register-sound t (s .registers) p r (inv .registers)))
               (λ e. not-true (dying c (x .cell)) (and-right (x .tag) (not (dying c (x .cell))) e))
-              (λ i b o h. lent-not-open k off (leb-false (lengthOf (w .cell)) off (four .0)) i b o h);
+              (λ i b o h. lent-not-open (register-sound t (s .registers) p a (inv .registers) (g .tagged)) off (g .short) i b o h);
         }
 
     -- 06 sweep.
-    keep-swept : (p n : ℕ) → Inv (after (Sweep p n))
-    unfolding effect done registersAfter mailboxesAfter cellsAfter tagsAfter
-    keep-swept p n = record { registers = inv .registers; mailboxes = inv .mailboxes; memory = keep-sweep c cells tags (inv .memory) layer of-cells of-tags (sweptTo c n) }
+    keep-swept : (n : ℕ) → Inv (after (effectOf (core (c .pages) t (sweptTo c n)) keepRegisters keepMailboxes (sweepCells (revoked c) (c .place) (sweptTo c n)) (slot (cellsLeft (c .pages) (sweptTo c n)) false)))
+    unfolding done registersAfter mailboxesAfter cellsAfter tagsAfter
+    keep-swept n = record { registers = inv .registers; mailboxes = inv .mailboxes; memory = keep-sweep c cells tags (inv .memory) layer of-cells of-tags (sweptTo c n) }
 
     -- 08 map, 09 unmap, 0A zero.
     page-change : (q : Pages) → Memory (core q t (c .place)) cells tags → Inv (machine (record { core = core q t (c .place); registers = s .registers; mailboxes = s .mailboxes }) cells tags)
     page-change q m = record { registers = inv .registers; mailboxes = inv .mailboxes; memory = m }
 
-    keep-map : (p : ℕ) (page : VirtualPage) (frame : Frame) → first (reasonsOn s (Map p page frame)) ≡ 0 → Inv (after (Map p page frame))
-    unfolding reasons effect done registersAfter mailboxesAfter cellsAfter tagsAfter
-    keep-map p page frame z =
-        let one = first-clear 4 (unnamed p) _ (λ x. omega arith) z in
-        let two = first-clear 5 (notManager p) (mapReasons (c .pages) page frame) (λ x. omega arith) (one .1) .1 in
-        let k = mappable (c .pages) page frame two in
+    keep-map : (page : VirtualPage) (frame : Frame) → first (mapReasons (c .pages) page frame) ≡ 0 → Inv (after (coreAlone (withPages c (mapOf (c .pages) page frame .pages))))
+    unfolding done registersAfter mailboxesAfter cellsAfter tagsAfter
+    keep-map page frame z =
+        let k = mappable (c .pages) page frame z in
         page-change (mapOf (c .pages) page frame .pages)
-        (subst (λ q. Memory (core q t (c .place)) cells tags) (sym (map-done (c .pages) page frame two))
+        (subst (λ q. Memory (core q t (c .place)) cells tags) (sym (map-done (c .pages) page frame z))
         (keep-pages c cells tags (inv .memory) (mapped (c .pages) page frame)
         (λ v at e. ⊎-elim inl (λ q. inr (subst (Blank cells tags) (sym (q .1)) (inv .memory .free (frame .0) (v % 16) (k .free-frame) (omega arith)))) (map-view (c .pages) layer page frame k v at e))
         (map-free (c .pages) layer page frame k)))
 
-    keep-unmap : (p : ℕ) (page : VirtualPage) → first (reasonsOn s (Unmap p page)) ≡ 0 → Inv (after (Unmap p page))
-    unfolding reasons effect done registersAfter mailboxesAfter cellsAfter tagsAfter
-    keep-unmap p page z =
-        let one = first-clear 4 (unnamed p) _ (λ x. omega arith) z in
-        let two = first-clear 5 (notManager p) (unmapReasons (c .pages) page) (λ x. omega arith) (one .1) .1 in
-        let k = unmappable (c .pages) page two in
+    keep-unmap : (page : VirtualPage) → first (unmapReasons (c .pages) page) ≡ 0 → Inv (after (coreAlone (withPages c (unmapOf (c .pages) page .pages))))
+    unfolding done registersAfter mailboxesAfter cellsAfter tagsAfter
+    keep-unmap page z =
+        let k = unmappable (c .pages) page z in
         page-change (unmapOf (c .pages) page .pages)
-        (subst (λ q. Memory (core q t (c .place)) cells tags) (sym (unmap-done (c .pages) page two))
+        (subst (λ q. Memory (core q t (c .place)) cells tags) (sym (unmap-done (c .pages) page z))
         (keep-pages c cells tags (inv .memory) (unmapped (c .pages) page) (λ v at e. inl (unmap-view (c .pages) layer page k v at e)) (unmap-free (c .pages) layer page k)))
 
-    keep-zero : (p : ℕ) (frame : Frame) → first (reasonsOn s (Zero p frame)) ≡ 0 → Inv (after (Zero p frame))
-    unfolding reasons effect done registersAfter mailboxesAfter cellsAfter tagsAfter dirtyReasons
-    keep-zero p frame z =
-        let one = first-clear 4 (unnamed p) _ (λ x. omega arith) z in
-        let two = first-clear 5 (notManager p) _ (λ x. omega arith) (one .1) in
-        let three = first-clear 12 (noFrame (c .pages) frame) _ (λ x. omega arith) (two .1) in
-        let four = first-clear 14 (not (isDirty (frameAt (c .pages) (frame .0)))) _ (λ x. omega arith) (three .1) .0 in
-        record {
-          registers = inv .registers;
-          mailboxes = inv .mailboxes;
-          memory = keep-clear c cells tags (inv .memory) layer of-cells of-tags frame (leb-false (c .pages .f) (frame .0) (three .0)) (is-dirty (frameAt (c .pages) (frame .0)) (not-false (isDirty (frameAt (c .pages) (frame .0))) four));
-        }
+    keep-zero : (frame : Frame) → first (dirtyReasons (c .pages) frame) ≡ 0
+        → Inv (after (effectOf (withPages c (withFrame (c .pages) (frame .0) Free)) keepRegisters keepMailboxes (clearFrame frame) empty))
+    unfolding done registersAfter mailboxesAfter cellsAfter tagsAfter
+    keep-zero frame z =
+        let (low, dirty) = zero-clear (c .pages) frame z in
+        record { registers = inv .registers; mailboxes = inv .mailboxes; memory = keep-clear c cells tags (inv .memory) layer of-cells of-tags frame low dirty }
 
     -- 05 revoke.
-    keep-revoke : (p base : ℕ) → first (reasonsOn s (Revoke p base)) ≡ 0 → Inv (after (Revoke p base))
-    unfolding reasons effect done registersAfter mailboxesAfter cellsAfter tagsAfter
+    keep-revoke : (p base : ℕ) → first (revokeReasons c p base) ≡ 0 → Inv (after (coreAlone (revokeOf c p base .core)))
+    unfolding done registersAfter mailboxesAfter cellsAfter tagsAfter
     keep-revoke p base z =
-        let one = first-clear 4 (unnamed p) _ (λ x. omega arith) z in
-        let clear = first-clear 5 (notManager p) (revokeReasons c p base) (λ x. omega arith) (one .1) .1 in
-        let code : revokeOf c p base .code ≡ 0 = unfold revokeOf in clear in
+        let code : revokeOf c p base .code ≡ 0 = unfold revokeOf in z in
         let u = revokeOf c p base .core .table in
         let range = rangeOf (rowOf t (findOf t p base)) in
         let k = revoke-kept c ok p base code in
@@ -355,29 +316,27 @@ module _ (s : State) (cells tags : List ℕ) (inv : Inv (machine s cells tags)) 
             absurd (let z : _≡_ {A = ℕ} 0 1 = let y : Nowhere ≡ At at = sym none ∙ old v at q in cc in omega arith)
 
     -- 07 collect.
-    keep-collect : (p : ℕ) → first (reasonsOn s (Collect p)) ≡ 0 → Inv (after (Collect p))
-    unfolding reasons effect done registersAfter mailboxesAfter cellsAfter tagsAfter
-    keep-collect p z =
-        let one = first-clear 4 (unnamed p) _ (λ x. omega arith) z in
-        let clear = first-clear 5 (notManager p) (collectReasons c) (λ x. omega arith) (one .1) .1 in
-        let code : collectOf c .code ≡ 0 = unfold collectOf in clear in
-        collect-change (ends c ok code)
+    keep-collect : first (collectReasons c) ≡ 0 → Inv (after (collecting c))
+    unfolding done registersAfter mailboxesAfter cellsAfter tagsAfter
+    keep-collect z = let code : collectOf c .code ≡ 0 = unfold collectOf in z in collect-change (ends c ok code)
 
-    -- Each call that goes through keeps the invariant.
-    pub keep-call : (call : Call) → first (reasonsOn s call) ≡ 0 → Inv (after call)
-    keep-call (Take p base reg) z = keep-take p base reg z
-    keep-call (Split p base len) z = keep-split p base len z
-    keep-call (Merge p base) z = keep-merge p base z
-    keep-call (Give p base to) z = keep-give p base to z
-    keep-call (Revoke p base) z = keep-revoke p base z
-    keep-call (Sweep p n) z = keep-swept p n
-    keep-call (Collect p) z = keep-collect p z
-    keep-call (Map p page frame) z = keep-map p page frame z
-    keep-call (Unmap p page) z = keep-unmap p page z
-    keep-call (Zero p frame) z = keep-zero p frame z
-    keep-call (Load p a off d) z = keep-load p a off d z
-    keep-call (Store p a off r) z = keep-store p a off r z
-    keep-call (Narrow p r off len mask d) z = keep-narrow p r off len mask d z
-    keep-call (Number p d value) z = keep-number p d value
-    keep-call (Grant p r to) z = keep-grant p r to
-    keep-call (Receive p d) z = keep-receive p d
+    keep-recored : (k : Core) → Recored c k → Inv (after (coreAlone k))
+    keep-recored k (splits p base len z) = keep-split p base len z
+    keep-recored k (merges p base z) = keep-merge p base z
+    keep-recored k (gives p base to low z) = keep-give p base to z
+    keep-recored k (revokes p base z) = keep-revoke p base z
+    keep-recored k (maps page frame z) = keep-map page frame z
+    keep-recored k (unmaps page z) = keep-unmap page z
+
+    -- Whatever a granted call does keeps the invariant.
+    pub keep-deed : {a : Asked} {e : Effect} → Deed s a e → Inv (after e)
+    keep-deed (took p base reg permissions low-p low-reg few z) = keep-take p base reg permissions few z
+    keep-deed (recored p k r) = keep-recored k r
+    keep-deed (swept p n runs) = keep-swept n
+    keep-deed (collectedAll p z) = keep-collect z
+    keep-deed (zeroed p frame z) = keep-zero frame z
+    keep-deed (filled p d from w low g) = keep-filled p d from w g
+    keep-deed (loaded p a off d low g) = keep-load p a off d g
+    keep-deed (wrote p a off x low-p low-a g) = keep-store p a off x g
+    keep-deed (granted p x to t) = keep-grant p x to
+    keep-deed (received p d low) = keep-receive p d

@@ -13,9 +13,7 @@ use Rattle.capabilities.specs.Lists.{pick}
 use Rattle.capabilities.specs.Refusals.{first}
 use Rattle.capabilities.proofs.Capabilities.{made-base, made-length, made-permissions, made-small}
 use Rattle.capabilities.proofs.Choice.{pick-yes, and-left, and-right}
-use Rattle.pages.specs.declared.Place.{Place}
-use Rattle.pages.specs.declared.Place.the-variants.{At, Nowhere}
-use Rattle.pages.specs.Mapping.{lookupOf, freedOf, releasedOf, anyMapped}
+use Rattle.pages.specs.Mapping.{freedOf, releasedOf, anyMapped}
 use Rattle.pages.specs.Freed.{allFreed}
 use Rattle.pages.proofs.AllFreed.{freed-none-mapped}
 use Rattle.table.specs.declared.Found.{Found}
@@ -36,9 +34,6 @@ use Rattle.reservations.proofs.CoreKept.{CoreFacts, core-facts}
 use Rattle.reservations.proofs.Revocations.{collected-at, collect-clear, freed-while}
 use Rattle.words.specs.declared.Slot.{Slot}
 use Rattle.words.specs.Words.{empty, named, registerOf, mailboxOf, keepTag}
-use Rattle.words.specs.Words.{nowhere}
-use Rattle.words.specs.Words.{placeNumber}
-use Rattle.machine.specs.Reasons.{addressed}
 use Rattle.histories.specs.Inv.{rowAt, Confined, Sound}
 use Rattle.histories.proofs.Table.{long, mid-row}
 use Rattle.histories.proofs.Keep.{none-sound}
@@ -121,18 +116,6 @@ narrowed-confined t c off len mask k some ends starts =
 pub take-length : (t : Table) (p base : ℕ) → takeOf t p base .code ≡ 0 → takeOf t p base .length ≡ rowOf t (findOf t p base) .length
 unfolding takeOf
 take-length t p base z = pick-yes (eqb (first (takeReasons t p base)) 0) (rowOf t (findOf t p base) .length) 0 (eq-eqb (first (takeReasons t p base)) 0 z)
-
-pub not-none : (n : ℕ) → (n ≡ 0 → ⊥) → 1 ≤ n
-not-none n h = omega (arith, h)
-
--- A place that is not nowhere.
-pub found : (c : Core) (w : Slot) (off : ℕ) → nowhere (addressed c w off) ≡ false → lookupOf (c .pages) (baseOf (w .cell) + off) ≡ At (placeNumber (addressed c w off))
-unfolding addressed
-found c w off e = go (lookupOf (c .pages) (baseOf (w .cell) + off)) e
-  where
-    go : (x : Place) → nowhere x ≡ false → x ≡ At (placeNumber x)
-    go (At at) q = refl
-    go Nowhere q = absurd (true≢false q)
 
 pub revoke-parts : (c : Core) (p base : ℕ) → revokeOf c p base .code ≡ 0 → revokeOf c p base .core ≡ core (freedOf (c .pages) (rangeOf (rowOf (c .table) (findOf (c .table) p base)))) (revokeOf c p base .core .table) 0
 unfolding revokeOf revokeAt

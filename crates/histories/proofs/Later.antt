@@ -1,21 +1,23 @@
 -- No survivor until a take. Assumes nothing.
-use Prim.Native.Nat.{ℕ, _+_, _*_, _%_, _<_, _≤_}
+use Prim.Native.Nat.{ℕ, _<_}
 use native.Mathlib.Omega.{arith}
 use mathlib.Core.Bool.{true}
 use mathlib.Core.List.{List, [], _∷_}
-use mathlib.Core.Path.{_≡_, sym, ap, subst, _∙_}
+use mathlib.Core.Path.{_≡_, refl, sym, ap, subst, _∙_}
 use Rattle.capabilities.specs.declared.Range.{Range}
-use Rattle.capabilities.specs.Capability.{baseOf, lengthOf, capability}
+use Rattle.capabilities.specs.Capability.{capability}
 use Rattle.capabilities.specs.Range.{inside}
 use Rattle.capabilities.proofs.Capabilities.{made-base, made-length, narrowed-base, narrowed-length}
 use Rattle.table.specs.Operations.{takeOf}
 use Rattle.table.specs.Rows.{rangeOf}
 use Rattle.table.proofs.Cells.{inside-made}
 use Rattle.calls.specs.declared.Call.{Call}
-use Rattle.calls.specs.declared.Call.the-variants.{Take, Collect}
+use Rattle.calls.specs.declared.Call.the-variants.{Collect}
+use Rattle.machine.specs.Roles.{IsTake}
+use Rattle.machine.proofs.Deeds.{taken-by}
 use Rattle.reservations.specs.Revocation.{revoked}
 use Rattle.histories.specs.Runs.{Machine, next, run}
-use Rattle.histories.specs.Live.{Into, NoneInto}
+use Rattle.histories.specs.Live.{Into}
 use Rattle.histories.specs.Inv.{Inv, rowAt}
 use Rattle.histories.specs.Lending.{namedRange}
 use Rattle.histories.specs.Survivors.{Untaken, NoSurvivorUntilTaken}
@@ -40,17 +42,18 @@ outside-narrows r c off len mask some ends starts out k =
     out (record { cell = k .cell; from = omega (arith, k .from, b); upto = omega (arith, k .upto, b, l, ends); hit = k .hit })
 
 -- What a granted take makes has its cells in the named range.
-taken-outside : (m : Machine) (p base reg : ℕ) (w : Went m (Take p base reg)) (r : Range)
-    → ((v : ℕ) → inside (namedRange m p base) v ≡ true → inside r v ≡ true → ⊥) → Outside r (capability base (takeOf (m .state .core .table) p base .length) 15)
-taken-outside m p base reg w r apart k =
-    let f = lends m p base reg w in
+taken-outside : (m : Machine) (take : Call) (p base reg permissions : ℕ) → IsTake take p base reg permissions → Went m take → (r : Range)
+    → ((v : ℕ) → inside (namedRange m p base) v ≡ true → inside r v ≡ true → ⊥) → Outside r (capability base (takeOf (m .state .core .table) p base .length) permissions)
+taken-outside m take p base reg permissions is w r apart k =
+    let f = lends m take p base reg permissions is w in
     let row = rowAt (m .state .core .table) (f .row) in
-    let named = named-range m p base reg f in
+    let named = named-range m take p base reg permissions is w in
+    let few = taken-by (m .state) take p base reg permissions is (w .clear) .few in
     let start : row .base ≡ base = sym (ap (λ x. x .base) (f .range)) in
-    let n : takeOf (m .state .core .table) p base .length ≡ row .length = sym (take-number m p base reg w) ∙ ap (λ x. x .length) (f .range) in
-    let fits = row-fits (m .state .core) (went-core m (Take p base reg) w) (f .row) (f .used) in
-    let b = made-base base (takeOf (m .state .core .table) p base .length) 15 (omega arith) (omega arith) (omega arith) in
-    let l = made-length base (takeOf (m .state .core .table) p base .length) 15 (omega arith) (omega arith) (omega arith) in
+    let n : takeOf (m .state .core .table) p base .length ≡ row .length = sym (take-number m take p base reg permissions is w) ∙ ap (λ x. x .length) (f .range) in
+    let fits = row-fits (m .state .core) (went-core m take w) (f .row) (f .used) in
+    let b = made-base base (takeOf (m .state .core .table) p base .length) permissions (omega arith) (omega arith) (omega arith) in
+    let l = made-length base (takeOf (m .state .core .table) p base .length) permissions (omega arith) (omega arith) (omega arith) in
     apart (k .cell) (subst (λ x. inside x (k .cell) ≡ true) (sym named) (inside-made (rangeOf row) (k .cell) (omega (arith, k .from, b)) (omega (arith, k .upto, b, l)))) (k .hit)
 
 run-outside : (r : Range) (calls : List Call) (m : Machine) → Inv m → All (Outside r) m → Untaken m calls r → All (Outside r) (run m calls)
@@ -59,10 +62,8 @@ run-outside r [] m inv all none = all
 run-outside r (c ∷ calls) m inv all none =
     run-outside r calls (next m c) (inv-step m c inv)
     (step-came (Outside r) (outside-narrows r) m c inv all
-    (λ p base reg e w.
-    let z : Went m (Take p base reg) = subst (Went m) e w in
-    taken-outside m p base reg z r (none [] p base reg calls (ap (λ x. x ∷ calls) e) (went-granted m (Take p base reg) z))))
-    (λ before q base reg after e g. none (c ∷ before) q base reg after (ap (λ l. c ∷ l) e) g)
+    (λ p base reg permissions is w. taken-outside m c p base reg permissions is w r (none [] c calls refl p base reg permissions is (went-granted m c w))))
+    (λ before take after e. none (c ∷ before) take after (ap (λ l. c ∷ l) e))
 
 pub no-survivor-until-taken : NoSurvivorUntilTaken
 no-survivor-until-taken m r p g calls none =

@@ -6,6 +6,7 @@ pub mod Granted
 pub mod Layer
 pub mod Findings
 pub mod Calls
+pub mod Showing
 pub mod Origins
 pub mod Always
 pub mod Crossing

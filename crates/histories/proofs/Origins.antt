@@ -1,53 +1,46 @@
 -- Where live capabilities come from: what holds of every live capability before a call, and of each narrower one, holds after it too,
 -- but for the one that a take makes. Assumes nothing.
-use Prim.Native.Nat.{ℕ, _+_, _*_, _%_, _<_, _≤_}
-use native.Mathlib.Omega.{arith}
-use mathlib.Core.Bool.{Bool, true, false, not, _&&_, _||_, true≢false, false≢true}
+use Prim.Native.Nat.{ℕ, _+_, _*_, _≤_}
+use mathlib.Core.Bool.{Bool, true, false, _&&_, false≢true}
 use mathlib.Core.List.{List}
 use mathlib.Core.Logic.{_⊎_, inl, inr, ⊎-elim}
-use mathlib.Core.Path.{_≡_, refl, sym, ap, subst, _∙_}
-use borrow.Author.Tests.{eqb-false, ltb-false, leb-false, not-false}
-use lib.Dec.{eqb, ltb}
+use mathlib.Core.Path.{_≡_, refl, sym, subst, _∙_}
 use lib.ListN.{length, getD, set}
 use Rattle.capabilities.specs.Capability.{baseOf, lengthOf, capability, narrowed, permits}
 use Rattle.capabilities.specs.Lists.{pick}
 use Rattle.capabilities.specs.Refusals.{first}
-use Rattle.capabilities.proofs.Choice.{and-left, or-false}
-use Rattle.capabilities.proofs.Refusals.{first-clear}
+use Rattle.capabilities.proofs.Choice.{and-left}
 use Rattle.pages.specs.declared.Frame.{Frame}
 use Rattle.pages.specs.declared.FrameState.the-variants.{Free}
 use Rattle.pages.specs.declared.Place.the-variants.{At}
-use Rattle.pages.specs.declared.VirtualPage.{VirtualPage}
 use Rattle.pages.specs.Pages.{Pages}
-use Rattle.pages.specs.Entries.{isDirty}
-use Rattle.pages.specs.Layer.{frameAt, withFrame}
-use Rattle.pages.specs.Mapping.{lookupOf, mapReasons, mapOf, mapped, unmapReasons, unmapOf, unmapped, dirtyReasons, noFrame, freedOf, releasedOf}
+use Rattle.pages.specs.Layer.{withFrame}
+use Rattle.pages.specs.Mapping.{lookupOf, dirtyReasons, releasedOf}
+use Rattle.sweep.specs.Sweep.{cellsLeft}
 use Rattle.pages.proofs.Formed.{Sound as Layered, sound as layered}
-use Rattle.pages.proofs.Kept.{mappable, unmappable}
-use Rattle.pages.proofs.States.{is-dirty}
-use Rattle.table.specs.Find.{findOf, rowOf}
 use Rattle.table.specs.Operations.{takeOf}
-use Rattle.table.specs.Rows.{rangeOf}
 use Rattle.reservations.specs.Core.{Core}
-use Rattle.reservations.specs.Revocation.{revoked, dying, revokeReasons, revokeOf, collectReasons, collectOf, coreSound}
+use Rattle.reservations.specs.Revocation.{core, revoked, dying, collectReasons, collectOf, coreSound}
 use Rattle.reservations.proofs.CoreKept.{core-facts}
 use Rattle.calls.specs.declared.Call.{Call}
-use Rattle.calls.specs.declared.Call.the-variants.{Take, Split, Merge, Give, Revoke, Sweep, Collect, Map, Unmap, Zero, Load, Store, Narrow, Number, Grant, Receive}
 use Rattle.words.specs.declared.Slot.{Slot}
-use Rattle.words.specs.Words.{slot, empty, named, nowhere, placeNumber, registerOf, mailboxOf, keepTag, wordAt, stored, collectedRegister, collectedMailbox}
-use Rattle.words.specs.WordReasons.{unnamed, notManager, mayNotLoad, mayNotStore, pastEnd, badNarrow}
+use Rattle.words.specs.Words.{slot, empty, named, registerOf, mailboxOf, keepTag, wordAt, stored, collectedMailbox}
 use Rattle.machine.specs.State.{State}
-use Rattle.machine.specs.Reasons.{reasons, addressed}
-use Rattle.machine.specs.Effects.{effect, sweptTo}
-use Rattle.machine.specs.Step.{done, reasonsOn, effectOn, registersAfter, mailboxesAfter, cellsAfter, tagsAfter}
+use Rattle.machine.specs.Roles.{Sources, takes, Asked, asked, IsTake}
+use Rattle.machine.specs.Effects.{keepRegisters, putRegister, fetchInto, keepMailboxes, putMailbox, keepMemory, writeWord, clearFrame, sweepCells, Effect, effectOf, withPages, sweptTo}
+use Rattle.machine.specs.Step.{done, registersAfter, mailboxesAfter, cellsAfter, tagsAfter}
+use Rattle.machine.proofs.Deeds.{coreAlone, collecting, Recored, Filling, narrows, numbers, aimedAt, Deed, took, recored, swept, collectedAll, zeroed, filled, loaded, wrote, granted, received, deed}
+use Rattle.machine.proofs.Found.{Addressing}
+use Rattle.machine.proofs.PagesKept.{zero-clear}
 use Rattle.histories.specs.Runs.{Machine, machine, next}
 use Rattle.histories.specs.Live.{Spot, register, mailbox, virtual, wordIn, shown}
 use Rattle.histories.specs.Inv.{Inv}
 use Rattle.histories.proofs.View.{put-each, shown-by, shown-at, seen, word-none, collected-registers, collected-mailboxes}
 use Rattle.histories.proofs.Keep.{Blank, frame-lookup, place-below, write-word, clear-word, sweep-word}
 use Rattle.histories.proofs.Granted.{Went, handed, went-or-not, went-next, went-core, went-cells, went-tags}
-use Rattle.histories.proofs.Layer.{map-done, map-view, unmap-done, unmap-view, freed-shows, released-shows}
-use Rattle.histories.proofs.Findings.{ends, found, revoke-parts, not-none}
+use Rattle.histories.proofs.Layer.{released-shows}
+use Rattle.histories.proofs.Findings.{ends}
+use Rattle.histories.proofs.Showing.{Came, shownBefore, wasFree, recored-came}
 
 -- A word, if it is a capability, has a property.
 abbrev pub Tagged : (ℕ → Type 0) → Slot → Type 0
@@ -97,8 +90,8 @@ module _ (Q : ℕ → Type 0) where
     abbrev c : Core
     c = s .core
 
-    abbrev after : Call → Machine
-    after call = handed (done s (effectOn s call) cells tags)
+    abbrev after : Effect → Machine
+    after e = handed (done s e cells tags)
 
     place : (v at : ℕ) → lookupOf (c .pages) v ≡ At at → Tagged Q (wordAt cells tags at)
     place v at e = subst (Tagged Q) (shown-at (c .pages) cells tags v at e) (old (virtual v))
@@ -116,147 +109,107 @@ module _ (Q : ℕ → Type 0) where
       put : (i : ℕ) (w : Slot) → Tagged Q w → (j : ℕ) → Tagged Q (getD (set (s .registers) i w) j empty)
       put i w k = put-each (Tagged Q) (s .registers) i w k (λ j. old (register j))
 
-      came-revoke : (p base : ℕ) → first (reasonsOn s (Revoke p base)) ≡ 0 → All Q (after (Revoke p base))
-      unfolding reasons effect done registersAfter mailboxesAfter cellsAfter tagsAfter
-      came-revoke p base z =
-          let one = first-clear 4 (unnamed p) _ (λ x. omega arith) z in
-          let clear = first-clear 5 (notManager p) (revokeReasons c p base) (λ x. omega arith) (one .1) .1 in
-          let code : revokeOf c p base .code ≡ 0 = unfold revokeOf in clear in
-          let range = rangeOf (rowOf (c .table) (findOf (c .table) p base)) in
-          spots _ (λ i. old (register i)) (λ i. old (mailbox i))
-          (λ v. subst (λ x. Tagged Q (shown (x .pages) cells tags v)) (sym (revoke-parts c p base code)) (pages (freedOf (c .pages) range) (λ u at e. inl (freed-shows (c .pages) layer range u at e)) v))
+      -- Another core: what its pages show was shown, or is blank.
+      came-recored : (k : Core) → Recored c k → All Q (after (coreAlone k))
+      unfolding done registersAfter mailboxesAfter cellsAfter tagsAfter
+      came-recored k r = spots _ (λ i. old (register i)) (λ i. old (mailbox i)) (pages (k .pages) (λ v at e. go v at (recored-came c ok k r v at e)))
+        where
+          go : (v at : ℕ) → Came (c .pages) keepMemory v at → (lookupOf (c .pages) v ≡ At at) ⊎ Blank cells tags at
+          go v at (shownBefore q) = inl q
+          go v at (wasFree j i free low e keep) = inr (subst (Blank cells tags) (sym e) (inv .memory .free j i free low))
 
-      came-sweep : (p n : ℕ) → All Q (after (Sweep p n))
-      unfolding effect done registersAfter mailboxesAfter cellsAfter tagsAfter
-      came-sweep p n =
+      came-sweep : (n : ℕ) → All Q (after (effectOf (core (c .pages) (c .table) (sweptTo c n)) keepRegisters keepMailboxes (sweepCells (revoked c) (c .place) (sweptTo c n)) (slot (cellsLeft (c .pages) (sweptTo c n)) false)))
+      unfolding done registersAfter mailboxesAfter cellsAfter tagsAfter
+      came-sweep n =
           spots _ (λ i. old (register i)) (λ i. old (mailbox i))
           (λ v. shown-by (Tagged Q) (c .pages) cells _ v (none empty refl) (λ at e. sweep-word c cells tags (inv .memory) layer of-cells of-tags (sweptTo c n) (Tagged Q) v at e (place v at e) (none (slot _ false) refl)))
 
-      came-collect : (p : ℕ) → first (reasonsOn s (Collect p)) ≡ 0 → All Q (after (Collect p))
-      unfolding reasons effect done registersAfter mailboxesAfter cellsAfter tagsAfter
-      came-collect p z =
-          let one = first-clear 4 (unnamed p) _ (λ x. omega arith) z in
-          let clear = first-clear 5 (notManager p) (collectReasons c) (λ x. omega arith) (one .1) .1 in
-          let code : collectOf c .code ≡ 0 = unfold collectOf in clear in
+      came-collect : first (collectReasons c) ≡ 0 → All Q (after (collecting c))
+      unfolding done registersAfter mailboxesAfter cellsAfter tagsAfter
+      came-collect z =
+          let code : collectOf c .code ≡ 0 = unfold collectOf in z in
           let k = ends c ok code in
           spots _ (λ i. subst (Tagged Q) (sym (collected-registers c (s .registers) i)) (kept (getD (s .registers) i empty) _ (old (register i))))
           (λ i. subst (Tagged Q) (sym (collected-mailboxes c (s .mailboxes) i)) (gone c (getD (s .mailboxes) i empty) (old (mailbox i))))
           (λ v. subst (λ x. Tagged Q (shown (x .pages) cells tags v)) (sym (k .parts)) (pages (releasedOf (c .pages) (revoked c)) (λ u at e. inl (released-shows (c .pages) layer (revoked c) u at e)) v))
 
-      came-map : (p : ℕ) (page : VirtualPage) (frame : Frame) → first (reasonsOn s (Map p page frame)) ≡ 0 → All Q (after (Map p page frame))
-      unfolding reasons effect done registersAfter mailboxesAfter cellsAfter tagsAfter
-      came-map p page frame z =
-          let one = first-clear 4 (unnamed p) _ (λ x. omega arith) z in
-          let two = first-clear 5 (notManager p) (mapReasons (c .pages) page frame) (λ x. omega arith) (one .1) .1 in
-          let k = mappable (c .pages) page frame two in
-          spots _ (λ i. old (register i)) (λ i. old (mailbox i))
-          (λ v.
-          subst (λ q. Tagged Q (shown q cells tags v)) (sym (map-done (c .pages) page frame two))
-          (pages (mapped (c .pages) page frame)
-          (λ u at e. ⊎-elim inl (λ q. inr (subst (Blank cells tags) (sym (q .1)) (inv .memory .free (frame .0) (u % 16) (k .free-frame) (omega arith)))) (map-view (c .pages) layer page frame k u at e))
-          v))
-
-      came-unmap : (p : ℕ) (page : VirtualPage) → first (reasonsOn s (Unmap p page)) ≡ 0 → All Q (after (Unmap p page))
-      unfolding reasons effect done registersAfter mailboxesAfter cellsAfter tagsAfter
-      came-unmap p page z =
-          let one = first-clear 4 (unnamed p) _ (λ x. omega arith) z in
-          let two = first-clear 5 (notManager p) (unmapReasons (c .pages) page) (λ x. omega arith) (one .1) .1 in
-          spots _ (λ i. old (register i)) (λ i. old (mailbox i))
-          (λ v.
-          subst (λ q. Tagged Q (shown q cells tags v)) (sym (unmap-done (c .pages) page two))
-          (pages (unmapped (c .pages) page) (λ u at e. inl (unmap-view (c .pages) layer page (unmappable (c .pages) page two) u at e)) v))
-
-      came-zero : (p : ℕ) (frame : Frame) → first (reasonsOn s (Zero p frame)) ≡ 0 → All Q (after (Zero p frame))
-      unfolding reasons effect done registersAfter mailboxesAfter cellsAfter tagsAfter dirtyReasons
-      came-zero p frame z =
-          let one = first-clear 4 (unnamed p) _ (λ x. omega arith) z in
-          let two = first-clear 5 (notManager p) _ (λ x. omega arith) (one .1) in
-          let three = first-clear 12 (noFrame (c .pages) frame) _ (λ x. omega arith) (two .1) in
-          let four = first-clear 14 (not (isDirty (frameAt (c .pages) (frame .0)))) _ (λ x. omega arith) (three .1) .0 in
-          let dirty = is-dirty (frameAt (c .pages) (frame .0)) (not-false (isDirty (frameAt (c .pages) (frame .0))) four) in
+      came-zero : (frame : Frame) → first (dirtyReasons (c .pages) frame) ≡ 0
+          → All Q (after (effectOf (withPages c (withFrame (c .pages) (frame .0) Free)) keepRegisters keepMailboxes (clearFrame frame) empty))
+      unfolding done registersAfter mailboxesAfter cellsAfter tagsAfter
+      came-zero frame z =
+          let (low, dirty) = zero-clear (c .pages) frame z in
           spots _ (λ i. old (register i)) (λ i. old (mailbox i))
           (λ v.
           shown-by (Tagged Q) (withFrame (c .pages) (frame .0) Free) _ _ v (none empty refl)
           (λ at e.
           let q = sym (frame-lookup (c .pages) (frame .0) Free v) ∙ e in
-          subst (Tagged Q) (sym (clear-word c cells tags (inv .memory) layer of-cells of-tags frame (leb-false (c .pages .f) (frame .0) (three .0)) dirty v at q)) (place v at q)))
+          subst (Tagged Q) (sym (clear-word c cells tags (inv .memory) layer of-cells of-tags frame low dirty v at q)) (place v at q)))
 
-      came-load : (p a off d : ℕ) → first (reasonsOn s (Load p a off d)) ≡ 0 → All Q (after (Load p a off d))
-      unfolding reasons effect done registersAfter mailboxesAfter cellsAfter tagsAfter
-      came-load p a off d z =
+      -- One register of the caller, and nothing else.
+      came-register : (k : Core) (p d : ℕ) (w answer : Slot) → k .pages ≡ c .pages → Tagged Q w → All Q (after (effectOf k (putRegister p d w) keepMailboxes keepMemory answer))
+      unfolding done registersAfter mailboxesAfter cellsAfter tagsAfter
+      came-register k p d w answer e t =
+          spots _ (put (8 * p + d) w t) (λ i. old (mailbox i)) (λ v. subst (λ q. Tagged Q (shown q cells tags v)) (sym e) (old (virtual v)))
+
+      came-load : (p a off d : ℕ) → Addressing c (registerOf (s .registers) p a) off
+          → All Q (after (effectOf c (fetchInto p d (aimedAt s p a off) (permits (registerOf (s .registers) p a .cell) 4)) keepMailboxes keepMemory empty))
+      unfolding done registersAfter mailboxesAfter cellsAfter tagsAfter
+      came-load p a off d g =
           let w = registerOf (s .registers) p a in
-          let one = first-clear 4 ((unnamed p || unnamed a) || unnamed d) _ (λ x. omega arith) z in
-          let two = first-clear 15 (not (w .tag)) _ (λ x. omega arith) (one .1) in
-          let three = first-clear 16 (mayNotLoad w) _ (λ x. omega arith) (two .1) in
-          let four = first-clear 17 (pastEnd w off) _ (λ x. omega arith) (three .1) in
-          let five = first-clear 18 (nowhere (addressed c w off)) _ (λ x. omega arith) (four .1) .0 in
           spots _
-          (put (8 * p + d) (keepTag (wordAt cells tags (placeNumber (addressed c w off))) (permits (w .cell) 4))
-          (kept (wordAt cells tags (placeNumber (addressed c w off))) (permits (w .cell) 4) (place (baseOf (w .cell) + off) (placeNumber (addressed c w off)) (found c w off five))))
+          (put (8 * p + d) (keepTag (wordAt cells tags (aimedAt s p a off)) (permits (w .cell) 4))
+          (kept (wordAt cells tags (aimedAt s p a off)) (permits (w .cell) 4) (place (baseOf (w .cell) + off) (aimedAt s p a off) (g .place))))
           (λ i. old (mailbox i)) (λ v. old (virtual v))
 
-      came-store : (p a off r : ℕ) → first (reasonsOn s (Store p a off r)) ≡ 0 → All Q (after (Store p a off r))
-      unfolding reasons effect done registersAfter mailboxesAfter cellsAfter tagsAfter
-      came-store p a off r z =
-          let w = registerOf (s .registers) p a in
+      came-store : (p a off r : ℕ) → Addressing c (registerOf (s .registers) p a) off
+          → All Q (after (effectOf c keepRegisters keepMailboxes (writeWord (aimedAt s p a off) (stored c (registerOf (s .registers) p r))) empty))
+      unfolding done registersAfter mailboxesAfter cellsAfter tagsAfter
+      came-store p a off r g =
+          let v₀ = baseOf (registerOf (s .registers) p a .cell) + off in
           let x = registerOf (s .registers) p r in
-          let one = first-clear 4 ((unnamed p || unnamed a) || unnamed r) _ (λ x. omega arith) z in
-          let two = first-clear 15 (not (w .tag)) _ (λ x. omega arith) (one .1) in
-          let three = first-clear 16 (mayNotStore w x) _ (λ x. omega arith) (two .1) in
-          let four = first-clear 17 (pastEnd w off) _ (λ x. omega arith) (three .1) in
-          let five = first-clear 18 (nowhere (addressed c w off)) _ (λ x. omega arith) (four .1) .0 in
-          let at = placeNumber (addressed c w off) in
-          let low = place-below c cells tags (inv .memory) layer of-cells of-tags (baseOf (w .cell) + off) at (seen (c .pages) (baseOf (w .cell) + off) at (found c w off five)) in
+          let at = aimedAt s p a off in
+          let low = place-below c cells tags (inv .memory) layer of-cells of-tags v₀ at (seen (c .pages) v₀ at (g .place)) in
           spots _ (λ i. old (register i)) (λ i. old (mailbox i))
           (λ v.
           shown-by (Tagged Q) (c .pages) _ _ v (none empty refl)
           (λ b e.
           write-word c cells tags (inv .memory) layer of-cells of-tags at (stored c x) low (Tagged Q) b (kept x _ (of-register (s .registers) p r (λ i. old (register i)))) (place v b e)))
 
-      came-narrow : Narrows Q → (p r off len mask d : ℕ) → first (reasonsOn s (Narrow p r off len mask d)) ≡ 0 → All Q (after (Narrow p r off len mask d))
-      unfolding reasons effect done registersAfter mailboxesAfter cellsAfter tagsAfter
-      came-narrow narrower p r off len mask d z =
-          let w = registerOf (s .registers) p r in
-          let one = first-clear 4 ((unnamed p || unnamed r) || unnamed d) _ (λ x. omega arith) z in
-          let two = first-clear 15 (not (w .tag)) _ (λ x. omega arith) (one .1) in
-          let three = first-clear 17 (pastEnd w off || badNarrow w off len) _ (λ x. omega arith) (two .1) .0 in
-          let fits = or-false (eqb len 0 || ltb (lengthOf (w .cell)) (off + len)) (ltb 65535 (baseOf (w .cell) + off)) (or-false (pastEnd w off) (badNarrow w off len) three .1) in
-          let size = or-false (eqb len 0) (ltb (lengthOf (w .cell)) (off + len)) (fits .0) in
-          spots _
-          (put (8 * p + d) (slot (narrowed (w .cell) off len mask) true)
-          (λ x.
-          narrower (w .cell) off len mask (not-none len (eqb-false len 0 (size .0))) (ltb-false (lengthOf (w .cell)) (off + len) (size .1)) (ltb-false 65535 (baseOf (w .cell) + off) (fits .1))
-          (of-register (s .registers) p r (λ i. old (register i)) (not-false (w .tag) (two .0)))))
-          (λ i. old (mailbox i)) (λ v. old (virtual v))
+      came-grant : (p x to : ℕ) → All Q (after (effectOf c keepRegisters (putMailbox to (registerOf (s .registers) p x)) keepMemory empty))
+      unfolding done registersAfter mailboxesAfter cellsAfter tagsAfter
+      came-grant p x to =
+          spots _ (λ i. old (register i)) (put-each (Tagged Q) (s .mailboxes) to (registerOf (s .registers) p x) (of-register (s .registers) p x (λ i. old (register i))) (λ i. old (mailbox i))) (λ v. old (virtual v))
 
-      -- Each call that goes through.
-      pub call-came : Narrows Q → (call : Call) → first (reasonsOn s call) ≡ 0 → ((p base reg : ℕ) → call ≡ Take p base reg → Q (capability base (takeOf (c .table) p base .length) 15)) → All Q (after call)
-      unfolding effect done registersAfter mailboxesAfter cellsAfter tagsAfter
-      call-came narrower (Take p base reg) z new = spots _ (put (8 * p + reg) (slot (capability base (takeOf (c .table) p base .length) 15) true) (λ x. new p base reg refl)) (λ i. old (mailbox i)) (λ v. old (virtual v))
-      call-came narrower (Split p base len) z new = spots _ (λ i. old (register i)) (λ i. old (mailbox i)) (λ v. old (virtual v))
-      call-came narrower (Merge p base) z new = spots _ (λ i. old (register i)) (λ i. old (mailbox i)) (λ v. old (virtual v))
-      call-came narrower (Give p base to) z new = spots _ (λ i. old (register i)) (λ i. old (mailbox i)) (λ v. old (virtual v))
-      call-came narrower (Revoke p base) z new = came-revoke p base z
-      call-came narrower (Sweep p n) z new = came-sweep p n
-      call-came narrower (Collect p) z new = came-collect p z
-      call-came narrower (Map p page frame) z new = came-map p page frame z
-      call-came narrower (Unmap p page) z new = came-unmap p page z
-      call-came narrower (Zero p frame) z new = came-zero p frame z
-      call-came narrower (Load p a off d) z new = came-load p a off d z
-      call-came narrower (Store p a off r) z new = came-store p a off r z
-      call-came narrower (Narrow p r off len mask d) z new = came-narrow narrower p r off len mask d z
-      call-came narrower (Number p d value) z new = spots _ (put (8 * p + d) (slot value false) (none (slot value false) refl)) (λ i. old (mailbox i)) (λ v. old (virtual v))
-      call-came narrower (Grant p r to) z new =
-          spots _ (λ i. old (register i)) (put-each (Tagged Q) (s .mailboxes) to (registerOf (s .registers) p r) (of-register (s .registers) p r (λ i. old (register i))) (λ i. old (mailbox i))) (λ v. old (virtual v))
-      call-came narrower (Receive p d) z new =
+      came-receive : (p d : ℕ) → All Q (after (effectOf c (putRegister p d (mailboxOf (s .mailboxes) p)) (putMailbox p empty) keepMemory (mailboxOf (s .mailboxes) p)))
+      unfolding done registersAfter mailboxesAfter cellsAfter tagsAfter
+      came-receive p d =
           spots _ (put (8 * p + d) (mailboxOf (s .mailboxes) p) (of-mailbox (s .mailboxes) p (λ i. old (mailbox i)))) (put-each (Tagged Q) (s .mailboxes) p empty (none empty refl) (λ i. old (mailbox i)))
           (λ v. old (virtual v))
+
+      filling-came : Narrows Q → (p : ℕ) {from : Sources} {w : Slot} → Filling s p from w → Tagged Q w
+      filling-came narrower p (narrows x off len mask g) =
+          λ e. narrower (registerOf (s .registers) p x .cell) off len mask (g .some) (g .ends) (g .starts) (of-register (s .registers) p x (λ i. old (register i)) (g .tagged))
+      filling-came narrower p (numbers value) = none (slot value false) refl
+
+      -- Whatever a granted call does.
+      pub deed-came : Narrows Q → {a : Asked} {e : Effect} → Deed s a e
+          → ((p base reg permissions : ℕ) → a ≡ asked p (takes base reg permissions) → Q (capability base (takeOf (c .table) p base .length) permissions)) → All Q (after e)
+      deed-came narrower (took p base reg permissions low-p low-reg few z) new = came-register _ p reg _ _ refl (λ x. new p base reg permissions refl)
+      deed-came narrower (recored p k r) new = came-recored k r
+      deed-came narrower (swept p n runs) new = came-sweep n
+      deed-came narrower (collectedAll p z) new = came-collect z
+      deed-came narrower (zeroed p frame z) new = came-zero frame z
+      deed-came narrower (filled p d from w low g) new = came-register c p d w empty refl (filling-came narrower p g)
+      deed-came narrower (loaded p a off d low g) new = came-load p a off d g
+      deed-came narrower (wrote p a off x low-p low-a g) new = came-store p a off x g
+      deed-came narrower (granted p x to t) new = came-grant p x to
+      deed-came narrower (received p d low) new = came-receive p d
 
 -- A step, granted or refused: what holds of every live capability, and of each narrower one, holds after it, if it holds of the one that
 -- a granted take makes.
 pub step-came : (Q : ℕ → Type 0) → Narrows Q → (m : Machine) (c : Call) → Inv m → All Q m
-    → ((p base reg : ℕ) → c ≡ Take p base reg → Went m c → Q (capability base (takeOf (m .state .core .table) p base .length) 15)) → All Q (next m c)
+    → ((p base reg permissions : ℕ) → IsTake c p base reg permissions → Went m c → Q (capability base (takeOf (m .state .core .table) p base .length) permissions)) → All Q (next m c)
 step-came Q narrower m c inv old new =
     ⊎-elim
-    (λ w. subst (All Q) (sym (went-next m c w)) (call-came Q (m .state) (m .cells) (m .tags) inv old (went-core m c w) (went-cells m c w) (went-tags m c w) narrower c (w .clear) (λ p base reg e. new p base reg e w)))
+    (λ w. subst (All Q) (sym (went-next m c w)) (deed-came Q (m .state) (m .cells) (m .tags) inv old (went-core m c w) (went-cells m c w) (went-tags m c w) narrower (deed (m .state) c (w .clear)) (λ p base reg permissions is. new p base reg permissions is w)))
     (λ n. subst (All Q) (sym (n .0)) old) (went-or-not m c)

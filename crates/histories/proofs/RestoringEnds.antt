@@ -120,7 +120,7 @@ module _ (m : Machine) (v f : ℕ) (k : Standing m v f) (e : running (m .state .
         rows = ap (λ x. live (x .table)) g ∙ s .now;
         pages = ap (λ x. x .pages) (g ∙ s .parts) ∙ ap (releasedOf (c .pages)) (s .range);
       })
-      (collect-core n₁ 0 w) (collect-ends n₁ 0 w)
+      (collect-core n₁ (Collect 0) 0 refl w) (collect-ends n₁ (Collect 0) 0 refl w)
 
   finished-by : Leads (Finished c) m (Sweep 0 cells ∷ Collect 0 ∷ [])
   finished-by = leads-more (Finished c) m (Sweep 0 cells) (Collect 0 ∷ []) sweep-goes (leads-more (Finished c) n₁ (Collect 0) [] collect-goes (leads-none (Finished c) (next n₁ (Collect 0)) finished))

@@ -24,6 +24,7 @@ use Rattle.table.proofs.After.{Replaced}
 use Rattle.table.proofs.Kept.{row-live}
 use Rattle.table.proofs.Tiled.{revokings-first}
 use Rattle.calls.specs.declared.Call.the-variants.{Take}
+use Rattle.machine.specs.Roles.{plainPermissions}
 use Rattle.machine.specs.Reasons.{reasons}
 use Rattle.machine.specs.Step.{reasonsOn}
 use Rattle.histories.specs.Runs.{Machine, Granted, next}
@@ -87,7 +88,7 @@ module _ (m : Machine) (v f : ℕ) (k : Standing m v f) (i : ℕ) (h : i < lengt
 
   take-rows : Replaced t (next m (Take (r .holder) (r .base) 0) .state .core .table) (r .holder) (r .base) i 1 (takenRow r ∷ [])
   take-rows =
-      let l = lends m (r .holder) (r .base) 0 (went m (Take (r .holder) (r .base) 0) take-goes) in
+      let l = lends m (Take (r .holder) (r .base) 0) (r .holder) (r .base) 0 plainPermissions refl (went m (Take (r .holder) (r .base) 0) take-goes) in
       let n : l .row ≡ i = number (sym (l .now .found) ∙ found) in
       subst (λ j. Replaced t (next m (Take (r .holder) (r .base) 0) .state .core .table) (r .holder) (r .base) j 1 (takenRow (rowAt t j) ∷ [])) n (l .now)
     where

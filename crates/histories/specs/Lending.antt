@@ -1,4 +1,4 @@
--- Lent once. After every history, when a take is granted no live capability has a cell in the range that it lends; and between two
+-- Lent once. After every history, when a take, of either kind, is granted no live capability has a cell in the range that it lends; and between two
 -- granted takes whose ranges share a cell there is a granted collect of a revocation that covers all of the earlier range. Right after
 -- a granted take its register holds the capability of the reservation's range, the only live one with a cell in it. Assumes nothing.
 use Prim.Native.Nat.{ℕ, _+_, _*_, _≤_}
@@ -12,44 +12,51 @@ use Rattle.table.specs.Find.{findOf, rowOf}
 use Rattle.table.specs.Rows.{rangeOf}
 use Rattle.reservations.specs.Revocation.{revoked}
 use Rattle.calls.specs.declared.Call.{Call}
-use Rattle.calls.specs.declared.Call.the-variants.{Take, Collect}
+use Rattle.machine.specs.Roles.{IsTake, IsCollect}
 use Rattle.histories.specs.Runs.{Machine, Granted, outcome, next, run, Reached}
 use Rattle.words.specs.Words.{slot}
 use Rattle.histories.specs.Live.{Spot, register, Live, wordIn, Into, NoneInto}
 
 -- The range that a granted take lends: from base on, as many cells as it answers.
-abbrev pub lentRange : Machine → ℕ → ℕ → ℕ → Range
-lentRange m p base reg = record { base = base; length = outcome m (Take p base reg) .answer .number }
+abbrev pub lentRange : Machine → Call → ℕ → Range
+lentRange m take base = record { base = base; length = outcome m take .answer .number }
 
 abbrev pub LentOnce : Type 0
-LentOnce = (m : Machine) → Reached m → (p base reg : ℕ) → Granted m (Take p base reg) → NoneInto m (lentRange m p base reg)
+LentOnce =
+    (m : Machine) → Reached m → (take : Call) (p base reg permissions : ℕ) → IsTake take p base reg permissions → Granted m take
+    → NoneInto m (lentRange m take base)
 
 -- The range of the reservation that begins at base and is the party's, said of the table and not of an answer.
 abbrev pub namedRange : Machine → ℕ → ℕ → Range
 namedRange m p base = rangeOf (rowOf (m .state .core .table) (findOf (m .state .core .table) p base))
 
--- What a granted take leaves: its register holds the capability of the named range with permissions 15, and no other live capability
--- has a cell in that range.
-pub record LentBy (m : Machine) (p base reg : ℕ) : Type 0 where
+-- What a granted take leaves: its register holds the capability of the named range with the take's permissions, and no other live
+-- capability has a cell in that range.
+pub record LentBy (m : Machine) (take : Call) (p base reg permissions : ℕ) : Type 0 where
   pub begins : namedRange m p base .base ≡ base
-  pub holds : wordIn (next m (Take p base reg)) (register (8 * p + reg)) ≡ slot (capability base (namedRange m p base .length) 15) true
-  pub only : (x : Spot) → Live (next m (Take p base reg)) x → Into (namedRange m p base) (wordIn (next m (Take p base reg)) x .cell) → x ≡ register (8 * p + reg)
+  pub holds : wordIn (next m take) (register (8 * p + reg)) ≡ slot (capability base (namedRange m p base .length) permissions) true
+  pub only : (x : Spot) → Live (next m take) x → Into (namedRange m p base) (wordIn (next m take) x .cell) → x ≡ register (8 * p + reg)
 
 abbrev pub LentByCapability : Type 0
-LentByCapability = (m : Machine) → Reached m → (p base reg : ℕ) → Granted m (Take p base reg) → LentBy m p base reg
+LentByCapability =
+    (m : Machine) → Reached m → (take : Call) (p base reg permissions : ℕ) → IsTake take p base reg permissions → Granted m take
+    → LentBy m take p base reg permissions
 
 -- Among the calls from a state on there is a granted collect, and the range that it ends covers another.
 pub record Ended (m : Machine) (calls : List Call) (r : Range) : Type 0 where
   pub before : List Call
+  pub collect : Call
   pub party : ℕ
   pub after : List Call
-  pub are : calls ≡ before ++ Collect party ∷ after
-  pub granted : Granted (run m before) (Collect party)
+  pub are : calls ≡ before ++ collect ∷ after
+  pub is : IsCollect collect party
+  pub granted : Granted (run m before) collect
   pub from : revoked (run m before .state .core) .base ≤ r .base
   pub upto : r .base + r .length ≤ revoked (run m before .state .core) .base + revoked (run m before .state .core) .length
 
 abbrev pub EndedBetween : Type 0
 EndedBetween =
-    (m : Machine) → Reached m → (p base reg : ℕ) → Granted m (Take p base reg) → (calls : List Call) → (q base′ reg′ : ℕ)
-    → Granted (run (next m (Take p base reg)) calls) (Take q base′ reg′) → (v : ℕ) → inside (lentRange m p base reg) v ≡ true
-    → inside (lentRange (run (next m (Take p base reg)) calls) q base′ reg′) v ≡ true → Ended (next m (Take p base reg)) calls (lentRange m p base reg)
+    (m : Machine) → Reached m → (take : Call) (p base reg permissions : ℕ) → IsTake take p base reg permissions → Granted m take
+    → (calls : List Call) → (take′ : Call) (q base′ reg′ permissions′ : ℕ) → IsTake take′ q base′ reg′ permissions′
+    → Granted (run (next m take) calls) take′ → (v : ℕ) → inside (lentRange m take base) v ≡ true
+    → inside (lentRange (run (next m take) calls) take′ base′) v ≡ true → Ended (next m take) calls (lentRange m take base)

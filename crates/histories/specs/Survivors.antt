@@ -9,7 +9,8 @@ use Rattle.capabilities.specs.declared.Range.{Range}
 use Rattle.capabilities.specs.Range.{inside}
 use Rattle.reservations.specs.Revocation.{revoked}
 use Rattle.calls.specs.declared.Call.{Call}
-use Rattle.calls.specs.declared.Call.the-variants.{Take, Collect}
+use Rattle.calls.specs.declared.Call.the-variants.{Collect}
+use Rattle.machine.specs.Roles.{IsTake}
 use Rattle.histories.specs.Runs.{Machine, Granted, next, run, Reached}
 use Rattle.histories.specs.Live.{NoneInto}
 use Rattle.histories.specs.Lending.{namedRange}
@@ -20,8 +21,8 @@ NoSurvivor = (m : Machine) → Reached m → (p : ℕ) → Granted m (Collect p)
 -- Among the calls from a state on, no granted take names a reservation that shares a cell with a range.
 abbrev pub Untaken : Machine → List Call → Range → Type 0
 Untaken m calls r =
-    (before : List Call) (q base reg : ℕ) (after : List Call) → calls ≡ before ++ Take q base reg ∷ after → Granted (run m before) (Take q base reg)
-    → (v : ℕ) → inside (namedRange (run m before) q base) v ≡ true → inside r v ≡ true → ⊥
+    (before : List Call) (take : Call) (after : List Call) → calls ≡ before ++ take ∷ after → (q base reg permissions : ℕ)
+    → IsTake take q base reg permissions → Granted (run m before) take → (v : ℕ) → inside (namedRange (run m before) q base) v ≡ true → inside r v ≡ true → ⊥
 
 abbrev pub NoSurvivorUntilTaken : Type 0
 NoSurvivorUntilTaken =

@@ -1,37 +1,34 @@
--- A step keeps the state well formed, granted or refused, for all sixteen kinds of call; and a granted start is well
--- formed. Assumes nothing.
-use Prim.Native.Nat.{ℕ, _*_, _<_}
+-- A step keeps the state well formed, granted or refused, for every kind of call; and a granted start is well formed. Assumes nothing.
+use Prim.Native.Nat.{ℕ, _*_}
 use native.Mathlib.Omega.{arith}
-use mathlib.Core.Bool.{Bool, true, false, not, _&&_, _||_}
-use mathlib.Core.List.{List, []}
-use mathlib.Core.Path.{_≡_, refl, subst, _∙_}
+use mathlib.Core.Bool.{Bool, true, false, _&&_}
+use mathlib.Core.List.{List}
+use mathlib.Core.Path.{_≡_, refl, _∙_}
 use lib.ListN.{length}
-use lib.Dec.{ltb, eqb}
-use borrow.Author.Tests.{ltb-true, eqb-true, eq-eqb, not-false}
+use lib.Dec.{eqb}
+use borrow.Author.Tests.{eqb-true, eq-eqb}
 use Rattle.capabilities.specs.Lists.{pick, each}
 use Rattle.capabilities.specs.Refusals.{first}
-use Rattle.capabilities.proofs.Choice.{and-left, and-right, or-false}
-use Rattle.capabilities.proofs.Refusals.{first-clear}
+use Rattle.capabilities.proofs.Choice.{and-left, and-right}
 use Rattle.pages.specs.Layer.{inRange, serves}
 use Rattle.pages.proofs.Formed as layer
 use Rattle.table.proofs.Sound as table
 use Rattle.table.proofs.Truth.{both}
 use Rattle.reservations.specs.Core.{Core}
-use Rattle.reservations.specs.Revocation.{core, running, dying, coreSound}
+use Rattle.reservations.specs.Revocation.{dying, coreSound}
 use Rattle.reservations.proofs.CoreKept.{core-facts, core-take, core-split, core-merge, core-give}
 use Rattle.reservations.proofs.Revocations.{core-revoke, core-collect, core-sweep}
 use Rattle.reservations.proofs.Starts.{core-fresh}
 use Rattle.calls.specs.declared.Call.{Call}
-use Rattle.calls.specs.declared.Call.the-variants.{Take, Split, Merge, Give, Revoke, Sweep, Collect, Map, Unmap, Zero, Load, Store, Narrow, Number, Grant, Receive}
 use Rattle.words.specs.declared.Slot.{Slot}
 use Rattle.words.specs.Words.{empty, collectedMailbox}
-use Rattle.words.specs.WordReasons.{unnamed, notManager}
 use Rattle.machine.specs.State.{State}
 use Rattle.machine.specs.Formed.{mailboxSound, mailboxesSound, sized, wellFormed, fresh, startOf}
-use Rattle.machine.specs.Reasons.{Reads, reads, reasons}
-use Rattle.machine.specs.Effects.{MailboxChange, keepMailboxes, putMailbox, collectMailboxes, effect, sweptTo}
+use Rattle.machine.specs.Roles.{Asked}
+use Rattle.machine.specs.Effects.{MailboxChange, keepMailboxes, putMailbox, collectMailboxes, Effect}
 use Rattle.machine.specs.Step.{mailboxesAfter, done, reasonsOn, effectOn, judged, stepOf}
 use Rattle.machine.proofs.Judging.{judged-by, step-by}
+use Rattle.machine.proofs.Deeds.{Recored, splits, merges, gives, revokes, maps, unmaps, Deed, took, recored, swept, collectedAll, zeroed, filled, loaded, wrote, granted, received, deed}
 use Rattle.machine.proofs.Lengths.{length-registers, length-mailboxes}
 use Rattle.machine.proofs.Lists.{each-set, each-map}
 use Rattle.machine.proofs.PagesKept.{core-map, core-unmap, core-zero}
@@ -107,63 +104,40 @@ mailboxes-kept keepMailboxes s h e = e
 mailboxes-kept (putMailbox p w) s h e = each-set mailboxSound 0 (s .mailboxes) p w h e
 mailboxes-kept collectMailboxes s h e = each-map mailboxSound (collectedMailbox (s .core)) (collected-sound (s .core)) 0 (s .mailboxes) e
 
--- Of the sixteen kinds grant and receive alone put into a mailbox: grant a capability, by refusal 15, and receive nothing.
-puts-sound : (c : Core) (mail : List Slot) (r : Reads) (call : Call) → first (reasons c mail r call) ≡ 0
-    → putsSound (effect c mail r call .mailboxes) ≡ true
-unfolding putsSound reasons effect
-puts-sound c mail r (Take p base reg) e = refl
-puts-sound c mail r (Split p base len) e = refl
-puts-sound c mail r (Merge p base) e = refl
-puts-sound c mail r (Give p base to) e = refl
-puts-sound c mail r (Revoke p base) e = refl
-puts-sound c mail r (Sweep p n) e = refl
-puts-sound c mail r (Collect p) e = refl
-puts-sound c mail r (Map p page frame) e = refl
-puts-sound c mail r (Unmap p page) e = refl
-puts-sound c mail r (Zero p frame) e = refl
-puts-sound c mail r (Load p a off d) e = refl
-puts-sound c mail r (Store p a off s) e = refl
-puts-sound c mail r (Narrow p s off len mask d) e = refl
-puts-sound c mail r (Number p d value) e = refl
-puts-sound c mail r (Grant p s to) e =
-    let after4 = first-clear 4 ((unnamed p || unnamed s) || unnamed to) _ (λ z. omega arith) e in
-    let after15 = first-clear 15 (not (r .one .tag)) _ (λ z. omega arith) (after4 .1) in
-    rw (not-false (r .one .tag) (after15 .0))
-puts-sound c mail r (Receive p d) e = refl
+-- Grant and receive alone put into a mailbox: grant a capability, by refusal 15, and receive nothing.
+puts-sound : (s : State) {a : Asked} {e : Effect} → Deed s a e → putsSound (e .mailboxes) ≡ true
+unfolding putsSound
+puts-sound s (took p base reg permissions low-p low-reg few z) = refl
+puts-sound s (recored p k r) = refl
+puts-sound s (swept p n runs) = refl
+puts-sound s (collectedAll p z) = refl
+puts-sound s (zeroed p frame z) = refl
+puts-sound s (filled p d from w low g) = refl
+puts-sound s (loaded p a off d low g) = refl
+puts-sound s (wrote p a off x low-p low-a g) = refl
+puts-sound s (granted p x to t) = rw t
+puts-sound s (received p d low) = refl
 
 -- The core after a granted call is well formed: each crate below says so of its own operations.
-module _ (c : Core) (ok : coreSound c ≡ true) (mail : List Slot) (r : Reads) (cells tags : List ℕ) where
-  -- 06: the place that a sweep reaches.
-  swept-sound : (n : ℕ) → serves (c .pages) (length cells) (length tags) ≡ true → running c ≡ true → coreSound (core (c .pages) (c .table) (sweptTo c n)) ≡ true
-  swept-sound n m run = core-sweep c ok n run
+recored-kept : (c k : Core) → coreSound c ≡ true → Recored c k → coreSound k ≡ true
+recored-kept c k ok (splits p base len z) = core-split c ok p base len
+recored-kept c k ok (merges p base z) = core-merge c ok p base
+recored-kept c k ok (gives p base to low z) = core-give c ok p base to (omega arith)
+recored-kept c k ok (revokes p base z) = core-revoke c ok p base
+recored-kept c k ok (maps page frame z) = core-map c ok page frame
+recored-kept c k ok (unmaps page z) = core-unmap c ok page
 
-  core-kept : (call : Call) → serves (c .pages) (length cells) (length tags) ≡ true → first (reasons c mail r call) ≡ 0
-      → coreSound (effect c mail r call .core) ≡ true
-  unfolding reasons effect
-  core-kept (Take p base reg) m e = core-take c ok p base
-  core-kept (Split p base len) m e = core-split c ok p base len
-  core-kept (Merge p base) m e = core-merge c ok p base
-  core-kept (Give p base to) m e =
-      let after4 = first-clear 4 (unnamed p || unnamed to) _ (λ z. omega arith) e in
-      let low : to < 8 = ltb-true to 8 (not-false (ltb to 8) (or-false (unnamed p) (unnamed to) (after4 .0) .1)) in
-      core-give c ok p base to (omega arith)
-  core-kept (Revoke p base) m e = core-revoke c ok p base
-  core-kept (Sweep p n) m e =
-      let after4 = first-clear 4 (unnamed p) _ (λ z. omega arith) e in
-      let after5 = first-clear 5 (notManager p) _ (λ z. omega arith) (after4 .1) in
-      swept-sound n m (not-false (running c) (first-clear 11 (not (running c)) [] (λ z. omega arith) (after5 .1) .0))
-  core-kept (Collect p) m e = core-collect c ok
-  core-kept (Map p page frame) m e = core-map c ok page frame
-  core-kept (Unmap p page) m e = core-unmap c ok page
-  core-kept (Zero p frame) m e =
-      let after4 = first-clear 4 (unnamed p) _ (λ z. omega arith) e in
-      core-zero c ok frame (first-clear 5 (notManager p) _ (λ z. omega arith) (after4 .1) .1)
-  core-kept (Load p a off d) m e = ok
-  core-kept (Store p a off s) m e = ok
-  core-kept (Narrow p s off len mask d) m e = ok
-  core-kept (Number p d value) m e = ok
-  core-kept (Grant p s to) m e = ok
-  core-kept (Receive p d) m e = ok
+core-kept : (s : State) → coreSound (s .core) ≡ true → {a : Asked} {e : Effect} → Deed s a e → coreSound (e .core) ≡ true
+core-kept s ok (took p base reg permissions low-p low-reg few z) = core-take (s .core) ok p base
+core-kept s ok (recored p k r) = recored-kept (s .core) k ok r
+core-kept s ok (swept p n runs) = core-sweep (s .core) ok n runs
+core-kept s ok (collectedAll p z) = core-collect (s .core) ok
+core-kept s ok (zeroed p frame z) = core-zero (s .core) ok frame z
+core-kept s ok (filled p d from w low g) = ok
+core-kept s ok (loaded p a off d low g) = ok
+core-kept s ok (wrote p a off x low-p low-a g) = ok
+core-kept s ok (granted p x to t) = ok
+core-kept s ok (received p d low) = ok
 
 done-keeps : (s : State) (c : Call) (cells tags : List ℕ) → wellFormed s ≡ true
     → serves (s .core .pages) (length cells) (length tags) ≡ true → first (reasonsOn s c) ≡ 0
@@ -172,11 +146,11 @@ unfolding done
 done-keeps s c cells tags w m e =
     let f = facts s w in
     let x = effectOn s c in
-    let r = reads (s .registers) c in
+    let d = deed s c e in
     formed _
     (record {
-      core = core-kept (s .core) (f .core) (s .mailboxes) r cells tags c m e;
-      mailboxes = mailboxes-kept (x .mailboxes) s (puts-sound (s .core) (s .mailboxes) r c e) (f .mailboxes);
+      core = core-kept s (f .core) d;
+      mailboxes = mailboxes-kept (x .mailboxes) s (puts-sound s d) (f .mailboxes);
       of-registers = length-registers (x .registers) s cells tags ∙ f .of-registers;
       of-mailboxes = length-mailboxes (x .mailboxes) s ∙ f .of-mailboxes;
     })

@@ -10,22 +10,19 @@ use lib.Dec.{ltb}
 use borrow.Author.Tests.{ltb-true, lt-ltb}
 use Rattle.capabilities.specs.Refusals.{first}
 use Rattle.capabilities.proofs.Lists.{length-mapEach}
-use Rattle.capabilities.proofs.Refusals.{first-clear}
 use Rattle.pages.specs.Layer.{serves}
 use Rattle.pages.proofs.Memory.{served}
 use Rattle.pages.proofs.Shows.{length-cleared}
 use Rattle.sweep.specs.Sweep.{sweptTag, sweptTags}
 use Rattle.reservations.specs.Core.{Core}
 use Rattle.calls.specs.declared.Call.{Call}
-use Rattle.calls.specs.declared.Call.the-variants.{Take, Split, Merge, Give, Revoke, Sweep, Collect, Map, Unmap, Zero, Load, Store, Narrow, Number, Grant, Receive}
-use Rattle.words.specs.declared.Slot.{Slot}
 use Rattle.words.specs.Words.{byteOf, collectedRegister, collectedMailbox}
-use Rattle.words.specs.WordReasons.{unnamed, notManager}
 use Rattle.machine.specs.State.{State}
-use Rattle.machine.specs.Reasons.{Reads, reads, reasons}
-use Rattle.machine.specs.Effects.{RegisterChange, keepRegisters, putRegister, fetchInto, collectRegisters, MailboxChange, keepMailboxes, putMailbox, collectMailboxes, MemoryChange, keepMemory, writeWord, clearFrame, sweepCells, effect}
+use Rattle.machine.specs.Roles.{Asked}
+use Rattle.machine.specs.Effects.{RegisterChange, keepRegisters, putRegister, fetchInto, collectRegisters, MailboxChange, keepMailboxes, putMailbox, collectMailboxes, MemoryChange, keepMemory, writeWord, clearFrame, sweepCells, Effect}
 use Rattle.machine.specs.Step.{Outcome, refused, fetched, registersAfter, mailboxesAfter, cellsAfter, tagsAfter, done, reasonsOn, effectOn, judged, stepOf}
 use Rattle.machine.proofs.Judging.{judged-by, step-by}
+use Rattle.machine.proofs.Deeds.{Deed, took, recored, swept, collectedAll, zeroed, filled, loaded, wrote, granted, received, deed}
 use Rattle.machine.proofs.PagesKept.{zero-clear}
 
 -- Registers and mailboxes, by what becomes of them.
@@ -66,29 +63,19 @@ module _ (f : ℕ) where
   length-tags (clearFrame frame) c cells tags n h = length-cleared frame tags (omega (arith, ltb-true (frame .0) f h))
   length-tags (sweepCells r from upto) c cells tags n h = length-mapEach (sweptTag (c .pages .frames) r from upto cells) 0 tags
 
--- Of the sixteen kinds zero alone clears a frame; refusal 12 keeps it below F.
-clears-below : (c : Core) (mail : List Slot) (r : Reads) (call : Call) → first (reasons c mail r call) ≡ 0
-    → clearsBelow (c .pages .f) (effect c mail r call .memory) ≡ true
-unfolding clearsBelow reasons effect
-clears-below c mail r (Take p base reg) e = refl
-clears-below c mail r (Split p base len) e = refl
-clears-below c mail r (Merge p base) e = refl
-clears-below c mail r (Give p base to) e = refl
-clears-below c mail r (Revoke p base) e = refl
-clears-below c mail r (Sweep p n) e = refl
-clears-below c mail r (Collect p) e = refl
-clears-below c mail r (Map p page frame) e = refl
-clears-below c mail r (Unmap p page) e = refl
-clears-below c mail r (Zero p frame) e =
-    let after4 = first-clear 4 (unnamed p) _ (λ z. omega arith) e in
-    let after5 = first-clear 5 (notManager p) _ (λ z. omega arith) (after4 .1) in
-    lt-ltb (frame .0) (c .pages .f) (zero-clear (c .pages) frame (after5 .1) .0)
-clears-below c mail r (Load p a off d) e = refl
-clears-below c mail r (Store p a off s) e = refl
-clears-below c mail r (Narrow p s off len mask d) e = refl
-clears-below c mail r (Number p d value) e = refl
-clears-below c mail r (Grant p s to) e = refl
-clears-below c mail r (Receive p d) e = refl
+-- Zero alone clears a frame; refusal 12 keeps it below F.
+clears-below : (s : State) {a : Asked} {e : Effect} → Deed s a e → clearsBelow (s .core .pages .f) (e .memory) ≡ true
+unfolding clearsBelow
+clears-below s (took p base reg permissions low-p low-reg few z) = refl
+clears-below s (recored p k r) = refl
+clears-below s (swept p n runs) = refl
+clears-below s (collectedAll p z) = refl
+clears-below s (zeroed p frame z) = lt-ltb (frame .0) (s .core .pages .f) (zero-clear (s .core .pages) frame z .0)
+clears-below s (filled p d from w low g) = refl
+clears-below s (loaded p a off d low g) = refl
+clears-below s (wrote p a off x low-p low-a g) = refl
+clears-below s (granted p x to t) = refl
+clears-below s (received p d low) = refl
 
 -- An outcome with as many registers, mailboxes, cells and tags as were given.
 pub record Sized (s : State) (cells tags : List ℕ) (o : Outcome) : Type 0 where
@@ -108,7 +95,7 @@ done-sized s c cells tags m e =
     let (n, o) = served (s .core .pages) (length cells) (length tags) m in
     let f = s .core .pages .f in
     let x = effectOn s c in
-    let low = clears-below (s .core) (s .mailboxes) (reads (s .registers) c) c e in
+    let low = clears-below s (deed s c e) in
     record {
       of-registers = length-registers (x .registers) s cells tags;
       of-mailboxes = length-mailboxes (x .mailboxes) s;

@@ -1,5 +1,7 @@
 pub mod Ruled
 pub mod Judging
+pub mod Found
+pub mod Deeds
 pub mod Lowest
 pub mod Written
 pub mod Dependence

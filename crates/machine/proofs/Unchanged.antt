@@ -17,12 +17,13 @@ use Rattle.table.specs.Find.{findOf}
 use Rattle.reservations.specs.Core.{Core}
 use Rattle.reservations.specs.Revocation.{revokeOf, revokeAt, revokeReasons, collectOf, collected, collectReasons}
 use Rattle.calls.specs.declared.Call.{Call}
-use Rattle.calls.specs.declared.Call.the-variants.{Take, Split, Merge, Give, Revoke, Sweep, Collect, Map, Unmap, Zero, Load, Store, Narrow, Number, Grant, Receive}
 use Rattle.machine.specs.State.{State}
-use Rattle.machine.specs.Effects.{effect}
-use Rattle.machine.specs.Step.{done, effectOn, stepOf}
+use Rattle.machine.specs.Roles.{Asked}
+use Rattle.machine.specs.Effects.{Effect}
+use Rattle.machine.specs.Step.{done, reasonsOn, effectOn, stepOf}
 use Rattle.machine.specs.Command.{commandOf}
 use Rattle.machine.proofs.Judging.{step-by}
+use Rattle.machine.proofs.Deeds.{Recored, splits, merges, gives, revokes, maps, unmaps, Deed, took, recored, swept, collectedAll, zeroed, filled, loaded, wrote, granted, received, deed}
 use Rattle.machine.proofs.Commands.{command-by}
 
 pub record Same (p q : Pages) : Type 0 where
@@ -61,32 +62,34 @@ collect-same : (c : Core) → Same (collectOf c .core .pages) (c .pages)
 unfolding collectOf collected releasedOf
 collect-same c = core-same (eqb (first (collectReasons c)) 0) (collected c) c (record { of-v = refl; of-f = refl })
 
-pub effect-same : (s : State) (call : Call) → Same (effectOn s call .core .pages) (s .core .pages)
-unfolding effect withFrame
-effect-same s (Take p base reg) = same (s .core .pages)
-effect-same s (Split p base len) = same (s .core .pages)
-effect-same s (Merge p base) = same (s .core .pages)
-effect-same s (Give p base to) = same (s .core .pages)
-effect-same s (Revoke p base) = revoke-same (s .core) p base
-effect-same s (Sweep p n) = same (s .core .pages)
-effect-same s (Collect p) = collect-same (s .core)
-effect-same s (Map p page frame) = map-same (s .core .pages) page frame
-effect-same s (Unmap p page) = unmap-same (s .core .pages) page
-effect-same s (Zero p frame) = record { of-v = refl; of-f = refl }
-effect-same s (Load p a off d) = same (s .core .pages)
-effect-same s (Store p a off r) = same (s .core .pages)
-effect-same s (Narrow p r off len mask d) = same (s .core .pages)
-effect-same s (Number p d value) = same (s .core .pages)
-effect-same s (Grant p r to) = same (s .core .pages)
-effect-same s (Receive p d) = same (s .core .pages)
+recored-same : (c k : Core) → Recored c k → Same (k .pages) (c .pages)
+recored-same c k (splits p base len z) = same (c .pages)
+recored-same c k (merges p base z) = same (c .pages)
+recored-same c k (gives p base to low z) = same (c .pages)
+recored-same c k (revokes p base z) = revoke-same c p base
+recored-same c k (maps page frame z) = map-same (c .pages) page frame
+recored-same c k (unmaps page z) = unmap-same (c .pages) page
 
-done-same : (s : State) (c : Call) (cells tags : List ℕ) → Same (done s (effectOn s c) cells tags .answer .state .core .pages) (s .core .pages)
+effect-same : (s : State) {a : Asked} {e : Effect} → Deed s a e → Same (e .core .pages) (s .core .pages)
+unfolding withFrame
+effect-same s (took p base reg permissions low-p low-reg few z) = same (s .core .pages)
+effect-same s (recored p k r) = recored-same (s .core) k r
+effect-same s (swept p n runs) = same (s .core .pages)
+effect-same s (collectedAll p z) = collect-same (s .core)
+effect-same s (zeroed p frame z) = record { of-v = refl; of-f = refl }
+effect-same s (filled p d from w low g) = same (s .core .pages)
+effect-same s (loaded p a off d low g) = same (s .core .pages)
+effect-same s (wrote p a off x low-p low-a g) = same (s .core .pages)
+effect-same s (granted p x to t) = same (s .core .pages)
+effect-same s (received p d low) = same (s .core .pages)
+
+done-same : (s : State) (c : Call) (cells tags : List ℕ) → first (reasonsOn s c) ≡ 0 → Same (done s (effectOn s c) cells tags .answer .state .core .pages) (s .core .pages)
 unfolding done
-done-same s c cells tags = effect-same s c
+done-same s c cells tags z = effect-same s (deed s c z)
 
 pub step-same : (s : State) (c : Call) (cells tags : List ℕ) → Same (stepOf s c cells tags .answer .state .core .pages) (s .core .pages)
 step-same s c cells tags =
-    step-by s c cells tags (λ o. Same (o .answer .state .core .pages) (s .core .pages)) (λ g. done-same s c cells tags) (λ k n. same (s .core .pages))
+    step-by s c cells tags (λ o. Same (o .answer .state .core .pages) (s .core .pages)) (λ g. done-same s c cells tags (g .clear)) (λ k n. same (s .core .pages))
 
 pub command-same : (s : State) (input : List ℕ) (at : ℕ) (cells tags : List ℕ) → Same (commandOf s input at cells tags .command .answered .state .core .pages) (s .core .pages)
 command-same s input at cells tags =

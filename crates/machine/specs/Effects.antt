@@ -20,6 +20,7 @@ use Rattle.calls.specs.declared.Call.{Call}
 use Rattle.calls.specs.declared.Call.the-variants.{Take, Split, Merge, Give, Revoke, Sweep, Collect, Map, Unmap, Zero, Load, Store, Narrow, Number, Grant, Receive}
 use Rattle.words.specs.declared.Slot.{Slot}
 use Rattle.words.specs.Words.{slot, empty, mailboxOf, placeNumber, stored}
+use Rattle.machine.specs.Roles.{plainPermissions}
 use Rattle.machine.specs.Reasons.{Reads, addressed}
 
 -- What becomes of the registers: nothing; a word is put into one of a party's; the word at a place of lent memory is,
@@ -72,12 +73,16 @@ pageChange c p = effectOf (withPages c p) keepRegisters keepMailboxes keepMemory
 abbrev pub sweptTo : Core → ℕ → ℕ
 sweptTo c n = reached (c .pages) (c .place) n
 
-unfoldable pub effect : Core → List Slot → Reads → Call → Effect
--- 01 take: "reg gets a capability for it with permissions 15. Answers the length."
-effect c mail r (Take p base reg) =
+-- 01 take: "Open becomes Taken with holder 0; reg gets a capability for it with permissions .. Answers the length."
+abbrev pub taking : Core → ℕ → ℕ → ℕ → ℕ → Effect
+taking c p base reg permissions =
     let taken = takeOf (c .table) p base in
-    effectOf (withTable c (taken .table)) (putRegister p reg (slot (capability base (taken .length) 15) true)) keepMailboxes keepMemory
+    effectOf (withTable c (taken .table)) (putRegister p reg (slot (capability base (taken .length) permissions) true)) keepMailboxes keepMemory
     (slot (taken .length) false)
+
+unfoldable pub effect : Core → List Slot → Reads → Call → Effect
+-- 01 take.
+effect c mail r (Take p base reg) = taking c p base reg plainPermissions
 -- 02 split, 03 merge, 04 give: the table's own rules.
 effect c mail r (Split p base len) = tableChange c (splitOf (c .table) p base len .table)
 effect c mail r (Merge p base) = tableChange c (mergeOf (c .table) p base .table)

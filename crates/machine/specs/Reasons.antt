@@ -15,8 +15,9 @@ use Rattle.calls.specs.declared.Call.the-variants.{Take, Split, Merge, Give, Re
 use Rattle.words.specs.declared.Slot.{Slot}
 use Rattle.words.specs.WordReasons.{unnamed, notManager, loadReasons, storeReasons, narrowReasons, grantReasons, receiveReasons}
 use Rattle.words.specs.Words.{empty, registerOf, mailboxOf}
+use Rattle.machine.specs.Roles.{Sources, fromNone, fromOne, fromTwo, roleOf, callerOf, sourcesOf}
 
--- The registers that a call reads: at most two, in the order of its operands.
+-- The words that a call reads in registers: at most two, in the order of its operands.
 pub record Reads : Type 0 where
   pub one : Slot
   pub two : Slot
@@ -24,24 +25,15 @@ pub record Reads : Type 0 where
 abbrev pub reading : Slot → Slot → Reads
 reading one two = record { one = one; two = two }
 
--- "A call reads the registers that its operands name, save d and the reg of take."
+-- The words in registers of a party.
+abbrev pub wordsIn : List Slot → ℕ → Sources → Reads
+wordsIn registers p fromNone = reading empty empty
+wordsIn registers p (fromOne a) = reading (registerOf registers p a) empty
+wordsIn registers p (fromTwo a s) = reading (registerOf registers p a) (registerOf registers p s)
+
+-- What a call reads: the words in those registers of its caller that its role names.
 abbrev pub reads : List Slot → Call → Reads
-reads registers (Take p base reg) = reading empty empty
-reads registers (Split p base len) = reading empty empty
-reads registers (Merge p base) = reading empty empty
-reads registers (Give p base to) = reading empty empty
-reads registers (Revoke p base) = reading empty empty
-reads registers (Sweep p n) = reading empty empty
-reads registers (Collect p) = reading empty empty
-reads registers (Map p page frame) = reading empty empty
-reads registers (Unmap p page) = reading empty empty
-reads registers (Zero p frame) = reading empty empty
-reads registers (Load p a off d) = reading (registerOf registers p a) empty
-reads registers (Store p a off s) = reading (registerOf registers p a) (registerOf registers p s)
-reads registers (Narrow p s off len mask d) = reading (registerOf registers p s) empty
-reads registers (Number p d value) = reading empty empty
-reads registers (Grant p s to) = reading (registerOf registers p s) empty
-reads registers (Receive p d) = reading empty empty
+reads registers c = wordsIn registers (callerOf c) (sourcesOf (roleOf c .role))
 
 -- The place in lent memory of the cell at base + off of the capability in a.
 unfoldable pub addressed : Core → Slot → ℕ → Place

@@ -5,6 +5,7 @@ use mathlib.Core.Path.{_≡_, refl}
 use lib.ListN.{replicate}
 use Rattle.calls.specs.Commands.{page, frame}
 use Rattle.calls.specs.declared.Call.the-variants.{Take, Split, Merge, Give, Revoke, Sweep, Collect, Map, Unmap, Zero, Load, Store, Narrow, Number, Grant, Receive}
+use Rattle.machine.specs.Roles.{plainPermissions}
 use Rattle.machine.specs.Edges.{all}
 use Rattle.privacy.proofs.Pairs.{Pair, inBoth, inOne, inTwo, same, says, fine, unnoticed, comparing, EachWithin, each-within}
 
@@ -18,9 +19,12 @@ retaken =
       cells = replicate 16 0;
       tags = replicate 16 0;
       before = Zero 0 (frame 0) ∷ Map 0 (page 0) (frame 0) ∷ Split 0 0 16 ∷ Give 0 0 3 ∷ [];
+      take = Take 3 0 0;
       house = 3;
       base = 0;
       reg = 0;
+      permissions = plainPermissions;
+      takes = refl;
       after =
           inOne (Number 3 1 42) fine
           ∷ inTwo (Number 3 1 7) fine
@@ -48,9 +52,12 @@ shared =
       cells = replicate 16 0;
       tags = replicate 16 0;
       before = Zero 0 (frame 0) ∷ Map 0 (page 0) (frame 0) ∷ Split 0 0 8 ∷ Give 0 0 3 ∷ Give 0 8 4 ∷ Take 4 8 0 ∷ [];
+      take = Take 3 0 0;
       house = 3;
       base = 0;
       reg = 0;
+      permissions = plainPermissions;
+      takes = refl;
       after =
           inOne (Number 3 1 42) fine
           ∷ inTwo (Number 3 1 7) fine
@@ -73,9 +80,12 @@ managed =
       cells = replicate 32 0;
       tags = replicate 32 0;
       before = Zero 0 (frame 0) ∷ Map 0 (page 0) (frame 0) ∷ Zero 0 (frame 1) ∷ Map 0 (page 1) (frame 1) ∷ Split 0 0 16 ∷ Give 0 16 5 ∷ Take 5 16 0 ∷ [];
+      take = Take 0 0 2;
       house = 0;
       base = 0;
       reg = 2;
+      permissions = plainPermissions;
+      takes = refl;
       after =
           inOne (Number 0 1 42) fine
           ∷ inTwo (Number 0 1 7) fine
@@ -100,9 +110,12 @@ merged =
       cells = replicate 32 7;
       tags = replicate 32 1;
       before = Zero 0 (frame 0) ∷ Map 0 (page 0) (frame 0) ∷ Zero 0 (frame 1) ∷ Map 0 (page 1) (frame 1) ∷ Split 0 0 16 ∷ Give 0 0 3 ∷ Give 0 16 3 ∷ Take 3 16 5 ∷ [];
+      take = Take 3 0 0;
       house = 3;
       base = 0;
       reg = 0;
+      permissions = plainPermissions;
+      takes = refl;
       after =
           inOne (Number 3 1 42) fine
           ∷ inTwo (Number 3 1 7) fine

@@ -10,8 +10,9 @@ use Rattle.capabilities.specs.Lists.{pick}
 use Rattle.capabilities.proofs.Choice.{pick-yes, pick-no, and-left, and-right}
 use Rattle.calls.specs.declared.Call.{Call}
 use Rattle.machine.specs.State.{State}
+use Rattle.machine.specs.Roles.{Role, takes, collects, fills, stores, grants, plain, roleOf, callerOf}
 use Rattle.histories.specs.Runs.{Machine, outcome, next, run}
-use Rattle.privacy.specs.Rule.{Role, collects, fills, stores, grants, plain, roleOf, callerOf, collecting, strikes, housed, private, Time, lasting, over, ending, until, timeAfter, struck, Left, remaining, left, indiscreet, discreet, told, heard}
+use Rattle.privacy.specs.Rule.{collecting, strikes, housed, private, Time, lasting, over, ending, until, timeAfter, struck, Left, remaining, left, indiscreet, discreet, told, heard}
 
 -- A struck call is the house's, and no collect, so that the time goes on.
 pub struck-housed : (house : ℕ) (t : Time) (m : Machine) (c : Call) → struck house t m c ≡ true → housed house c ≡ true
@@ -20,8 +21,9 @@ struck-housed house (lasting r) m c e = and-left (housed house c) (private r (m 
 struck-housed house over m c e = absurd (false≢true e)
 
 strikes-going : (r : Range) (s : State) (p : ℕ) (role : Role) → strikes r s p role ≡ true → collecting role ≡ false
+strikes-going r s p (takes base reg permissions) e = refl
 strikes-going r s p collects e = absurd (false≢true e)
-strikes-going r s p fills e = refl
+strikes-going r s p (fills from) e = refl
 strikes-going r s p (stores a off x) e = refl
 strikes-going r s p (grants x) e = refl
 strikes-going r s p plain e = refl

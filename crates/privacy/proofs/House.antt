@@ -33,7 +33,7 @@ use Rattle.histories.proofs.Table.{Around}
 use Rattle.histories.proofs.View.{put-each, collected-mailboxes, word-none}
 use Rattle.privacy.specs.Rule.{into}
 use Rattle.privacy.proofs.Fate.{after}
-use Rattle.privacy.proofs.Showing.{Came, old, fresh}
+use Rattle.histories.proofs.Showing.{Came, shownBefore, wasFree}
 use Rattle.privacy.proofs.Relate.{FreeZero, place-low, untouched}
 use Rattle.privacy.proofs.Words.{put-register, collect-register, wordBy, Fits, word-after}
 
@@ -184,11 +184,11 @@ module _ (house : ℕ) (r : Range) (m : Machine) (e : Effect) (h : Housed house 
     (s₁ : RegisterSafe house r m (e .registers)) (s₂ : MailboxSafe r (e .mailboxes)) (s₃ : MemorySafe r m (e .memory)) where
   word : (v at : ℕ) → Came (m .state .core .pages) (e .memory) v at
       → Good r (inside r v) (wordAt (cellsAfter (e .memory) (m .cells)) (tagsAfter (e .memory) (m .state .core) (m .cells) (m .tags)) at)
-  word v at (old q) =
+  word v at (shownBefore q) =
       let low = place-low (m .state .core .pages) ok v at q in
       subst (Good r (inside r v)) (sym (word-after (e .memory) (m .state .core) (m .cells) (m .tags) at (omega arith) (size-tags ∙ sym size-cells) (subst (Fits (e .memory)) (sym size-cells) fits)))
       (word-good r m (e .memory) (m .state .core .pages .frames) v at (wordAt (m .cells) (m .tags) at) q s₃ (h .words v at q))
-  word v at (fresh k i free b place keep) =
+  word v at (wasFree k i free b place keep) =
       let x = zero k i free b in
       subst (Good r (inside r v))
       (sym (untouched m (e .memory) at keep ∙ word-none (m .cells) (m .tags) at (ap (λ j. getD (m .cells) j 0) place ∙ x .0) (ap (λ j. getD (m .tags) j 0) place ∙ x .1)))

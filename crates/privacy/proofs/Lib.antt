@@ -3,13 +3,11 @@ pub mod Examples
 pub mod Needed
 pub mod Glue
 pub mod Fate
-pub mod Showing
 pub mod Words
 pub mod Relate
 pub mod House
-pub mod Reached
-pub mod Sides
 pub mod Tables
+pub mod Sides
 pub mod Steps
 pub mod Twice
 pub mod Main

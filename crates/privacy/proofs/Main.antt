@@ -5,7 +5,7 @@
 -- a call that is left in both (`Twice.both-left`). Induction on the two lists (`Glue`) does the rest. Assumes nothing.
 use Prim.Native.Nat.{ℕ, _+_, _*_, _<_}
 use native.Mathlib.Omega.{arith}
-use mathlib.Core.Bool.{Bool, true, false, _&&_, _||_, true≢false, false≢true}
+use mathlib.Core.Bool.{Bool, true, false, _&&_, true≢false, false≢true}
 use mathlib.Core.List.{List, [], _∷_, _++_}
 use mathlib.Core.Path.{_≡_, refl, sym, ap, subst, _∙_}
 use borrow.Author.Tests.{eq-eqb}
@@ -15,20 +15,17 @@ use Rattle.capabilities.specs.declared.Range.{Range}
 use Rattle.capabilities.specs.Capability.{capability}
 use Rattle.capabilities.specs.Lists.{pick}
 use Rattle.capabilities.specs.Range.{inside}
-use Rattle.capabilities.specs.Refusals.{first, reason}
-use Rattle.capabilities.proofs.Refusals.{first-clear}
-use Rattle.table.specs.Operations.{takeReasons, takeOf, takenRow}
+use Rattle.table.specs.Operations.{takeOf, takenRow}
 use Rattle.table.specs.Rows.{isOpen, live, rangeOf}
 use Rattle.table.proofs.Cells.{inside-made}
 use Rattle.reservations.specs.Core.{Core}
 use Rattle.reservations.specs.Revocation.{coreSound}
 use Rattle.calls.specs.declared.Call.{Call}
-use Rattle.calls.specs.declared.Call.the-variants.{Take}
 use Rattle.words.specs.declared.Slot.{Slot}
 use Rattle.words.specs.Words.{slot, empty, named, registerOf, mailboxOf, wordAt}
-use Rattle.words.specs.WordReasons.{unnamed}
-use Rattle.machine.specs.Reasons.{reasons}
-use Rattle.machine.specs.Effects.{effect}
+use Rattle.machine.specs.Roles.{IsTake}
+use Rattle.machine.specs.Effects.{taking}
+use Rattle.machine.proofs.Deeds.{Taken, taken-by}
 use Rattle.machine.specs.Step.{effectOn, registersAfter, mailboxesAfter, cellsAfter, tagsAfter}
 use Rattle.histories.specs.Inv.{rowAt, Confined, Inv}
 use Rattle.histories.specs.Inv.{Sound as Bounded}
@@ -41,7 +38,6 @@ use Rattle.privacy.specs.Claim.{Privacy}
 use Rattle.privacy.proofs.Fate.{Granted, Fate, down, up, fate, after}
 use Rattle.privacy.proofs.Glue.{Same, glue}
 use Rattle.privacy.proofs.House.{into-cell, Apart, Tame, Good, apart-good, Housed}
-use Rattle.privacy.proofs.Reached.{low-two}
 use Rattle.privacy.proofs.Relate.{Rel, turned, itself, alike}
 use Rattle.privacy.proofs.Steps.{granted-core, granted-next, refused-test, Ok, keeps, alone}
 use Rattle.privacy.proofs.Tables.{Takes, takes, taken-base, taken-length, row-long, one-row}
@@ -62,15 +58,15 @@ module _ (k : Core) (ok : coreSound k ≡ true) (j : ℕ) (used : j < length (li
       go false e = e
 
 -- The house's range after its granted take.
-module _ (m : Machine) (house base reg : ℕ) (inv : Inv m) (g : Granted m (Take house base reg)) where
+module _ (m : Machine) (take : Call) (house base reg permissions : ℕ) (is : IsTake take house base reg permissions) (inv : Inv m) (g : Granted m take) where
   ok : coreSound (m .state .core) ≡ true
-  ok = granted-core m (Take house base reg) g
+  ok = granted-core m take g
 
-  clear : first (reason 4 (unnamed house || unnamed reg) ∷ takeReasons (m .state .core .table) house base) ≡ 0
-  clear = unfold reasons in (g .clear)
+  t : Taken (m .state) house base reg permissions (effectOn (m .state) take)
+  t = taken-by (m .state) take house base reg permissions is (g .clear)
 
   w : Takes (m .state .core) ok house base
-  w = takes (m .state .core) ok house base (first-clear 4 (unnamed house || unnamed reg) (takeReasons (m .state .core .table) house base) (λ x. omega arith) clear .1)
+  w = takes (m .state .core) ok house base (t .clear)
 
   abbrev r : Range
   r = rangeOf (rowAt (m .state .core .table) (w .row))
@@ -86,14 +82,14 @@ module _ (m : Machine) (house base reg : ℕ) (inv : Inv m) (g : Granted m (Take
       go true = none-yet (getD (m .state .registers) (8 * p + d) empty) (inv .registers (8 * p + d))
       go false = λ t. absurd (false≢true t)
 
-  new-tame : Tame r (slot (capability base (takeOf (m .state .core .table) house base .length) 15) true)
-  new-tame t e =
-      let b = taken-base (m .state .core) ok house base w in
-      let l = taken-length (m .state .core) ok house base w in
+  new-tame : Tame r (slot (capability base (takeOf (m .state .core .table) house base .length) permissions) true)
+  new-tame x e =
+      let b = taken-base (m .state .core) ok house base w permissions (t .few) in
+      let l = taken-length (m .state .core) ok house base w permissions (t .few) in
       record { from = omega (arith, b, w .begins); upto = omega (arith, b, l, w .begins, w .long) }
 
-  taken-housed : Housed house r (after m (effectOn (m .state) (Take house base reg)))
-  unfolding after effect registersAfter mailboxesAfter cellsAfter tagsAfter mailboxOf
+  taken-housed : Housed house r (after m (taking (m .state .core) house base reg permissions))
+  unfolding after registersAfter mailboxesAfter cellsAfter tagsAfter mailboxOf
   taken-housed =
       let row = row-first (m .state .core .table) (takeOf (m .state .core .table) house base .table) house base (w .row) 1 (takenRow (rowAt (m .state .core .table) (w .row))) [] (w .replaced) in
       record {
@@ -107,8 +103,8 @@ module _ (m : Machine) (house base reg : ℕ) (inv : Inv m) (g : Granted m (Take
               upto = omega (arith, ap (λ x. x .base) (row .1), ap (λ x. x .length) (row .1));
             };
         registers =
-            put-register (λ q x. Good r (eqb q house) x) (m .state .registers) house reg (slot (capability base (takeOf (m .state .core .table) house base .length) 15) true) (low-two house reg (takeReasons (m .state .core .table) house base) clear .1)
-            (subst (λ b. Good r b (slot (capability base (takeOf (m .state .core .table) house base .length) 15) true)) (sym (eq-eqb house house refl)) new-tame)
+            put-register (λ q x. Good r (eqb q house) x) (m .state .registers) house reg (slot (capability base (takeOf (m .state .core .table) house base .length) permissions) true) (t .register)
+            (subst (λ b. Good r b (slot (capability base (takeOf (m .state .core .table) house base .length) permissions) true)) (sym (eq-eqb house house refl)) new-tame)
             (λ q d. apart-good r (eqb q house) (registerOf (m .state .registers) q d) (register-none-yet q d));
         mailboxes = λ p. none-yet (getD (m .state .mailboxes) p empty) (inv .mailboxes p);
         words =
@@ -120,18 +116,19 @@ module _ (m : Machine) (house base reg : ℕ) (inv : Inv m) (g : Granted m (Take
   unfolding takenRange
   range-is = ap (λ x. rangeOf x) (w .named)
 
-  pub take-housed : Housed house (takenRange (m .state .core .table) house base) (next m (Take house base reg))
-  take-housed = subst (λ x. Housed house x (next m (Take house base reg))) (sym range-is) (subst (λ x. Housed house r x) (sym (granted-next m (Take house base reg) g)) taken-housed)
+  pub take-housed : Housed house (takenRange (m .state .core .table) house base) (next m take)
+  take-housed = subst (λ x. Housed house x (next m take)) (sym range-is) (subst (λ x. Housed house r x) (sym (granted-next m take g ∙ ap (after m) (t .is))) taken-housed)
 
-pub take-ok : (m : Machine) (house base reg : ℕ) → Inv m → granted m (Take house base reg) ≡ true → Ok house (lasting (takenRange (m .state .core .table) house base)) (next m (Take house base reg))
-take-ok m house base reg inv t = go (fate m (Take house base reg))
+pub take-ok : (m : Machine) (take : Call) (house base reg permissions : ℕ) → IsTake take house base reg permissions → Inv m → granted m take ≡ true
+    → Ok house (lasting (takenRange (m .state .core .table) house base)) (next m take)
+take-ok m take house base reg permissions is inv t = go (fate m take)
   where
-    go : Fate m (Take house base reg) → Ok house (lasting (takenRange (m .state .core .table) house base)) (next m (Take house base reg))
-    go (down k n e q) = absurd (true≢false (sym t ∙ refused-test m (Take house base reg) k n e))
+    go : Fate m take → Ok house (lasting (takenRange (m .state .core .table) house base)) (next m take)
+    go (down k n e q) = absurd (true≢false (sym t ∙ refused-test m take k n e))
     go (up e g) =
         record {
-          inv = inv-step m (Take house base reg) inv;
-          own = λ r x. let s : takenRange (m .state .core .table) house base ≡ r = cc in subst (λ y. Housed house y (next m (Take house base reg))) s (take-housed m house base reg inv g);
+          inv = inv-step m take inv;
+          own = λ r x. let s : takenRange (m .state .core .table) house base ≡ r = cc in subst (λ y. Housed house y (next m take)) s (take-housed m take house base reg permissions is inv g);
         }
 
 -- Two lists that begin alike.
@@ -155,12 +152,11 @@ run-first m c l = refl
 
 -- Whatever a house keeps in a range it took, no history lets others notice it.
 pub privacy : Privacy
-privacy v f cells tags before house base reg after₁ after₂ w =
+privacy v f cells tags before c house base reg permissions after₁ after₂ w =
     let m : Machine = run (begun v f cells tags) before in
-    let c : Call = Take house base reg in
     let t : Time = lasting (takenRange (m .state .core .table) house base) in
     let inv : Inv m = inv-run before (begun v f cells tags) (inv-begun v f cells tags) in
-    let ok : Ok house t (next m c) = take-ok m house base reg inv (w .took) in
+    let ok : Ok house t (next m c) = take-ok m c house base reg permissions (w .takes) inv (w .took) in
     let s : Same house (Rel house) t (next m c) (next m c) after₁ after₂ =
     glue house (Ok house) (Rel house) (keeps house) (turned house) (alone house) (both-left house) after₁ after₂ t (next m c) (next m c) ok ok (itself house t (next m c)) (w .same) (w .discreet₁) (w .discreet₂) in
     let ran : (l : List Call) → run (next m c) l ≡ run (begun v f cells tags) (before ++ c ∷ l) = λ l. sym (run-on (begun v f cells tags) before (c ∷ l) ∙ run-first m c l) in

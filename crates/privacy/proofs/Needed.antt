@@ -8,6 +8,7 @@ use lib.ListN.{replicate}
 use Rattle.calls.specs.Commands.{page, frame}
 use Rattle.calls.specs.declared.Call.{Call}
 use Rattle.calls.specs.declared.Call.the-variants.{Take, Split, Give, Revoke, Sweep, Collect, Map, Unmap, Zero, Load, Store, Number, Grant, Receive}
+use Rattle.machine.specs.Roles.{plainPermissions}
 use Rattle.machine.specs.Edges.{all}
 use Rattle.privacy.proofs.Pairs.{Entry, inBoth, inOne, inTwo, same, says, fine, Pair, unguarded, unequal, differing, comparing}
 
@@ -26,9 +27,12 @@ kept after =
       cells = replicate 32 0;
       tags = replicate 32 0;
       before = before;
+      take = Take 3 0 0;
       house = 3;
       base = 0;
       reg = 0;
+      permissions = plainPermissions;
+      takes = refl;
       after = inOne (Number 3 1 42) fine ∷ inTwo (Number 3 1 7) fine ∷ same (Store 3 0 5 1) fine ∷ after;
     }
 

@@ -8,18 +8,18 @@ use borrow.Author.Tests.{eqb-true}
 use lib.Dec.{eqb}
 use lib.ListN.{length}
 use Rattle.capabilities.specs.Lists.{pick}
-use Rattle.capabilities.proofs.Choice.{and-left, and-right, both}
+use Rattle.capabilities.proofs.Choice.{and-left, and-right}
 use Rattle.calls.specs.declared.Call.{Call}
-use Rattle.calls.specs.declared.Call.the-variants.{Take}
 use Rattle.words.specs.declared.Slot.{Slot}
 use Rattle.words.specs.Words.{slot, registerOf}
 use Rattle.machine.specs.Formed.{startOf}
+use Rattle.machine.specs.Roles.{IsTake}
 use Rattle.machine.specs.Reasons.{Reads, reading}
 use Rattle.machine.specs.Edges.{all}
 use Rattle.machine.proofs.Computing.{computing}
 use Rattle.histories.specs.Runs.{Machine, outcome, next, run, begun}
 use Rattle.histories.specs.Live.{virtual, wordIn}
-use Rattle.privacy.specs.Rule.{granted, housed, Time, takenRange, ending, until, timeAfter, into, aimed, struck, Left, remaining, left, indiscreet, discreet, Told, told}
+use Rattle.privacy.specs.Rule.{granted, housed, Time, takenRange, ending, until, into, aimed, struck, Left, remaining, left, indiscreet, discreet, Told, told}
 use Rattle.privacy.specs.Claim.{Within, atTake, afterTake, time}
 
 -- A call of both lists, with its answer in each; or of the first or the second alone, with its answer.
@@ -104,27 +104,30 @@ noticed house (inBoth c a b ∷ l) = (not (housed house c) && not (sameTold a b)
 noticed house (inOne c a ∷ l) = noticed house l
 noticed house (inTwo c a ∷ l) = noticed house l
 
--- V, F and lent memory; the calls before the take; the house, and base and reg of its take; and what comes after.
+-- V, F and lent memory; the calls before the take; the take, with its party, which is the house, and its operands; and what comes after.
 pub record Pair : Type 0 where
   pub v : ℕ
   pub f : ℕ
   pub cells : List ℕ
   pub tags : List ℕ
   pub before : List Call
+  pub take : Call
   pub house : ℕ
   pub base : ℕ
   pub reg : ℕ
+  pub permissions : ℕ
+  pub takes : IsTake take house base reg permissions
   pub after : List Entry
 
 abbrev timeOf : Pair → Time
-timeOf p = time (p .v) (p .f) (p .cells) (p .tags) (p .before) (p .house) (p .base) (p .reg)
+timeOf p = time (p .v) (p .f) (p .cells) (p .tags) (p .before) (p .take) (p .house) (p .base) (p .reg) (p .permissions)
 
 -- What the take gets, and what it leaves.
 abbrev atTakeOf : Pair → Machine
-atTakeOf p = atTake (p .v) (p .f) (p .cells) (p .tags) (p .before) (p .house) (p .base) (p .reg)
+atTakeOf p = atTake (p .v) (p .f) (p .cells) (p .tags) (p .before) (p .take) (p .house) (p .base) (p .reg) (p .permissions)
 
 abbrev afterTakeOf : Pair → Machine
-afterTakeOf p = afterTake (p .v) (p .f) (p .cells) (p .tags) (p .before) (p .house) (p .base) (p .reg)
+afterTakeOf p = afterTake (p .v) (p .f) (p .cells) (p .tags) (p .before) (p .take) (p .house) (p .base) (p .reg) (p .permissions)
 
 unfoldable pub met : Pair → Met
 met p = walk (p .house) (timeOf p) (afterTakeOf p) (timeOf p) (afterTakeOf p) (p .after)
@@ -136,7 +139,7 @@ guarded p = discreet (p .house) (timeOf p) (afterTakeOf p) (ones (p .after)) && 
 -- The start and the take are granted, over memory of the right size.
 unfoldable pub begins : Pair → Bool
 begins p =
-    (eqb (startOf (p .v) (p .f) .code) 0 && granted (atTakeOf p) (Take (p .house) (p .base) (p .reg)))
+    (eqb (startOf (p .v) (p .f) .code) 0 && granted (atTakeOf p) (p .take))
     && (eqb (length (p .cells)) (16 * p .f) && eqb (length (p .tags)) (16 * p .f))
 
 -- Besides, the answers are those written, and the others notice nothing; or they notice.
@@ -221,7 +224,7 @@ left-same house t g u h (inTwo c a ∷ l) e f =
 
 -- A pair that meets all is within the claim.
 abbrev pub WithinOf : Pair → Type 0
-WithinOf p = Within (p .v) (p .f) (p .cells) (p .tags) (p .before) (p .house) (p .base) (p .reg) (ones (p .after)) (twos (p .after))
+WithinOf p = Within (p .v) (p .f) (p .cells) (p .tags) (p .before) (p .take) (p .house) (p .base) (p .reg) (p .permissions) (ones (p .after)) (twos (p .after))
 
 pub within : (p : Pair) → unnoticed p ≡ true → WithinOf p
 unfolding unnoticed met guarded begins
@@ -232,7 +235,7 @@ within p e =
     let quiet = and-right same (guarded p) asked in
     let start = and-left (begins p) (met p .answered && alike (noticed (p .house) (p .after)) false) (and-right (same && guarded p) (shows false p) e) in
     let code = eqb (startOf (p .v) (p .f) .code) 0 in
-    let took = granted (atTakeOf p) (Take (p .house) (p .base) (p .reg)) in
+    let took = granted (atTakeOf p) (p .take) in
     let cells = eqb (length (p .cells)) (16 * p .f) in
     let tags = eqb (length (p .tags)) (16 * p .f) in
     let grants = and-left (code && took) (cells && tags) start in
@@ -244,6 +247,7 @@ within p e =
             of-cells = eqb-true (length (p .cells)) (16 * p .f) (and-left cells tags sized);
             of-tags = eqb-true (length (p .tags)) (16 * p .f) (and-right cells tags sized);
           };
+      takes = p .takes;
       took = and-right code took grants;
       same = left-same (p .house) (timeOf p) (afterTakeOf p) (timeOf p) (afterTakeOf p) (p .after) (and-left (met p .calls) (met p .registers) left) (and-right (met p .calls) (met p .registers) left);
       discreet₁ = and-left (discreet (p .house) (timeOf p) (afterTakeOf p) (ones (p .after))) (discreet (p .house) (timeOf p) (afterTakeOf p) (twos (p .after))) quiet;

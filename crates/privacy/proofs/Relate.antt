@@ -20,7 +20,7 @@ use Rattle.histories.specs.Runs.{Machine}
 use Rattle.histories.proofs.View.{seen, seen-low, word-none}
 use Rattle.privacy.specs.Rule.{Time, hidden, shown, sightAt, sight, Alike}
 use Rattle.privacy.proofs.Fate.{after}
-use Rattle.privacy.proofs.Showing.{Came, old, fresh}
+use Rattle.histories.proofs.Showing.{Came, shownBefore, wasFree}
 use Rattle.privacy.proofs.Words.{put-same, collect-register, wordBy, Fits, word-after, cells-long, tags-long}
 
 -- E: the cores, all mailboxes and the registers of every other party are equal. O: every Mapped cell that is not hidden is.
@@ -141,13 +141,13 @@ module _ (house : ℕ) (t u : Time) (g h : Machine) (e : Effect) (r : Rel house 
   word : (v at : ℕ) → hidden t v ≡ false → Came (g .state .core .pages) (e .memory) v at
       → wordAt (cellsAfter (e .memory) (g .cells)) (tagsAfter (e .memory) (g .state .core) (g .cells) (g .tags)) at
       ≡ wordAt (cellsAfter (e .memory) (h .cells)) (tagsAfter (e .memory) (h .state .core) (h .cells) (h .tags)) at
-  word v at n (old q) =
+  word v at n (shownBefore q) =
       let low = place-low (g .state .core .pages) ok v at q in
       word-after (e .memory) (g .state .core) (g .cells) (g .tags) at (omega arith) (size-tags ∙ sym size-cells) fits₁
       ∙ ap (wordBy (e .memory) (g .state .core .pages .frames) at) (r .words v at q n)
       ∙ ap (λ k. wordBy (e .memory) (k .pages .frames) at (wordAt (h .cells) (h .tags) at)) (r .core)
       ∙ sym (word-after (e .memory) (h .state .core) (h .cells) (h .tags) at (omega (arith, r .of-cells)) (sym (r .of-tags) ∙ size-tags ∙ sym size-cells ∙ r .of-cells) fits₃)
-  word v at n (fresh k i free b place keep) =
+  word v at n (wasFree k i free b place keep) =
       let x = zero₁ k i free b in
       let y = zero₂ k i (ap (λ c. frameAt (c .pages) k) (sym (r .core)) ∙ free) b in
       untouched g (e .memory) at keep

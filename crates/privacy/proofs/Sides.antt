@@ -2,68 +2,51 @@
 use Prim.Native.Nat.{ℕ, _+_, _*_, _/_, _%_, _<_, _≤_}
 use native.Mathlib.Omega.{arith}
 use mathlib.Core.Bool.{Bool, true, false, not, _&&_, _||_, true≢false, false≢true}
-use mathlib.Core.List.{List, [], _∷_}
 use mathlib.Core.Path.{_≡_, refl, sym, ap, subst, _∙_}
-use borrow.Author.Tests.{eqb-true, eqb-false, eq-eqb, ne-eqb, lt-ltb, leb-false}
+use borrow.Author.Tests.{eqb-true, eqb-false, eq-eqb, ne-eqb, lt-ltb}
 use lib.Dec.{eqb}
 use lib.Bits.{bitAnd, and-le-l}
 use Rattle.capabilities.specs.declared.Range.{Range}
 use Rattle.capabilities.specs.Capability.{baseOf, lengthOf, permissionsOf, narrowed}
 use Rattle.capabilities.specs.Range.{inside}
-use Rattle.capabilities.specs.Refusals.{first, reason}
 use Rattle.capabilities.proofs.Capabilities.{made-base, made-length}
 use Rattle.capabilities.proofs.Choice.{and-right}
-use Rattle.capabilities.proofs.Refusals.{first-clear}
 use Rattle.pages.specs.declared.Place.the-variants.{At}
-use Rattle.pages.specs.Entries.{isDirty}
-use Rattle.pages.specs.Layer.{frameAt}
-use Rattle.pages.specs.Mapping.{lookupOf, dirtyReasons, noFrame}
+use Rattle.pages.specs.Mapping.{lookupOf}
 use Rattle.pages.proofs.Formed.{Sound}
 use Rattle.table.proofs.Cells.{inside-made}
 use Rattle.table.proofs.Truth.{both, and-yes, or-right}
-use Rattle.reservations.specs.Core.{Core}
-use Rattle.reservations.specs.Revocation.{dying}
+use Rattle.reservations.specs.Revocation.{dying, coreSound}
 use Rattle.calls.specs.declared.Call.{Call}
-use Rattle.calls.specs.declared.Call.the-variants.{Take, Split, Merge, Give, Revoke, Sweep, Collect, Map, Unmap, Zero, Load, Store, Narrow, Number, Grant, Receive}
 use Rattle.words.specs.declared.Slot.{Slot}
 use Rattle.words.specs.Words.{slot, named, registerOf, mailboxOf, wordAt, stored}
-use Rattle.words.specs.WordReasons.{unnamed, notManager, mayNotLoad, mayNotStore}
-use Rattle.words.specs.Words.{placeNumber}
 use Rattle.machine.specs.State.{State}
-use Rattle.machine.specs.Reasons.{Reads, reasons, addressed}
-use Rattle.machine.specs.Effects.{effect}
-use Rattle.machine.specs.Step.{reasonsOn, effectOn}
+use Rattle.machine.specs.Roles.{Sources, stores, grants, Asked, asked, roleOf}
+use Rattle.machine.specs.Effects.{Effect}
+use Rattle.machine.proofs.Deeds.{Filling, narrows, numbers, aimedAt, Deed, took, recored, swept, collectedAll, zeroed, filled, loaded, wrote, received}
+use Rattle.machine.proofs.Deeds.{granted as granting}
+use Rattle.machine.proofs.Found.{Addressing, Narrowing}
+use Rattle.machine.proofs.PagesKept.{zero-clear}
 use Rattle.histories.specs.Runs.{Machine}
 use Rattle.histories.specs.Live.{Within}
 use Rattle.histories.proofs.View.{seen, seen-once}
-use Rattle.privacy.specs.Rule.{housed, granted, lasting, into, capabilityInto, aimed, private, struck, betrays, indiscreet}
+use Rattle.privacy.specs.Rule.{housed, granted, lasting, into, capabilityInto, aimed, strikes, private, struck, handsOut, betrays, indiscreet}
 use Rattle.privacy.proofs.House.{into-by, Meets, meets, met, Apart, Tame, Good, apart-good, empty-apart, keep-good, Housed, RegisterSafe, MailboxSafe, MemorySafe}
-use Rattle.privacy.proofs.Reached.{Reached, reached, Narrows, narrows, low-two, low-three}
-use Rattle.privacy.proofs.Showing.{after-five}
+use Rattle.privacy.proofs.Tables.{takes, taken-apart}
 use Rattle.privacy.proofs.Words.{Fits}
 
 -- 0A: the frame lies in memory.
-pub fits-call : (k : Core) (mail : List Slot) (r : Reads) (c : Call) → first (reasons k mail r c) ≡ 0 → Fits (effect k mail r c .memory) (16 * k .pages .f)
-unfolding reasons effect dirtyReasons
-fits-call k mail r (Take p base reg) z = tt
-fits-call k mail r (Split p base len) z = tt
-fits-call k mail r (Merge p base) z = tt
-fits-call k mail r (Give p base to) z = tt
-fits-call k mail r (Revoke p base) z = tt
-fits-call k mail r (Sweep p n) z = tt
-fits-call k mail r (Collect p) z = tt
-fits-call k mail r (Map p page frame) z = tt
-fits-call k mail r (Unmap p page) z = tt
-fits-call k mail r (Zero p frame) z =
-    let y = after-five (unnamed p) (notManager p) (reason 12 (noFrame (k .pages) frame) ∷ reason 14 (not (isDirty (frameAt (k .pages) (frame .0)))) ∷ []) z in
-    let low : frame .0 < k .pages .f = leb-false (k .pages .f) (frame .0) (first-clear 12 (noFrame (k .pages) frame) _ (λ x. omega arith) y .0) in
-    omega arith
-fits-call k mail r (Load p a off d) z = tt
-fits-call k mail r (Store p a off s) z = tt
-fits-call k mail r (Narrow p s off len mask d) z = tt
-fits-call k mail r (Number p d value) z = tt
-fits-call k mail r (Grant p s to) z = tt
-fits-call k mail r (Receive p d) z = tt
+pub fits-deed : (s : State) {a : Asked} {e : Effect} → Deed s a e → Fits (e .memory) (16 * s .core .pages .f)
+fits-deed s (took p base reg permissions low-p low-reg few z) = tt
+fits-deed s (recored p k r) = tt
+fits-deed s (swept p n runs) = tt
+fits-deed s (collectedAll p z) = tt
+fits-deed s (zeroed p frame z) = let (low, dirty) = zero-clear (s .core .pages) frame z in omega arith
+fits-deed s (filled p d from w low g) = tt
+fits-deed s (loaded p a off d low g) = tt
+fits-deed s (wrote p a off x low-p low-a g) = tt
+fits-deed s (granting p x to t) = tt
+fits-deed s (received p d low) = tt
 
 -- No capability into the range, by the test.
 pub test-apart : (r : Range) (w : Slot) → capabilityInto r w ≡ false → Apart r w
@@ -97,7 +80,7 @@ module _ (house : ℕ) (r : Range) (m : Machine) (h : Housed house r m) where
   own-tame p d n = subst (λ b. Good r b (registerOf (s .registers) p d)) (eq-eqb p house n) (h .registers p d)
 
   -- The cell that another party reaches lies outside.
-  pub outside : (p a off : ℕ) → (p ≡ house → ⊥) → Reached (s .core) (registerOf (s .registers) p a) off → inside r (baseOf (registerOf (s .registers) p a .cell) + off) ≡ false
+  pub outside : (p a off : ℕ) → (p ≡ house → ⊥) → Addressing (s .core) (registerOf (s .registers) p a) off → inside r (baseOf (registerOf (s .registers) p a .cell) + off) ≡ false
   outside p a off n k = go (inside r (baseOf (registerOf (s .registers) p a .cell) + off)) refl
     where
       go : (b : Bool) → inside r (baseOf (registerOf (s .registers) p a .cell) + off) ≡ b → inside r (baseOf (registerOf (s .registers) p a .cell) + off) ≡ false
@@ -108,15 +91,15 @@ module _ (house : ℕ) (r : Range) (m : Machine) (h : Housed house r m) where
   good-tame true w g = g
   good-tame false w g = apart-good r true w g
 
-  load-good : (p a off : ℕ) → Reached (s .core) (registerOf (s .registers) p a) off → (b : Bool) → eqb p house ≡ b
-      → Good r b (wordAt (m .cells) (m .tags) (placeNumber (addressed (s .core) (registerOf (s .registers) p a) off)))
-  load-good p a off k true e = good-tame (inside r (baseOf (registerOf (s .registers) p a .cell) + off)) _ (h .words (baseOf (registerOf (s .registers) p a .cell) + off) (placeNumber (addressed (s .core) (registerOf (s .registers) p a) off)) (k .place))
+  load-good : (p a off : ℕ) → Addressing (s .core) (registerOf (s .registers) p a) off → (b : Bool) → eqb p house ≡ b
+      → Good r b (wordAt (m .cells) (m .tags) (aimedAt s p a off))
+  load-good p a off k true e = good-tame (inside r (baseOf (registerOf (s .registers) p a .cell) + off)) _ (h .words (baseOf (registerOf (s .registers) p a .cell) + off) (aimedAt s p a off) (k .place))
   load-good p a off k false e =
-      subst (λ b. Good r b (wordAt (m .cells) (m .tags) (placeNumber (addressed (s .core) (registerOf (s .registers) p a) off)))) (outside p a off (eqb-false p house e) k)
-      (h .words (baseOf (registerOf (s .registers) p a .cell) + off) (placeNumber (addressed (s .core) (registerOf (s .registers) p a) off)) (k .place))
+      subst (λ b. Good r b (wordAt (m .cells) (m .tags) (aimedAt s p a off))) (outside p a off (eqb-false p house e) k)
+      (h .words (baseOf (registerOf (s .registers) p a .cell) + off) (aimedAt s p a off) (k .place))
 
   -- A narrowed capability is into the range only if its source is, and lies within the source.
-  narrow-good : (b : Bool) (w : Slot) (off len mask : ℕ) → Narrows w off len → Good r b w → Good r b (slot (narrowed (w .cell) off len mask) true)
+  narrow-good : (b : Bool) (w : Slot) (off len mask : ℕ) → Narrowing w off len → Good r b w → Good r b (slot (narrowed (w .cell) off len mask) true)
   narrow-good b w off len mask k g = go b g
     where
       at : baseOf (narrowed (w .cell) off len mask) ≡ baseOf (w .cell) + off
@@ -138,69 +121,60 @@ module _ (house : ℕ) (r : Range) (m : Machine) (h : Housed house r m) where
           none true e = absurd (true≢false (sym (source e) ∙ g (k .tagged)))
           none false e = e
 
-  -- What is put into registers; a take's capability is known to be apart.
-  pub register-safe : (c : Call) → first (reasonsOn s c) ≡ 0 → ((p base reg : ℕ) → c ≡ Take p base reg → RegisterSafe house r m (effectOn s (Take p base reg) .registers)) → RegisterSafe house r m (effectOn s c .registers)
-  unfolding reasons effect
-  register-safe (Take p base reg) z t = t p base reg refl
-  register-safe (Split p base len) z t = tt
-  register-safe (Merge p base) z t = tt
-  register-safe (Give p base to) z t = tt
-  register-safe (Revoke p base) z t = tt
-  register-safe (Sweep p n) z t = tt
-  register-safe (Collect p) z t = tt
-  register-safe (Map p page frame) z t = tt
-  register-safe (Unmap p page) z t = tt
-  register-safe (Zero p frame) z t = tt
-  register-safe (Load p a off d) z t =
-      (low-three p a d _ z .2, load-good p a off (reached (s .core) (registerOf (s .registers) p a) off ((unnamed p || unnamed a) || unnamed d) (mayNotLoad (registerOf (s .registers) p a)) z) (eqb p house) refl)
-  register-safe (Store p a off x) z t = tt
-  register-safe (Narrow p x off len mask d) z t =
-      (low-three p x d _ z .2, narrow-good (eqb p house) (registerOf (s .registers) p x) off len mask (narrows (registerOf (s .registers) p x) off len ((unnamed p || unnamed x) || unnamed d) z) (h .registers p x))
-  register-safe (Number p d value) z t = (low-two p d _ z .1, apart-good r (eqb p house) (slot value false) (λ e. absurd (false≢true e)))
-  register-safe (Grant p x to) z t = tt
-  register-safe (Receive p d) z t = (low-two p d _ z .1, apart-good r (eqb p house) (mailboxOf (s .mailboxes) p) (h .mailboxes p))
+  filling-good : (p : ℕ) {from : Sources} {w : Slot} → Filling s p from w → Good r (eqb p house) w
+  filling-good p (narrows x off len mask g) = narrow-good (eqb p house) (registerOf (s .registers) p x) off len mask g (h .registers p x)
+  filling-good p (numbers value) = apart-good r (eqb p house) (slot value false) (λ e. absurd (false≢true e))
 
-  -- The house's discretion.
-  quiet : (c : Call) → indiscreet house (lasting r) m c ≡ false → housed house c ≡ true → granted m c ≡ true → struck house (lasting r) m c ≡ false → betrays r s c ≡ false
-  unfolding indiscreet
-  quiet c q a b d = go (betrays r s c) refl
+  -- What is put into registers.
+  pub register-safe : coreSound (s .core) ≡ true → {a : Asked} {e : Effect} → Deed s a e → RegisterSafe house r m (e .registers)
+  register-safe ok (took p base reg permissions low-p low-reg few z) =
+      (low-reg, apart-good r (eqb p house) _ (taken-apart (s .core) ok p base (takes (s .core) ok p base z) permissions few r (h .around)))
+  register-safe ok (recored p k x) = tt
+  register-safe ok (swept p n runs) = tt
+  register-safe ok (collectedAll p z) = tt
+  register-safe ok (zeroed p frame z) = tt
+  register-safe ok (filled p d from w low g) = (low, filling-good p g)
+  register-safe ok (loaded p a off d low g) = (low, load-good p a off g (eqb p house) refl)
+  register-safe ok (wrote p a off x low-p low-a g) = tt
+  register-safe ok (granting p x to t) = tt
+  register-safe ok (received p d low) = (low, apart-good r (eqb p house) (mailboxOf (s .mailboxes) p) (h .mailboxes p))
+
+  -- The house's discretion: a call of the house's that is not struck betrays nothing.
+  abbrev Quiet : Asked → Type 0
+  Quiet a = eqb (a .caller) house ≡ true → strikes r s (a .caller) (a .role) ≡ false → handsOut r s (a .caller) (a .role) ≡ false
+
+  pub quiet : (c : Call) → indiscreet house (lasting r) m c ≡ false → granted m c ≡ true → Quiet (roleOf c)
+  unfolding indiscreet struck
+  quiet c q b a d = go (betrays r s c) refl
     where
+      unstruck : housed house c && private r s c ≡ false
+      unstruck = ap (λ x. x && private r s c) a ∙ d
+
       go : (x : Bool) → betrays r s c ≡ x → betrays r s c ≡ false
       go true e =
-          absurd (true≢false (sym (both (housed house c && granted m c) (not (struck house (lasting r) m c) && betrays r s c) (both (housed house c) (granted m c) a b)
-          (both (not (struck house (lasting r) m c)) (betrays r s c) (ap not d) e)) ∙ q))
+          absurd (true≢false (sym (both (housed house c && granted m c) (not (housed house c && private r s c) && betrays r s c) (both (housed house c) (granted m c) a b)
+          (both (not (housed house c && private r s c)) (betrays r s c) (ap not unstruck) e)) ∙ q))
       go false e = e
 
-  unstruck : (c : Call) → private r s c ≡ false → housed house c ≡ true → struck house (lasting r) m c ≡ false
-  unfolding struck
-  unstruck c e a = ap (λ b. b && private r s c) a ∙ e
-
-  grant-apart : (p x to : ℕ) → indiscreet house (lasting r) m (Grant p x to) ≡ false → granted m (Grant p x to) ≡ true → (b : Bool) → eqb p house ≡ b → Apart r (registerOf (s .registers) p x)
-  grant-apart p x to q a true e = test-apart r (registerOf (s .registers) p x) (quiet (Grant p x to) q e a (unstruck (Grant p x to) refl e))
-  grant-apart p x to q a false e = other-apart p x (eqb-false p house e)
+  grant-apart : (p x : ℕ) → Quiet (asked p (grants x)) → (b : Bool) → eqb p house ≡ b → Apart r (registerOf (s .registers) p x)
+  grant-apart p x q true e = test-apart r (registerOf (s .registers) p x) (q e refl)
+  grant-apart p x q false e = other-apart p x (eqb-false p house e)
 
   -- What is put into mailboxes.
-  pub mailbox-safe : (c : Call) → indiscreet house (lasting r) m c ≡ false → granted m c ≡ true → MailboxSafe r (effectOn s c .mailboxes)
-  unfolding effect
-  mailbox-safe (Take p base reg) q a = tt
-  mailbox-safe (Split p base len) q a = tt
-  mailbox-safe (Merge p base) q a = tt
-  mailbox-safe (Give p base to) q a = tt
-  mailbox-safe (Revoke p base) q a = tt
-  mailbox-safe (Sweep p n) q a = tt
-  mailbox-safe (Collect p) q a = tt
-  mailbox-safe (Map p page frame) q a = tt
-  mailbox-safe (Unmap p page) q a = tt
-  mailbox-safe (Zero p frame) q a = tt
-  mailbox-safe (Load p b off d) q a = tt
-  mailbox-safe (Store p b off x) q a = tt
-  mailbox-safe (Narrow p x off len mask d) q a = tt
-  mailbox-safe (Number p d value) q a = tt
-  mailbox-safe (Grant p x to) q a = grant-apart p x to q a (eqb p house) refl
-  mailbox-safe (Receive p d) q a = empty-apart r
+  pub mailbox-safe : {a : Asked} {e : Effect} → Deed s a e → Quiet a → MailboxSafe r (e .mailboxes)
+  mailbox-safe (took p base reg permissions low-p low-reg few z) q = tt
+  mailbox-safe (recored p k x) q = tt
+  mailbox-safe (swept p n runs) q = tt
+  mailbox-safe (collectedAll p z) q = tt
+  mailbox-safe (zeroed p frame z) q = tt
+  mailbox-safe (filled p d from w low g) q = tt
+  mailbox-safe (loaded p a off d low g) q = tt
+  mailbox-safe (wrote p a off x low-p low-a g) q = tt
+  mailbox-safe (granting p x to t) q = grant-apart p x q (eqb p house) refl
+  mailbox-safe (received p d low) q = empty-apart r
 
   -- An aimed store that is granted hits a cell of the range.
-  pub aimed-inside : (p a off : ℕ) → p ≡ house → aimed r s p a off ≡ true → Reached (s .core) (registerOf (s .registers) p a) off → inside r (baseOf (registerOf (s .registers) p a .cell) + off) ≡ true
+  pub aimed-inside : (p a off : ℕ) → p ≡ house → aimed r s p a off ≡ true → Addressing (s .core) (registerOf (s .registers) p a) off → inside r (baseOf (registerOf (s .registers) p a .cell) + off) ≡ true
   unfolding aimed
   aimed-inside p a off n e k =
       go (capabilityInto r (registerOf (s .registers) p a)) refl (and-right (named p && named a) (capabilityInto r (registerOf (s .registers) p a) || inside r (baseOf (registerOf (s .registers) p a .cell) + off)) e)
@@ -217,59 +191,44 @@ module _ (house : ℕ) (r : Range) (m : Machine) (h : Housed house r m) where
       or-right (capabilityInto r (registerOf (s .registers) p a)) (inside r (baseOf (registerOf (s .registers) p a .cell) + off))
       (sym (and-yes (named p && named a) (capabilityInto r (registerOf (s .registers) p a) || inside r (baseOf (registerOf (s .registers) p a .cell) + off)) (both (named p) (named a) (lt-ltb p 8 b) (lt-ltb a 8 c))) ∙ e)
 
-  module _ (ok : Sound (s .core .pages)) (p a off x : ℕ) (z : first (reasonsOn s (Store p a off x)) ≡ 0) (q : indiscreet house (lasting r) m (Store p a off x) ≡ false) (g : granted m (Store p a off x) ≡ true) where
-    pub store-reached : Reached (s .core) (registerOf (s .registers) p a) off
-    unfolding reasons
-    store-reached = reached (s .core) (registerOf (s .registers) p a) off ((unnamed p || unnamed a) || unnamed x) (mayNotStore (registerOf (s .registers) p a) (registerOf (s .registers) p x)) z
-
-    pub store-low : (p < 8) × (a < 8) × (x < 8)
-    unfolding reasons
-    store-low = low-three p a x _ z
-
+  module _ (ok : Sound (s .core .pages)) (p a off x : ℕ) (g : Addressing (s .core) (registerOf (s .registers) p a) off) where
     -- It is the one virtual cell with this place.
-    pub store-once : (v : ℕ) → lookupOf (s .core .pages) v ≡ At (placeNumber (addressed (s .core) (registerOf (s .registers) p a) off)) → v ≡ baseOf (registerOf (s .registers) p a .cell) + off
+    pub store-once : (v : ℕ) → lookupOf (s .core .pages) v ≡ At (aimedAt s p a off) → v ≡ baseOf (registerOf (s .registers) p a .cell) + off
     store-once v e =
-        seen-once (s .core .pages) ok (baseOf (registerOf (s .registers) p a .cell) + off) (placeNumber (addressed (s .core) (registerOf (s .registers) p a) off))
-        (seen (s .core .pages) (baseOf (registerOf (s .registers) p a .cell) + off) (placeNumber (addressed (s .core) (registerOf (s .registers) p a) off)) (store-reached .place)) v
-        (seen (s .core .pages) v (placeNumber (addressed (s .core) (registerOf (s .registers) p a) off)) e)
+        seen-once (s .core .pages) ok (baseOf (registerOf (s .registers) p a .cell) + off) (aimedAt s p a off)
+        (seen (s .core .pages) (baseOf (registerOf (s .registers) p a .cell) + off) (aimedAt s p a off) (g .place)) v
+        (seen (s .core .pages) v (aimedAt s p a off) e)
 
-    own-store : p ≡ house → (b : Bool) → aimed r s p a off ≡ b → (v : ℕ) → lookupOf (s .core .pages) v ≡ At (placeNumber (addressed (s .core) (registerOf (s .registers) p a) off)) → Good r (inside r v) (stored (s .core) (registerOf (s .registers) p x))
-    own-store n true e v l =
-        subst (λ b. Good r b (stored (s .core) (registerOf (s .registers) p x))) (sym (ap (inside r) (store-once v l) ∙ aimed-inside p a off n e store-reached))
+    own-store : p < 8 → a < 8 → Quiet (asked p (stores a off x)) → p ≡ house → (b : Bool) → aimed r s p a off ≡ b → (v : ℕ) → lookupOf (s .core .pages) v ≡ At (aimedAt s p a off) → Good r (inside r v) (stored (s .core) (registerOf (s .registers) p x))
+    own-store low-p low-a q n true e v l =
+        subst (λ b. Good r b (stored (s .core) (registerOf (s .registers) p x))) (sym (ap (inside r) (store-once v l) ∙ aimed-inside p a off n e g))
         (keep-good r true (registerOf (s .registers) p x) (not (dying (s .core) (registerOf (s .registers) p x .cell))) (own-tame p x n))
-    own-store n false e v l =
-        let out = not-aimed p a off (store-low .0) (store-low .1) e in
+    own-store low-p low-a q n false e v l =
+        let out = not-aimed p a off low-p low-a e in
         apart-good r (inside r v) (stored (s .core) (registerOf (s .registers) p x))
         (test-apart r (stored (s .core) (registerOf (s .registers) p x))
         (first-no (capabilityInto r (stored (s .core) (registerOf (s .registers) p x))) (not (inside r (baseOf (registerOf (s .registers) p a .cell) + off))) (ap not out)
-        (quiet (Store p a off x) q (eq-eqb p house n) g (unstruck (Store p a off x) e (eq-eqb p house n)))))
+        (q (eq-eqb p house n) e)))
       where
         first-no : (a b : Bool) → b ≡ true → a && b ≡ false → a ≡ false
         first-no true b e f = absurd (true≢false (sym e ∙ f))
         first-no false b e f = refl
 
-    pub store-safe : (b : Bool) → eqb p house ≡ b → (v : ℕ) → lookupOf (s .core .pages) v ≡ At (placeNumber (addressed (s .core) (registerOf (s .registers) p a) off)) → Good r (inside r v) (stored (s .core) (registerOf (s .registers) p x))
-    store-safe true e v l = own-store (eqb-true p house e) (aimed r s p a off) refl v l
-    store-safe false e v l =
+    pub store-safe : p < 8 → a < 8 → Quiet (asked p (stores a off x)) → (b : Bool) → eqb p house ≡ b → (v : ℕ) → lookupOf (s .core .pages) v ≡ At (aimedAt s p a off) → Good r (inside r v) (stored (s .core) (registerOf (s .registers) p x))
+    store-safe low-p low-a q true e v l = own-store low-p low-a q (eqb-true p house e) (aimed r s p a off) refl v l
+    store-safe low-p low-a q false e v l =
         apart-good r (inside r v) (stored (s .core) (registerOf (s .registers) p x))
         (keep-good r false (registerOf (s .registers) p x) (not (dying (s .core) (registerOf (s .registers) p x .cell))) (other-apart p x (eqb-false p house e)))
 
   -- What is written into memory.
-  pub memory-safe : Sound (s .core .pages) → (c : Call) → first (reasonsOn s c) ≡ 0 → indiscreet house (lasting r) m c ≡ false → granted m c ≡ true → MemorySafe r m (effectOn s c .memory)
-  unfolding effect
-  memory-safe ok (Take p base reg) z q g = tt
-  memory-safe ok (Split p base len) z q g = tt
-  memory-safe ok (Merge p base) z q g = tt
-  memory-safe ok (Give p base to) z q g = tt
-  memory-safe ok (Revoke p base) z q g = tt
-  memory-safe ok (Sweep p n) z q g = tt
-  memory-safe ok (Collect p) z q g = tt
-  memory-safe ok (Map p page frame) z q g = tt
-  memory-safe ok (Unmap p page) z q g = tt
-  memory-safe ok (Zero p frame) z q g = tt
-  memory-safe ok (Load p a off d) z q g = tt
-  memory-safe ok (Store p a off x) z q g = store-safe ok p a off x z q g (eqb p house) refl
-  memory-safe ok (Narrow p x off len mask d) z q g = tt
-  memory-safe ok (Number p d value) z q g = tt
-  memory-safe ok (Grant p x to) z q g = tt
-  memory-safe ok (Receive p d) z q g = tt
+  pub memory-safe : Sound (s .core .pages) → {a : Asked} {e : Effect} → Deed s a e → Quiet a → MemorySafe r m (e .memory)
+  memory-safe ok (took p base reg permissions low-p low-reg few z) q = tt
+  memory-safe ok (recored p k x) q = tt
+  memory-safe ok (swept p n runs) q = tt
+  memory-safe ok (collectedAll p z) q = tt
+  memory-safe ok (zeroed p frame z) q = tt
+  memory-safe ok (filled p d from w low g) q = tt
+  memory-safe ok (loaded p a off d low g) q = tt
+  memory-safe ok (wrote p a off x low-p low-a g) q = store-safe ok p a off x g low-p low-a q (eqb p house) refl
+  memory-safe ok (granting p x to t) q = tt
+  memory-safe ok (received p d low) q = tt

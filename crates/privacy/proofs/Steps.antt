@@ -1,50 +1,45 @@
 -- One call, in one history and in two. Assumes nothing.
 use Prim.Native.Nat.{ℕ, _+_, _*_, _<_}
 use native.Mathlib.Omega.{arith}
-use mathlib.Core.Bool.{Bool, true, false, _&&_, _||_, true≢false, false≢true}
-use mathlib.Core.List.{_∷_}
+use mathlib.Core.Bool.{Bool, true, false, _&&_, true≢false, false≢true}
 use mathlib.Core.Path.{_≡_, refl, sym, ap, subst, _∙_}
 use borrow.Author.Tests.{eqb-true, eqb-false, eq-eqb, ne-eqb}
 use lib.Dec.{eqb}
 use lib.ListN.{length, set, length-set}
 use Rattle.capabilities.specs.declared.Range.{Range}
-use Rattle.capabilities.specs.Capability.{permits, narrowed}
+use Rattle.capabilities.specs.Capability.{permits}
 use Rattle.capabilities.specs.Lists.{pick}
 use Rattle.capabilities.specs.Range.{inside}
-use Rattle.capabilities.specs.Refusals.{first, reason}
 use Rattle.capabilities.proofs.Choice.{and-left, and-right}
-use Rattle.capabilities.proofs.Refusals.{first-clear}
 use Rattle.pages.specs.declared.Place.the-variants.{At}
 use Rattle.pages.specs.Mapping.{lookupOf}
 use Rattle.pages.proofs.Formed.{Sound, sound}
 use Rattle.pages.proofs.Memory.{served}
-use Rattle.table.specs.Operations.{takeReasons}
 use Rattle.table.proofs.Truth.{both}
 use Rattle.reservations.specs.Revocation.{revoked, coreSound}
 use Rattle.reservations.proofs.CoreKept.{core-facts}
 use Rattle.calls.specs.declared.Call.{Call}
-use Rattle.calls.specs.declared.Call.the-variants.{Take, Split, Merge, Give, Revoke, Sweep, Collect, Map, Unmap, Zero, Load, Store, Narrow, Number, Grant, Receive}
 use Rattle.words.specs.declared.Slot.{Slot}
-use Rattle.words.specs.Words.{slot, registerOf, wordAt, byteOf, stored}
-use Rattle.words.specs.WordReasons.{unnamed}
-use Rattle.words.specs.Words.{placeNumber}
+use Rattle.words.specs.Words.{registerOf, wordAt, byteOf, stored}
 use Rattle.machine.specs.State.{State}
 use Rattle.machine.specs.Formed.{wellFormed, mailboxesSound, sized}
-use Rattle.machine.specs.Reasons.{reads, reasons, addressed}
-use Rattle.machine.specs.Effects.{effect}
-use Rattle.machine.specs.Step.{reasonsOn, effectOn, registersAfter, mailboxesAfter, cellsAfter, tagsAfter, fetched}
+use Rattle.machine.specs.Roles.{Asked}
+use Rattle.machine.specs.Effects.{Effect}
+use Rattle.machine.specs.Step.{effectOn, registersAfter, mailboxesAfter, cellsAfter, tagsAfter, fetched}
+use Rattle.machine.proofs.Deeds.{aimedAt, Deed, took, recored, swept, collectedAll, zeroed, filled, loaded, wrote, received, deed}
+use Rattle.machine.proofs.Deeds.{granted as granting}
+use Rattle.machine.proofs.Found.{Addressing}
 use Rattle.histories.specs.Inv.{Inv}
 use Rattle.histories.specs.Runs.{Machine, machine, outcome, next}
 use Rattle.histories.proofs.Always.{inv-step}
+use Rattle.histories.proofs.Showing.{came}
 use Rattle.histories.proofs.View.{written-other}
-use Rattle.privacy.specs.Rule.{housed, granted, isCollect, contains, Time, lasting, over, ending, until, aimed, private, struck, indiscreet, hidden}
+use Rattle.privacy.specs.Rule.{housed, granted, isCollect, contains, Time, lasting, over, ending, until, aimed, strikes, private, struck, indiscreet, hidden}
 use Rattle.privacy.proofs.Fate.{codeOf, Granted, Fate, down, up, fate, after, next-done, next-down, code-is}
-use Rattle.privacy.proofs.House.{apart-good, Housed, RegisterSafe, effect-housed}
-use Rattle.privacy.proofs.Reached.{low-two, low-three}
+use Rattle.privacy.proofs.House.{Housed, effect-housed}
 use Rattle.privacy.proofs.Relate.{Rel}
-use Rattle.privacy.proofs.Showing.{came}
-use Rattle.privacy.proofs.Sides.{fits-call, register-safe, mailbox-safe, memory-safe, aimed-inside, store-reached, store-once}
-use Rattle.privacy.proofs.Tables.{takes, taken-apart, around-after}
+use Rattle.privacy.proofs.Sides.{fits-deed, register-safe, quiet, mailbox-safe, memory-safe, aimed-inside, store-once}
+use Rattle.privacy.proofs.Tables.{around-after}
 use Rattle.privacy.proofs.Words.{put-own}
 
 -- What a granted call found.
@@ -85,13 +80,6 @@ module _ (house : ℕ) (r : Range) (m : Machine) (i : Inv m) (h : Housed house r
       go true x = absurd (true≢false (sym (both (isCollect c && granted m c) (contains (revoked (m .state .core)) r) (both (isCollect c) (granted m c) e g) x) ∙ n))
       go false x = x
 
-  take-safe : coreSound (m .state .core) ≡ true → first (reasonsOn (m .state) c) ≡ 0 → (p base reg : ℕ) → c ≡ Take p base reg → RegisterSafe house r m (effectOn (m .state) (Take p base reg) .registers)
-  unfolding reasons effect
-  take-safe ok z p base reg e =
-      let y : first (reason 4 (unnamed p || unnamed reg) ∷ takeReasons (m .state .core .table) p base) ≡ 0 = sym (ap (λ x. first (reasonsOn (m .state) x)) e) ∙ z in
-      let w = takes (m .state .core) ok p base (first-clear 4 (unnamed p || unnamed reg) (takeReasons (m .state .core .table) p base) (λ x. omega arith) y .1) in
-      (low-two p reg _ y .1, apart-good r (eqb p house) _ (taken-apart (m .state .core) ok p base w r (h .around)))
-
   pub housed-next : Housed house r (next m c)
   housed-next = go (fate m c)
     where
@@ -100,14 +88,12 @@ module _ (house : ℕ) (r : Range) (m : Machine) (i : Inv m) (h : Housed house r
       go (up e k) =
           let ok = granted-core m c k in
           let g = granted-test m c e in
+          let d = deed (m .state) c (k .clear) in
+          let still = quiet house r m h c q g in
           subst (λ x. Housed house r x) (sym (granted-next m c k))
-          (effect-housed house r m (effectOn (m .state) c) h (granted-layer m c k) (granted-cells m c k) (granted-tags m c k)
-          (fits-call (m .state .core) (m .state .mailboxes) (reads (m .state .registers) c) c (k .clear)) (i .memory .free)
-          (came (m .state .core) (m .state .mailboxes) (reads (m .state .registers) c) c ok (k .clear))
-          (around-after (m .state .core) ok (m .state .mailboxes) (reads (m .state .registers) c) r c (k .clear) (h .some) (h .around) (going g))
-          (register-safe house r m h c (k .clear) (take-safe ok (k .clear)))
-          (mailbox-safe house r m h c q g)
-          (memory-safe house r m h (granted-layer m c k) c (k .clear) q g))
+          (effect-housed house r m (effectOn (m .state) c) h (granted-layer m c k) (granted-cells m c k) (granted-tags m c k) (fits-deed (m .state) d) (i .memory .free)
+          (came (m .state) ok d) (around-after (m .state) ok d r (h .some) (h .around) (going g)) (register-safe house r m h ok d) (mailbox-safe house r m h d still)
+          (memory-safe house r m h (granted-layer m c k) d still))
 
 -- Every call keeps it.
 pub keeps : (house : ℕ) (t : Time) (m : Machine) (c : Call) → Ok house t m → indiscreet house t m c ≡ false → Ok house (until t m c) (next m c)
@@ -156,47 +142,30 @@ module _ (house : ℕ) (r : Range) (g h : Machine) (own : Housed house r g) (rel
   abbrev s : State
   s = g .state
 
-  store-alone : (p a off x : ℕ) → p ≡ house → aimed r s p a off ≡ true → first (reasonsOn s (Store p a off x)) ≡ 0 → indiscreet house (lasting r) g (Store p a off x) ≡ false → granted g (Store p a off x) ≡ true
-      → (v : ℕ) → lookupOf (s .core .pages) v ≡ At (placeNumber (addressed (s .core) (registerOf (s .registers) p a) off)) → hidden (lasting r) v ≡ true
+  store-alone : (p a off x : ℕ) → p ≡ house → aimed r s p a off ≡ true → Addressing (s .core) (registerOf (s .registers) p a) off
+      → (v : ℕ) → lookupOf (s .core .pages) v ≡ At (aimedAt s p a off) → hidden (lasting r) v ≡ true
   unfolding hidden
-  store-alone p a off x e aim z q y v l =
-      ap (inside r) (store-once house r g own ok p a off x z q y v l) ∙ aimed-inside house r g own p a off e aim (store-reached house r g own ok p a off x z q y)
+  store-alone p a off x e aim k v l = ap (inside r) (store-once house r g own ok p a off x k v l) ∙ aimed-inside house r g own p a off e aim k
 
-  alone-up : (c : Call) → housed house c ≡ true → private r s c ≡ true → first (reasonsOn s c) ≡ 0 → indiscreet house (lasting r) g c ≡ false → granted g c ≡ true → Rel house (lasting r) (after g (effectOn s c)) h
-  unfolding reasons effect after registersAfter mailboxesAfter cellsAfter tagsAfter
-  alone-up (Take p base reg) e f z q y = absurd (false≢true f)
-  alone-up (Split p base len) e f z q y = absurd (false≢true f)
-  alone-up (Merge p base) e f z q y = absurd (false≢true f)
-  alone-up (Give p base to) e f z q y = absurd (false≢true f)
-  alone-up (Revoke p base) e f z q y = absurd (false≢true f)
-  alone-up (Sweep p n) e f z q y = absurd (false≢true f)
-  alone-up (Collect p) e f z q y = absurd (false≢true f)
-  alone-up (Map p page frame) e f z q y = absurd (false≢true f)
-  alone-up (Unmap p page) e f z q y = absurd (false≢true f)
-  alone-up (Zero p frame) e f z q y = absurd (false≢true f)
-  alone-up (Load p a off d) e f z q y =
-      own-register house (lasting r) g h p d (fetched (g .cells) (g .tags) (placeNumber (addressed (s .core) (registerOf (s .registers) p a) off)) (permits (registerOf (s .registers) p a .cell) 4)) rel (eqb-true p house e) (low-three p a d _ z .2)
-  alone-up (Store p a off x) e f z q y =
-      own-write house (lasting r) g h (placeNumber (addressed (s .core) (registerOf (s .registers) p a) off)) (stored (s .core) (registerOf (s .registers) p x)) rel (store-alone p a off x (eqb-true p house e) f z q y)
-  alone-up (Narrow p x off len mask d) e f z q y =
-      own-register house (lasting r) g h p d (slot (narrowed (registerOf (s .registers) p x .cell) off len mask) true) rel (eqb-true p house e) (low-three p x d _ z .2)
-  alone-up (Number p d value) e f z q y = own-register house (lasting r) g h p d (slot value false) rel (eqb-true p house e) (low-two p d _ z .1)
-  alone-up (Grant p x to) e f z q y = absurd (false≢true f)
-  alone-up (Receive p d) e f z q y = absurd (false≢true f)
-
--- A struck call is never indiscreet.
-struck-quiet : (house : ℕ) (t : Time) (m : Machine) (c : Call) → struck house t m c ≡ true → indiscreet house t m c ≡ false
-unfolding indiscreet
-struck-quiet house (lasting r) m c e = rw e (go (housed house c && granted m c))
-  where
-    go : (b : Bool) → b && false ≡ false
-    go true = refl
-    go false = refl
-struck-quiet house over m c e = refl
+  -- What a struck call does.
+  alone-up : {a : Asked} {e : Effect} → Deed s a e → eqb (a .caller) house ≡ true → strikes r s (a .caller) (a .role) ≡ true → Rel house (lasting r) (after g e) h
+  unfolding after registersAfter mailboxesAfter cellsAfter tagsAfter
+  alone-up (took p base reg permissions low-p low-reg few z) e f = absurd (false≢true f)
+  alone-up (recored p k x) e f = absurd (false≢true f)
+  alone-up (swept p n runs) e f = absurd (false≢true f)
+  alone-up (collectedAll p z) e f = absurd (false≢true f)
+  alone-up (zeroed p frame z) e f = absurd (false≢true f)
+  alone-up (filled p d from w low k) e f = own-register house (lasting r) g h p d w rel (eqb-true p house e) low
+  alone-up (loaded p a off d low k) e f =
+      own-register house (lasting r) g h p d (fetched (g .cells) (g .tags) (aimedAt s p a off) (permits (registerOf (s .registers) p a .cell) 4)) rel (eqb-true p house e) low
+  alone-up (wrote p a off x low-p low-a k) e f =
+      own-write house (lasting r) g h (aimedAt s p a off) (stored (s .core) (registerOf (s .registers) p x)) rel (store-alone p a off x (eqb-true p house e) f k)
+  alone-up (granting p x to t) e f = absurd (false≢true f)
+  alone-up (received p d low) e f = absurd (false≢true f)
 
 -- Alone: a struck call in one history keeps the relation.
 pub alone : (house : ℕ) (t : Time) (g h : Machine) (c : Call) → Ok house t g → Rel house t g h → struck house t g c ≡ true → Rel house t (next g c) h
-alone house t g h c ok rel e = go t (ok .own) rel e (struck-quiet house t g c e) (fate g c)
+alone house t g h c ok rel e = go t (ok .own) rel e (fate g c)
   where
     parts : (r : Range) → struck house (lasting r) g c ≡ true → housed house c && private r (g .state) c ≡ true
     parts r e = unfold struck in e
@@ -204,10 +173,10 @@ alone house t g h c ok rel e = go t (ok .own) rel e (struck-quiet house t g c e)
     never : struck house over g c ≡ true → ⊥
     never e = false≢true (unfold struck in e)
 
-    go : (t : Time) → ((r : Range) → t ≡ lasting r → Housed house r g) → Rel house t g h → struck house t g c ≡ true → indiscreet house t g c ≡ false → Fate g c → Rel house t (next g c) h
-    go t own rel e q (down k n z x) = subst (λ y. Rel house t y h) (sym (next-down g c k x)) rel
-    go (lasting r) own rel e q (up z k) =
+    go : (t : Time) → ((r : Range) → t ≡ lasting r → Housed house r g) → Rel house t g h → struck house t g c ≡ true → Fate g c → Rel house t (next g c) h
+    go t own rel e (down k n z x) = subst (λ y. Rel house t y h) (sym (next-down g c k x)) rel
+    go (lasting r) own rel e (up z k) =
         let f = parts r e in
         subst (λ y. Rel house (lasting r) y h) (sym (granted-next g c k))
-        (alone-up house r g h (own r refl) rel (granted-layer g c k) c (and-left (housed house c) (private r (g .state) c) f) (and-right (housed house c) (private r (g .state) c) f) (k .clear) q (granted-test g c z))
-    go over own rel e q (up z k) = absurd (never e)
+        (alone-up house r g h (own r refl) rel (granted-layer g c k) (deed (g .state) c (k .clear)) (and-left (housed house c) (private r (g .state) c) f) (and-right (housed house c) (private r (g .state) c) f))
+    go over own rel e (up z k) = absurd (never e)

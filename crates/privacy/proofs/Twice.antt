@@ -1,6 +1,6 @@
 -- Both: a call that is left in two histories. Assumes nothing.
 use Prim.Native.Nat.{ℕ, _+_}
-use mathlib.Core.Bool.{Bool, true, false, _&&_, _||_, true≢false, false≢true}
+use mathlib.Core.Bool.{Bool, true, false, _&&_, true≢false, false≢true}
 use mathlib.Core.List.{List}
 use mathlib.Core.Path.{_≡_, refl, sym, ap, subst, _∙_}
 use borrow.Author.Tests.{eqb-false, eq-eqb}
@@ -18,45 +18,32 @@ use Rattle.pages.specs.Mapping.{lookupOf}
 use Rattle.reservations.specs.Core.{Core}
 use Rattle.reservations.specs.Revocation.{revoked, coreSound}
 use Rattle.calls.specs.declared.Call.{Call}
-use Rattle.calls.specs.declared.Call.the-variants.{Take, Split, Merge, Give, Revoke, Sweep, Collect, Map, Unmap, Zero, Load, Store, Narrow, Number, Grant, Receive}
 use Rattle.words.specs.declared.Slot.{Slot}
 use Rattle.words.specs.Words.{empty, registerOf}
-use Rattle.words.specs.WordReasons.{unnamed, mayNotLoad}
-use Rattle.words.specs.Words.{placeNumber}
 use Rattle.machine.specs.Formed.{wellFormed, mailboxesSound, mailboxSound}
-use Rattle.machine.specs.Reasons.{Reads, reading, reads, reasons, addressed}
-use Rattle.machine.specs.Effects.{effect}
+use Rattle.machine.specs.Roles.{Sources, fromNone, fromOne, fromTwo, Role, takes, collects, fills, stores, grants, plain, Asked, roleOf, callerOf, sourcesOf}
+use Rattle.machine.specs.Reasons.{Reads, reading, wordsIn, reads, reasons}
+use Rattle.machine.specs.Effects.{Effect}
 use Rattle.machine.specs.Step.{reasonsOn, effectOn, wordAfter}
+use Rattle.machine.proofs.Deeds.{aimedAt, Deed, took, recored, swept, collectedAll, zeroed, filled, loaded, wrote, received, deed, collected-as}
+use Rattle.machine.proofs.Deeds.{granted as granting}
+use Rattle.machine.proofs.Found.{Addressing}
+use Rattle.histories.proofs.Showing.{came}
 use Rattle.histories.specs.Runs.{Machine, next}
-use Rattle.privacy.specs.Rule.{callerOf, housed, granted, isCollect, contains, Time, lasting, over, ending, until, struck, remaining, hidden}
+use Rattle.privacy.specs.Rule.{housed, granted, collecting, isCollect, contains, Time, lasting, over, ending, until, strikes, struck, remaining, hidden}
 use Rattle.privacy.proofs.Fate.{codeOf, Fate, down, up, fate, after, next-down, told-done, told-down, code-is}
 use Rattle.privacy.proofs.Glue.{Both}
 use Rattle.privacy.proofs.House.{Housed}
-use Rattle.privacy.proofs.Reached.{Reached, reached}
 use Rattle.privacy.proofs.Relate.{Rel, FetchSame, answer-same, effect-related}
-use Rattle.privacy.proofs.Showing.{came}
-use Rattle.privacy.proofs.Sides.{fits-call, outside}
+use Rattle.privacy.proofs.Sides.{fits-deed, outside}
 use Rattle.privacy.proofs.Steps.{granted-core, granted-layer, granted-cells, granted-tags, granted-next, refused-test, Ok}
 use Rattle.privacy.proofs.Tables.{collect-hides}
 
 -- A call reads equal registers if those of its caller are equal.
-reads-same : (l m : List Slot) (c : Call) → ((d : ℕ) → registerOf l (callerOf c) d ≡ registerOf m (callerOf c) d) → reads l c ≡ reads m c
-reads-same l m (Take p base reg) e = refl
-reads-same l m (Split p base len) e = refl
-reads-same l m (Merge p base) e = refl
-reads-same l m (Give p base to) e = refl
-reads-same l m (Revoke p base) e = refl
-reads-same l m (Sweep p n) e = refl
-reads-same l m (Collect p) e = refl
-reads-same l m (Map p page frame) e = refl
-reads-same l m (Unmap p page) e = refl
-reads-same l m (Zero p frame) e = refl
-reads-same l m (Load p a off d) e = ap (λ w. reading w empty) (e a)
-reads-same l m (Store p a off s) e = ap (λ w. reading w (registerOf l p s)) (e a) ∙ ap (λ w. reading (registerOf m p a) w) (e s)
-reads-same l m (Narrow p s off len mask d) e = ap (λ w. reading w empty) (e s)
-reads-same l m (Number p d value) e = refl
-reads-same l m (Grant p s to) e = ap (λ w. reading w empty) (e s)
-reads-same l m (Receive p d) e = refl
+words-same : (l m : List Slot) (p : ℕ) (from : Sources) → ((d : ℕ) → registerOf l p d ≡ registerOf m p d) → wordsIn l p from ≡ wordsIn m p from
+words-same l m p fromNone e = refl
+words-same l m p (fromOne a) e = ap (λ w. reading w empty) (e a)
+words-same l m p (fromTwo a s) e = ap (λ w. reading w (registerOf l p s)) (e a) ∙ ap (λ w. reading (registerOf m p a) w) (e s)
 
 -- The code, by what it depends on.
 unfoldable codeBy : Core → List Slot → ℕ → ℕ → ℕ → Reads → Call → ℕ
@@ -90,30 +77,22 @@ until-refused (lasting r) m c e = rw e (go (isCollect c))
 until-refused over m c e = refl
 
 -- A collect that ends the time.
+collects-by : (x : Role) → collecting x ≡ true → x ≡ collects
+collects-by (takes base reg permissions) e = absurd (false≢true e)
+collects-by collects e = refl
+collects-by (fills from) e = absurd (false≢true e)
+collects-by (stores a off x) e = absurd (false≢true e)
+collects-by (grants x) e = absurd (false≢true e)
+collects-by plain e = absurd (false≢true e)
+
 hides-by : (r : Range) (m : Machine) (c : Call) (v at : ℕ) → coreSound (m .state .core) ≡ true → first (reasonsOn (m .state) c) ≡ 0 → ending r m c ≡ true
     → lookupOf (effectOn (m .state) c .core .pages) v ≡ At at → inside r v ≡ false
 unfolding ending
 hides-by r m c v at ok z e q =
     let a = and-left (isCollect c && granted m c) (contains (revoked (m .state .core)) r) e in
-    go c (and-left (isCollect c) (granted m c) a) z q (and-right (isCollect c && granted m c) (contains (revoked (m .state .core)) r) e)
-  where
-    go : (c : Call) → isCollect c ≡ true → first (reasonsOn (m .state) c) ≡ 0 → lookupOf (effectOn (m .state) c .core .pages) v ≡ At at → contains (revoked (m .state .core)) r ≡ true → inside r v ≡ false
-    go (Take p base reg) f z q n = absurd (false≢true f)
-    go (Split p base len) f z q n = absurd (false≢true f)
-    go (Merge p base) f z q n = absurd (false≢true f)
-    go (Give p base to) f z q n = absurd (false≢true f)
-    go (Revoke p base) f z q n = absurd (false≢true f)
-    go (Sweep p x) f z q n = absurd (false≢true f)
-    go (Collect p) f z q n = collect-hides (m .state .core) ok p (m .state .mailboxes) (reading empty empty) r v at z n q
-    go (Map p page frame) f z q n = absurd (false≢true f)
-    go (Unmap p page) f z q n = absurd (false≢true f)
-    go (Zero p frame) f z q n = absurd (false≢true f)
-    go (Load p a off d) f z q n = absurd (false≢true f)
-    go (Store p a off s) f z q n = absurd (false≢true f)
-    go (Narrow p s off len mask d) f z q n = absurd (false≢true f)
-    go (Number p d value) f z q n = absurd (false≢true f)
-    go (Grant p s to) f z q n = absurd (false≢true f)
-    go (Receive p d) f z q n = absurd (false≢true f)
+    let k = collected-as (m .state) (deed (m .state) c z) (collects-by (roleOf c .role) (and-left (isCollect c) (granted m c) a)) in
+    collect-hides (m .state .core) ok (k .clear) r v at (and-right (isCollect c && granted m c) (contains (revoked (m .state .core)) r) e)
+    (subst (λ x. lookupOf (x .core .pages) v ≡ At at) (k .is) q)
 
 hides : (t : Time) (m : Machine) (c : Call) (v at : ℕ) → coreSound (m .state .core) ≡ true → first (reasonsOn (m .state) c) ≡ 0
     → lookupOf (effectOn (m .state) c .core .pages) v ≡ At at → hidden (until t m c) v ≡ false → hidden t v ≡ false
@@ -126,36 +105,35 @@ hides (lasting r) m c v at ok z q e = go (ending r m c) refl e
 hides over m c v at ok z q e = e
 
 module _ (house : ℕ) (t : Time) (g h : Machine) (own : (r : Range) → t ≡ lasting r → Housed house r g) (rel : Rel house t g h) where
+  -- A call that is left is not struck by its role.
+  left-by : (c : Call) → struck house t g c ≡ false → (r : Range) → t ≡ lasting r → eqb (callerOf c) house && strikes r (g .state) (callerOf c) (roleOf c .role) ≡ false
+  unfolding struck
+  left-by c s r e = ap (λ u. struck house u g c) (sym e) ∙ s
+
   -- A load that is left fetches a word that is not hidden.
-  load-seen : (u : Time) → t ≡ u → (p a off d : ℕ) → struck house u g (Load p a off d) ≡ false → Reached (g .state .core) (registerOf (g .state .registers) p a) off → hidden u (baseOf (registerOf (g .state .registers) p a .cell) + off) ≡ false
-  unfolding struck hidden
-  load-seen (lasting r) e p a off d s k = outside house r g (own r e) p a off (λ n. true≢false (sym (eq-eqb p house n) ∙ no-and (eqb p house) s)) k
+  load-seen : (u : Time) → t ≡ u → (p a off : ℕ) → ((r : Range) → t ≡ lasting r → eqb p house && true ≡ false)
+      → Addressing (g .state .core) (registerOf (g .state .registers) p a) off → hidden u (baseOf (registerOf (g .state .registers) p a .cell) + off) ≡ false
+  unfolding hidden
+  load-seen (lasting r) e p a off s k = outside house r g (own r e) p a off (λ n. true≢false (sym (eq-eqb p house n) ∙ no-and (eqb p house) (s r e))) k
     where
       no-and : (b : Bool) → b && true ≡ false → b ≡ false
       no-and true x = x
       no-and false x = refl
-  load-seen over e p a off d s k = refl
+  load-seen over e p a off s k = refl
 
-  fetch-same : (c : Call) → struck house t g c ≡ false → first (reasonsOn (g .state) c) ≡ 0 → FetchSame (effectOn (g .state) c .registers) g h
-  unfolding reasons effect
-  fetch-same (Take p base reg) s z = tt
-  fetch-same (Split p base len) s z = tt
-  fetch-same (Merge p base) s z = tt
-  fetch-same (Give p base to) s z = tt
-  fetch-same (Revoke p base) s z = tt
-  fetch-same (Sweep p n) s z = tt
-  fetch-same (Collect p) s z = tt
-  fetch-same (Map p page frame) s z = tt
-  fetch-same (Unmap p page) s z = tt
-  fetch-same (Zero p frame) s z = tt
-  fetch-same (Load p a off d) s z =
-      let k : Reached (g .state .core) (registerOf (g .state .registers) p a) off = reached (g .state .core) (registerOf (g .state .registers) p a) off ((unnamed p || unnamed a) || unnamed d) (mayNotLoad (registerOf (g .state .registers) p a)) z in
-      rel .words (baseOf (registerOf (g .state .registers) p a .cell) + off) (placeNumber (addressed (g .state .core) (registerOf (g .state .registers) p a) off)) (k .place) (load-seen t refl p a off d s k)
-  fetch-same (Store p a off x) s z = tt
-  fetch-same (Narrow p x off len mask d) s z = tt
-  fetch-same (Number p d value) s z = tt
-  fetch-same (Grant p x to) s z = tt
-  fetch-same (Receive p d) s z = tt
+  fetch-same : {a : Asked} {e : Effect} → Deed (g .state) a e → ((r : Range) → t ≡ lasting r → eqb (a .caller) house && strikes r (g .state) (a .caller) (a .role) ≡ false)
+      → FetchSame (e .registers) g h
+  fetch-same (took p base reg permissions low-p low-reg few z) s = tt
+  fetch-same (recored p k x) s = tt
+  fetch-same (swept p n runs) s = tt
+  fetch-same (collectedAll p z) s = tt
+  fetch-same (zeroed p frame z) s = tt
+  fetch-same (filled p d from w low k) s = tt
+  fetch-same (loaded p a off d low k) s =
+      rel .words (baseOf (registerOf (g .state .registers) p a .cell) + off) (aimedAt (g .state) p a off) (k .place) (load-seen t refl p a off s k)
+  fetch-same (wrote p a off x low-p low-a k) s = tt
+  fetch-same (granting p x to t) s = tt
+  fetch-same (received p d low) s = tt
 
   -- What the call reads is equal.
   reads-left : (c : Call) → remaining house g c ≡ remaining house h c → reads (g .state .registers) c ≡ reads (h .state .registers) c
@@ -166,7 +144,7 @@ module _ (house : ℕ) (t : Time) (g h : Machine) (own : (r : Range) → t ≡ l
       go true x =
           sym (pick-yes (housed house c) (reads (g .state .registers) c) (reading empty empty) x) ∙ ap (λ y. y .registers) e
           ∙ pick-yes (housed house c) (reads (h .state .registers) c) (reading empty empty) x
-      go false x = reads-same (g .state .registers) (h .state .registers) c (λ d. rel .others (callerOf c) d (eqb-false (callerOf c) house x))
+      go false x = words-same (g .state .registers) (h .state .registers) (callerOf c) (sourcesOf (roleOf c .role)) (λ d. rel .others (callerOf c) d (eqb-false (callerOf c) house x))
 
   module _ (c : Call) (e : remaining house g c ≡ remaining house h c) where
     code-same : codeOf g c ≡ codeOf h c
@@ -211,7 +189,8 @@ both-left house t g h c ok₁ ok₂ rel s e = go (fate g c) (fate h c)
     go (up x q) (down l o y w) = absurd (o (sym y ∙ sym same ∙ x))
     go (up x q) (up y w) =
         let z = effect-same house t g h (ok₁ .own) rel c e in
-        let seen = fetch-same house t g h (ok₁ .own) rel c s (q .clear) in
+        let d = deed (g .state) c (q .clear) in
+        let seen = fetch-same house t g h (ok₁ .own) rel d (left-by house t g h (ok₁ .own) rel c s) in
         let right : next h c ≡ after h (effectOn (g .state) c) = granted-next h c w ∙ ap (after h) (sym z) in
         record {
           times = times;
@@ -219,8 +198,8 @@ both-left house t g h c ok₁ ok₂ rel s e = go (fate g c) (fate h c)
               subst (λ m. Rel house (until t g c) m (next h c)) (sym (granted-next g c q))
               (subst (λ m. Rel house (until t g c) (after g (effectOn (g .state) c)) m) (sym right)
               (effect-related house t (until t g c) g h (effectOn (g .state) c) rel (granted-layer g c q) (granted-cells g c q) (granted-tags g c q)
-              (fits-call (g .state .core) (g .state .mailboxes) (reads (g .state .registers) c) c (q .clear)) seen (ok₁ .inv .memory .free) (ok₂ .inv .memory .free)
-              (came (g .state .core) (g .state .mailboxes) (reads (g .state .registers) c) c (granted-core g c q) (q .clear))
+              (fits-deed (g .state) d) seen (ok₁ .inv .memory .free) (ok₂ .inv .memory .free)
+              (came (g .state) (granted-core g c q) d)
               (λ v at. hides t g c v at (granted-core g c q) (q .clear))));
           answer =
               λ n. told-done g c (effectOn (g .state) c) (q .comes)

@@ -5,19 +5,16 @@ use mathlib.Core.Bool.{true}
 use mathlib.Core.List.{List, _∷_, _++_}
 use mathlib.Core.Path.{_≡_}
 use Rattle.calls.specs.declared.Call.{Call}
-use Rattle.calls.specs.declared.Call.the-variants.{Take}
+use Rattle.machine.specs.Roles.{IsTake}
 use Rattle.histories.specs.Runs.{Machine, next, run, begun, Begins}
 use Rattle.privacy.specs.Rule.{granted, Time, lasting, takenRange, timeAfter, left, discreet, heard, Alike}
 
 -- "Both lists begin with the same granted start and equal lent memory of 16 × F cells and tags." From it on, `before` is the
 -- part of a list before the take. Nothing is struck there, and the take is "the same call in both lists", so `before` is the
--- same in both.
-module _ (v f : ℕ) (cells tags : List ℕ) (before : List Call) (house base reg : ℕ) where
+-- same in both. The take is of either kind.
+module _ (v f : ℕ) (cells tags : List ℕ) (before : List Call) (take : Call) (house base reg permissions : ℕ) where
   abbrev pub start : Machine
   start = begun v f cells tags
-
-  abbrev pub take : Call
-  take = Take house base reg
 
   -- What the take gets, and what it leaves.
   abbrev pub atTake : Machine
@@ -37,6 +34,7 @@ module _ (v f : ℕ) (cells tags : List ℕ) (before : List Call) (house base re
   -- What two lists of calls, of which the house's take is granted, have to meet.
   pub record Within (after₁ after₂ : List Call) : Type 0 where
     pub begins : Begins v f cells tags
+    pub takes : IsTake take house base reg permissions
     pub took : granted atTake take ≡ true
     -- "What is left is the same calls with the same operands in the same order, and each of the house's among them reads equal registers."
     pub same : left house time afterTake after₁ ≡ left house time afterTake after₂
@@ -53,6 +51,6 @@ module _ (v f : ℕ) (cells tags : List ℕ) (before : List Call) (house base re
 -- Demand 3: whatever a house keeps in a range it took, no history lets others notice it.
 abbrev pub Privacy : Type 0
 Privacy =
-    (v f : ℕ) (cells tags : List ℕ) (before : List Call) (house base reg : ℕ) (after₁ after₂ : List Call)
-    → Within v f cells tags before house base reg after₁ after₂
-    → Unnoticed v f cells tags before house base reg after₁ after₂
+    (v f : ℕ) (cells tags : List ℕ) (before : List Call) (take : Call) (house base reg permissions : ℕ) (after₁ after₂ : List Call)
+    → Within v f cells tags before take house base reg permissions after₁ after₂
+    → Unnoticed v f cells tags before take house base reg permissions after₁ after₂

@@ -1,4 +1,5 @@
--- Document 01, 'The privacy rule', sentence by sentence. Assumes nothing.
+-- Document 01, 'The privacy rule', sentence by sentence. What it asks of a call is its caller and its role, by the one table of the kinds
+-- of call (machine, Roles). Assumes nothing.
 use Prim.Native.Nat.{ℕ, _+_}
 use mathlib.Core.Bool.{Bool, true, false, not, _&&_, _||_}
 use mathlib.Core.List.{List, [], _∷_}
@@ -16,56 +17,13 @@ use Rattle.table.specs.Find.{findOf, rowOf}
 use Rattle.table.specs.Rows.{rangeOf}
 use Rattle.reservations.specs.Revocation.{revoked}
 use Rattle.calls.specs.declared.Call.{Call}
-use Rattle.calls.specs.declared.Call.the-variants.{Take, Split, Merge, Give, Revoke, Sweep, Collect, Map, Unmap, Zero, Load, Store, Narrow, Number, Grant, Receive}
 use Rattle.words.specs.declared.Slot.{Slot}
 use Rattle.words.specs.Words.{empty, named, registerOf, mailboxOf, wordAt, stored}
 use Rattle.machine.specs.State.{Answered}
 use Rattle.machine.specs.State.{State}
+use Rattle.machine.specs.Roles.{Role, takes, collects, fills, stores, grants, plain, roleOf, callerOf}
 use Rattle.machine.specs.Reasons.{Reads, reading, reads}
 use Rattle.histories.specs.Runs.{Machine, outcome, next}
-
--- What the rule asks of a call besides its caller. The registers named here are the caller's.
-pub data Role : Type 0 where
-  -- A collect, which may end a time.
-  collects : Role
-  -- A load, narrow or number: struck if it is the house's.
-  fills : Role
-  -- A store through register a, at an offset, of register s: struck if it is aimed, and otherwise it may betray.
-  stores : ℕ → ℕ → ℕ → Role
-  -- A grant of register s: it may betray.
-  grants : ℕ → Role
-  -- Any other call.
-  plain : Role
-
-pub record Asked : Type 0 where
-  pub caller : ℕ
-  pub role : Role
-
-abbrev asked : ℕ → Role → Asked
-asked p role = record { caller = p; role = role }
-
--- The one table of the sixteen kinds: the party that makes a call, and the call's role.
-abbrev pub roleOf : Call → Asked
-roleOf (Take p base reg) = asked p plain
-roleOf (Split p base len) = asked p plain
-roleOf (Merge p base) = asked p plain
-roleOf (Give p base to) = asked p plain
-roleOf (Revoke p base) = asked p plain
-roleOf (Sweep p n) = asked p plain
-roleOf (Collect p) = asked p collects
-roleOf (Map p page frame) = asked p plain
-roleOf (Unmap p page) = asked p plain
-roleOf (Zero p frame) = asked p plain
-roleOf (Load p a off d) = asked p fills
-roleOf (Store p a off s) = asked p (stores a off s)
-roleOf (Narrow p s off len mask d) = asked p fills
-roleOf (Number p d value) = asked p fills
-roleOf (Grant p s to) = asked p (grants s)
-roleOf (Receive p d) = asked p plain
-
--- The party that makes a call.
-abbrev pub callerOf : Call → ℕ
-callerOf c = roleOf c .caller
 
 -- "Code 0 means granted".
 abbrev pub granted : Machine → Call → Bool
@@ -89,8 +47,9 @@ abbrev pub contains : Range → Range → Bool
 contains outer inner = leb (outer .base) (inner .base) && leb (inner .base + inner .length) (outer .base + outer .length)
 
 abbrev pub collecting : Role → Bool
+collecting (takes base reg permissions) = false
 collecting collects = true
-collecting fills = false
+collecting (fills from) = false
 collecting (stores a off x) = false
 collecting (grants x) = false
 collecting plain = false
@@ -130,8 +89,9 @@ aimed r s p a off =
 
 -- "The house's loads, narrows, numbers and aimed stores": those of a party p by their role.
 abbrev pub strikes : Range → State → ℕ → Role → Bool
+strikes r s p (takes base reg permissions) = false
 strikes r s p collects = false
-strikes r s p fills = true
+strikes r s p (fills from) = true
 strikes r s p (stores a off x) = aimed r s p a off
 strikes r s p (grants x) = false
 strikes r s p plain = false
@@ -164,8 +124,9 @@ left house t m (c ∷ l) =
 -- A call of party p "grants a capability into the range or stores one to a cell outside", by its role. What the filter strips
 -- of its tag is none.
 abbrev pub handsOut : Range → State → ℕ → Role → Bool
+handsOut r s p (takes base reg permissions) = false
 handsOut r s p collects = false
-handsOut r s p fills = false
+handsOut r s p (fills from) = false
 handsOut r s p (stores a off x) =
     capabilityInto r (stored (s .core) (registerOf (s .registers) p x))
     && not (inside r (baseOf (registerOf (s .registers) p a .cell) + off))

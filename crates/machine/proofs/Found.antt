@@ -1,4 +1,4 @@
--- What a granted call knows of the words that it reads and of the cell that it addresses. Assumes nothing.
+-- What a granted call has found: of the numbers that it names, of the words that it reads and of the cell that it addresses. Assumes nothing.
 use Prim.Native.Nat.{ℕ, _+_, _<_, _≤_}
 use native.Mathlib.Omega.{arith}
 use mathlib.Core.Bool.{Bool, true, false, not, _||_, true≢false}
@@ -19,10 +19,14 @@ use Rattle.words.specs.Words.{named}
 use Rattle.words.specs.Words.{nowhere}
 use Rattle.words.specs.WordReasons.{unnamed, pastEnd, badNarrow}
 use Rattle.words.specs.Words.{placeNumber}
 use Rattle.machine.specs.Reasons.{addressed}
 
 pub named-low : (n : ℕ) → unnamed n ≡ false → n < 8
 named-low n e = ltb-true n 8 (not-false (named n) e)
+
+-- The reasons after refusals 4 and 5.
+pub after-five : (a b : Bool) (rest : List Reason) → first (reason 4 a ∷ reason 5 b ∷ rest) ≡ 0 → first rest ≡ 0
+after-five a b rest e = first-clear 5 b rest (λ z. omega arith) (first-clear 4 a (reason 5 b ∷ rest) (λ z. omega arith) e .1) .1
 
 -- Two and three names under refusal 4.
 pub low-two : (a b : ℕ) (rest : List Reason) → first (reason 4 (unnamed a || unnamed b) ∷ rest) ≡ 0 → (a < 8) × (b < 8)
@@ -37,7 +41,7 @@ low-three a b d rest z =
     (named-low a (j .0), named-low b (j .1), named-low d (k .1))
 
 -- The addressed cell of a load or a store.
-pub record Reached (k : Core) (a : Slot) (off : ℕ) : Type 0 where
+pub record Addressing (k : Core) (a : Slot) (off : ℕ) : Type 0 where
   pub tagged : a .tag ≡ true
   pub short : off < lengthOf (a .cell)
   pub place : lookupOf (k .pages) (baseOf (a .cell) + off) ≡ At (placeNumber (addressed k a off))
@@ -50,9 +54,9 @@ reach : (k : Core) (a : Slot) (off : ℕ) → nowhere (addressed k a off) ≡ fa
 unfolding addressed
 reach k a off e = placed (lookupOf (k .pages) (baseOf (a .cell) + off)) e
 
-pub reached : (k : Core) (a : Slot) (off : ℕ) (u v : Bool)
-    → first (reason 4 u ∷ reason 15 (not (a .tag)) ∷ reason 16 v ∷ reason 17 (pastEnd a off) ∷ reason 18 (nowhere (addressed k a off)) ∷ []) ≡ 0 → Reached k a off
-reached k a off u v z =
+pub addressing : (k : Core) (a : Slot) (off : ℕ) (u v : Bool)
+    → first (reason 4 u ∷ reason 15 (not (a .tag)) ∷ reason 16 v ∷ reason 17 (pastEnd a off) ∷ reason 18 (nowhere (addressed k a off)) ∷ []) ≡ 0 → Addressing k a off
+addressing k a off u v z =
     let z4 = first-clear 4 _ _ (λ x. omega arith) z in
     let z15 = first-clear 15 _ _ (λ x. omega arith) (z4 .1) in
     let z16 = first-clear 16 _ _ (λ x. omega arith) (z15 .1) in
@@ -61,14 +65,14 @@ reached k a off u v z =
     record { tagged = not-false (a .tag) (z15 .0); short = leb-false (lengthOf (a .cell)) off (z17 .0); place = reach k a off (z18 .0) }
 
 -- A narrowing that lies within its source.
-pub record Narrows (s : Slot) (off len : ℕ) : Type 0 where
+pub record Narrowing (s : Slot) (off len : ℕ) : Type 0 where
   pub tagged : s .tag ≡ true
   pub some : 1 ≤ len
   pub ends : off + len ≤ lengthOf (s .cell)
   pub starts : baseOf (s .cell) + off ≤ 65535
 
-pub narrows : (s : Slot) (off len : ℕ) (u : Bool) → first (reason 4 u ∷ reason 15 (not (s .tag)) ∷ reason 17 (pastEnd s off || badNarrow s off len) ∷ []) ≡ 0 → Narrows s off len
-narrows s off len u z =
+pub narrowing : (s : Slot) (off len : ℕ) (u : Bool) → first (reason 4 u ∷ reason 15 (not (s .tag)) ∷ reason 17 (pastEnd s off || badNarrow s off len) ∷ []) ≡ 0 → Narrowing s off len
+narrowing s off len u z =
     let z4 = first-clear 4 _ _ (λ x. omega arith) z in
     let z15 = first-clear 15 _ _ (λ x. omega arith) (z4 .1) in
     let z17 = first-clear 17 (pastEnd s off || badNarrow s off len) _ (λ x. omega arith) (z15 .1) in

@@ -1,0 +1,152 @@
+-- What a granted call does, by the parts of the state that its effect changes, with what the call has found. Laws about granted calls go
+-- by these sorts of effect, of which there are fewer than kinds of call: a new kind is a clause of `deed`, and a sort only if it has none
+-- here. Assumes nothing.
+use Prim.Native.Nat.{ℕ, _<_, _≤_}
+use native.Mathlib.Omega.{arith}
+use mathlib.Core.Bool.{true, false, not, _||_}
+use mathlib.Core.List.{[], _∷_}
+use mathlib.Core.Path.{_≡_, refl, subst}
+use borrow.Author.Tests.{not-false}
+use Rattle.capabilities.specs.Capability.{narrowed, permits}
+use Rattle.capabilities.specs.Refusals.{first, reason}
+use Rattle.capabilities.proofs.Refusals.{first-clear}
+use Rattle.pages.specs.declared.Frame.{Frame}
+use Rattle.pages.specs.declared.FrameState.the-variants.{Free}
+use Rattle.pages.specs.declared.VirtualPage.{VirtualPage}
+use Rattle.pages.specs.Layer.{withFrame}
+use Rattle.pages.specs.Mapping.{mapReasons, mapOf, unmapReasons, unmapOf, dirtyReasons}
+use Rattle.table.specs.Operations.{takeReasons, splitReasons, splitOf, mergeReasons, mergeOf, giveReasons, giveOf}
+use Rattle.reservations.specs.Core.{Core}
+use Rattle.reservations.specs.Revocation.{core, running, revoked, revokeReasons, revokeOf, collectReasons, collectOf}
+use Rattle.sweep.specs.Sweep.{cellsLeft}
+use Rattle.calls.specs.declared.Call.{Call}
+use Rattle.calls.specs.declared.Call.the-variants.{Take, Split, Merge, Give, Revoke, Sweep, Collect, Map, Unmap, Zero, Load, Store, Narrow, Number, Grant, Receive}
+use Rattle.words.specs.declared.Slot.{Slot}
+use Rattle.words.specs.Words.{slot, empty, registerOf, mailboxOf, placeNumber, stored}
+use Rattle.words.specs.WordReasons.{unnamed, notManager, mayNotLoad, mayNotStore}
+use Rattle.machine.specs.State.{State}
+use Rattle.machine.specs.Roles.{Sources, fromNone, fromOne, Role, takes, collects, fills, stores, grants, plain, Asked, asked, plainPermissions, roleOf, IsTake}
+use Rattle.machine.specs.Reasons.{addressed, reasons}
+use Rattle.machine.specs.Effects.{keepRegisters, putRegister, fetchInto, collectRegisters, keepMailboxes, putMailbox, collectMailboxes, keepMemory, writeWord, clearFrame, sweepCells, Effect, effectOf, withTable, withPages, sweptTo, taking, effect}
+use Rattle.machine.specs.Step.{reasonsOn, effectOn}
+use Rattle.machine.proofs.Found.{after-five, low-two, low-three, Addressing, addressing, Narrowing, narrowing}
+
+-- Another core, and nothing else.
+abbrev pub coreAlone : Core → Effect
+coreAlone k = effectOf k keepRegisters keepMailboxes keepMemory empty
+
+-- What a collect does.
+abbrev pub collecting : Core → Effect
+collecting k = effectOf (collectOf k .core) collectRegisters collectMailboxes keepMemory empty
+
+-- What a call makes of the core where it changes nothing else.
+pub data Recored (c : Core) : Core → Type 0 where
+  splits : (p base len : ℕ) → first (splitReasons (c .table) p base len) ≡ 0 → Recored c (withTable c (splitOf (c .table) p base len .table))
+  merges : (p base : ℕ) → first (mergeReasons (c .table) p base) ≡ 0 → Recored c (withTable c (mergeOf (c .table) p base .table))
+  gives : (p base to : ℕ) → to < 8 → first (giveReasons (c .table) p base) ≡ 0 → Recored c (withTable c (giveOf (c .table) p base to .table))
+  revokes : (p base : ℕ) → first (revokeReasons c p base) ≡ 0 → Recored c (revokeOf c p base .core)
+  maps : (page : VirtualPage) (frame : Frame) → first (mapReasons (c .pages) page frame) ≡ 0 → Recored c (withPages c (mapOf (c .pages) page frame .pages))
+  unmaps : (page : VirtualPage) → first (unmapReasons (c .pages) page) ≡ 0 → Recored c (withPages c (unmapOf (c .pages) page .pages))
+
+-- What a call puts into a register of its caller p, where it changes nothing else: a narrower capability, or a number.
+pub data Filling (s : State) (p : ℕ) : Sources → Slot → Type 0 where
+  narrows : (x off len mask : ℕ) → Narrowing (registerOf (s .registers) p x) off len
+      → Filling s p (fromOne x) (slot (narrowed (registerOf (s .registers) p x .cell) off len mask) true)
+  numbers : (value : ℕ) → Filling s p fromNone (slot value false)
+
+-- The place in lent memory of the cell at base + off of the capability in register a of party p.
+abbrev pub aimedAt : State → ℕ → ℕ → ℕ → ℕ
+aimedAt s p a off = placeNumber (addressed (s .core) (registerOf (s .registers) p a) off)
+
+pub data Deed (s : State) : Asked → Effect → Type 0 where
+  took : (p base reg permissions : ℕ) → p < 8 → reg < 8 → permissions ≤ 15 → first (takeReasons (s .core .table) p base) ≡ 0
+      → Deed s (asked p (takes base reg permissions)) (taking (s .core) p base reg permissions)
+  recored : (p : ℕ) (k : Core) → Recored (s .core) k → Deed s (asked p plain) (coreAlone k)
+  swept : (p n : ℕ) → running (s .core) ≡ true
+      → Deed s (asked p plain) (effectOf (core (s .core .pages) (s .core .table) (sweptTo (s .core) n)) keepRegisters keepMailboxes (sweepCells (revoked (s .core)) (s .core .place) (sweptTo (s .core) n)) (slot (cellsLeft (s .core .pages) (sweptTo (s .core) n)) false))
+  collectedAll : (p : ℕ) → first (collectReasons (s .core)) ≡ 0
+      → Deed s (asked p collects) (collecting (s .core))
+  zeroed : (p : ℕ) (frame : Frame) → first (dirtyReasons (s .core .pages) frame) ≡ 0
+      → Deed s (asked p plain) (effectOf (withPages (s .core) (withFrame (s .core .pages) (frame .0) Free)) keepRegisters keepMailboxes (clearFrame frame) empty)
+  filled : (p d : ℕ) (from : Sources) (w : Slot) → d < 8 → Filling s p from w
+      → Deed s (asked p (fills from)) (effectOf (s .core) (putRegister p d w) keepMailboxes keepMemory empty)
+  loaded : (p a off d : ℕ) → d < 8 → Addressing (s .core) (registerOf (s .registers) p a) off
+      → Deed s (asked p (fills (fromOne a))) (effectOf (s .core) (fetchInto p d (aimedAt s p a off) (permits (registerOf (s .registers) p a .cell) 4)) keepMailboxes keepMemory empty)
+  wrote : (p a off x : ℕ) → p < 8 → a < 8 → Addressing (s .core) (registerOf (s .registers) p a) off
+      → Deed s (asked p (stores a off x)) (effectOf (s .core) keepRegisters keepMailboxes (writeWord (aimedAt s p a off) (stored (s .core) (registerOf (s .registers) p x))) empty)
+  granted : (p x to : ℕ) → registerOf (s .registers) p x .tag ≡ true
+      → Deed s (asked p (grants x)) (effectOf (s .core) keepRegisters (putMailbox to (registerOf (s .registers) p x)) keepMemory empty)
+  received : (p d : ℕ) → d < 8
+      → Deed s (asked p plain) (effectOf (s .core) (putRegister p d (mailboxOf (s .mailboxes) p)) (putMailbox p empty) keepMemory (mailboxOf (s .mailboxes) p))
+
+-- Every granted call does one of these.
+pub deed : (s : State) (c : Call) → first (reasonsOn s c) ≡ 0 → Deed s (roleOf c) (effectOn s c)
+unfolding reasons effect
+deed s (Take p base reg) z =
+    let low = low-two p reg (takeReasons (s .core .table) p base) z in
+    took p base reg plainPermissions (low .0) (low .1) (omega arith) (first-clear 4 (unnamed p || unnamed reg) _ (λ x. omega arith) z .1)
+deed s (Split p base len) z = recored p _ (splits p base len (first-clear 4 (unnamed p) _ (λ x. omega arith) z .1))
+deed s (Merge p base) z = recored p _ (merges p base (first-clear 4 (unnamed p) _ (λ x. omega arith) z .1))
+deed s (Give p base to) z =
+    recored p _ (gives p base to (low-two p to (giveReasons (s .core .table) p base) z .1) (first-clear 4 (unnamed p || unnamed to) _ (λ x. omega arith) z .1))
+deed s (Revoke p base) z = recored p _ (revokes p base (after-five (unnamed p) (notManager p) (revokeReasons (s .core) p base) z))
+deed s (Sweep p n) z =
+    swept p n (not-false (running (s .core)) (first-clear 11 (not (running (s .core))) [] (λ x. omega arith) (after-five (unnamed p) (notManager p) (reason 11 (not (running (s .core))) ∷ []) z) .0))
+deed s (Collect p) z = collectedAll p (after-five (unnamed p) (notManager p) (collectReasons (s .core)) z)
+deed s (Map p page frame) z = recored p _ (maps page frame (after-five (unnamed p) (notManager p) (mapReasons (s .core .pages) page frame) z))
+deed s (Unmap p page) z = recored p _ (unmaps page (after-five (unnamed p) (notManager p) (unmapReasons (s .core .pages) page) z))
+deed s (Zero p frame) z = zeroed p frame (after-five (unnamed p) (notManager p) (dirtyReasons (s .core .pages) frame) z)
+deed s (Load p a off d) z =
+    let w = registerOf (s .registers) p a in
+    loaded p a off d (low-three p a d _ z .2) (addressing (s .core) w off ((unnamed p || unnamed a) || unnamed d) (mayNotLoad w) z)
+deed s (Store p a off x) z =
+    let w = registerOf (s .registers) p a in
+    let low = low-three p a x _ z in
+    wrote p a off x (low .0) (low .1) (addressing (s .core) w off ((unnamed p || unnamed a) || unnamed x) (mayNotStore w (registerOf (s .registers) p x)) z)
+deed s (Narrow p x off len mask d) z =
+    filled p d _ _ (low-three p x d _ z .2) (narrows x off len mask (narrowing (registerOf (s .registers) p x) off len ((unnamed p || unnamed x) || unnamed d) z))
+deed s (Number p d value) z = filled p d _ _ (low-two p d [] z .1) (numbers value)
+deed s (Grant p x to) z =
+    let one = first-clear 4 ((unnamed p || unnamed x) || unnamed to) _ (λ x. omega arith) z in
+    granted p x to (not-false (registerOf (s .registers) p x .tag) (first-clear 15 (not (registerOf (s .registers) p x .tag)) _ (λ x. omega arith) (one .1) .0))
+deed s (Receive p d) z = received p d (low-two p d _ z .1)
+
+-- What a granted take, and a granted collect, have found, and their effect.
+pub record Taken (s : State) (p base reg permissions : ℕ) (e : Effect) : Type 0 where
+  pub party : p < 8
+  pub register : reg < 8
+  pub few : permissions ≤ 15
+  pub clear : first (takeReasons (s .core .table) p base) ≡ 0
+  pub is : e ≡ taking (s .core) p base reg permissions
+
+pub record Collected (s : State) (e : Effect) : Type 0 where
+  pub clear : first (collectReasons (s .core)) ≡ 0
+  pub is : e ≡ collecting (s .core)
+
+-- What is known of a granted call by its role alone.
+abbrev Known : State → ℕ → Role → Effect → Type 0
+Known s p (takes base reg permissions) e = Taken s p base reg permissions e
+Known s p collects e = Collected s e
+Known s p (fills from) e = Unit {0}
+Known s p (stores a off x) e = Unit {0}
+Known s p (grants x) e = Unit {0}
+Known s p plain e = Unit {0}
+
+known : (s : State) {a : Asked} {e : Effect} → Deed s a e → Known s (a .caller) (a .role) e
+known s (took p base reg permissions low-p low-reg few z) = record { party = low-p; register = low-reg; few = few; clear = z; is = refl }
+known s (recored p k r) = tt
+known s (swept p n runs) = tt
+known s (collectedAll p z) = record { clear = z; is = refl }
+known s (zeroed p frame z) = tt
+known s (filled p d from w low g) = tt
+known s (loaded p a off d low g) = tt
+known s (wrote p a off x low-p low-a g) = tt
+known s (granted p x to t) = tt
+known s (received p d low) = tt
+
+pub taken-by : (s : State) (c : Call) (p base reg permissions : ℕ) → IsTake c p base reg permissions → first (reasonsOn s c) ≡ 0
+    → Taken s p base reg permissions (effectOn s c)
+taken-by s c p base reg permissions is z = subst (λ a. Known s (a .caller) (a .role) (effectOn s c)) is (known s (deed s c z))
+
+pub collected-as : (s : State) {a : Asked} {e : Effect} → Deed s a e → a .role ≡ collects → Collected s e
+collected-as s {a} {e} d is = subst (λ role. Known s (a .caller) role e) is (known s d)

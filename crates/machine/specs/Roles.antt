@@ -1,0 +1,77 @@
+-- The one table of the kinds of call: the party that makes a call, and the call's role. The registers that it reads, what the privacy
+-- rule says of it and which call is a take are read off this table. Assumes nothing.
+use Prim.Native.Nat.{ℕ}
+use mathlib.Core.Path.{_≡_}
+use Rattle.calls.specs.declared.Call.{Call}
+use Rattle.calls.specs.declared.Call.the-variants.{Take, Split, Merge, Give, Revoke, Sweep, Collect, Map, Unmap, Zero, Load, Store, Narrow, Number, Grant, Receive}
+
+-- The registers of its caller that a call reads: at most two, in the order of its operands.
+pub data Sources : Type 0 where
+  fromNone : Sources
+  fromOne : ℕ → Sources
+  fromTwo : ℕ → ℕ → Sources
+
+-- What a call is, besides its caller. The registers named here are the caller's.
+pub data Role : Type 0 where
+  -- A take of the reservation at base, into a register, with these permissions.
+  takes : ℕ → ℕ → ℕ → Role
+  -- A collect.
+  collects : Role
+  -- A load, narrow or number: it reads these registers and changes one of the caller's.
+  fills : Sources → Role
+  -- A store through register a, at an offset, of register s.
+  stores : ℕ → ℕ → ℕ → Role
+  -- A grant of register s.
+  grants : ℕ → Role
+  -- Any other call. It reads no register.
+  plain : Role
+
+pub record Asked : Type 0 where
+  pub caller : ℕ
+  pub role : Role
+
+abbrev pub asked : ℕ → Role → Asked
+asked p role = record { caller = p; role = role }
+
+-- 01 take: "reg gets a capability for it with permissions 15."
+abbrev pub plainPermissions : ℕ
+plainPermissions = 15
+
+abbrev pub roleOf : Call → Asked
+roleOf (Take p base reg) = asked p (takes base reg plainPermissions)
+roleOf (Split p base len) = asked p plain
+roleOf (Merge p base) = asked p plain
+roleOf (Give p base to) = asked p plain
+roleOf (Revoke p base) = asked p plain
+roleOf (Sweep p n) = asked p plain
+roleOf (Collect p) = asked p collects
+roleOf (Map p page frame) = asked p plain
+roleOf (Unmap p page) = asked p plain
+roleOf (Zero p frame) = asked p plain
+roleOf (Load p a off d) = asked p (fills (fromOne a))
+roleOf (Store p a off s) = asked p (stores a off s)
+roleOf (Narrow p s off len mask d) = asked p (fills (fromOne s))
+roleOf (Number p d value) = asked p (fills fromNone)
+roleOf (Grant p s to) = asked p (grants s)
+roleOf (Receive p d) = asked p plain
+
+-- The party that makes a call.
+abbrev pub callerOf : Call → ℕ
+callerOf c = roleOf c .caller
+
+-- A call is a take: by whom, of the reservation at which base, into which register, with which permissions.
+abbrev pub IsTake : Call → ℕ → ℕ → ℕ → ℕ → Type 0
+IsTake c p base reg permissions = roleOf c ≡ asked p (takes base reg permissions)
+
+-- A call is a collect, of this party.
+abbrev pub IsCollect : Call → ℕ → Type 0
+IsCollect c p = roleOf c ≡ asked p collects
+
+-- "A call reads the registers that its operands name, save d and the reg of take."
+abbrev pub sourcesOf : Role → Sources
+sourcesOf (takes base reg permissions) = fromNone
+sourcesOf collects = fromNone
+sourcesOf (fills from) = from
+sourcesOf (stores a off s) = fromTwo a s
+sourcesOf (grants s) = fromOne s
+sourcesOf plain = fromNone
