@@ -63,6 +63,10 @@ commands =
     ∷ command (1 ∷ 1 ∷ []) (λ x. Receive (x 0) (x 1))
     ∷ []
 
+-- The byte of the last command, which is how many there are.
+abbrev pub lastByte : ℕ
+lastByte = length commands
+
 -- The command of a byte that is one.
 abbrev pub commandOf : ℕ → Command
 commandOf k = getD commands (k - 1) take-command

@@ -9,7 +9,7 @@ ghost use mathlib.Core.Path.{_≡_};
 ghost use Prim.Native.Nat.{_+_, _*_, _^_, _≤_, _<_};
 ghost use lib.ListN.{length, drop};
 ghost use Rattle.calls.specs.Bytes.{number};
-ghost use Rattle.calls.specs.Commands.{callAt, lengthOf, page, frame};
+ghost use Rattle.calls.specs.Commands.{callAt, lengthOf, lastByte, page, frame};
 ghost use Rattle.calls.specs.Reader.{Reads};
 
 // The byte at a place that is there.
@@ -241,9 +241,9 @@ fn receive_at(s: &[u8]) -> Call
     }
 }
 
-// The call of a command's byte and the operands after it. In the last arm only 10, receive, is left.
+// The call of a command's byte and the operands after it. In the last arm only the last command is left.
 fn call_at(command: u8, s: &[u8]) -> Call
-    requires { ⌜ ((1 ≤ command) × (command ≤ 16)) × (lengthOf command ≤ length (now s)) ⌝ }
+    requires { ⌜ ((1 ≤ command) × (command ≤ lastByte)) × (lengthOf command ≤ length (now s)) ⌝ }
     ensures { λ r. ⌜ r ≡ callAt command (now (s .entry)) ⌝ }
 {
     match command {

@@ -1,10 +1,10 @@
 -- Numbers that are a call and numbers that are none, by computing on the definitions.
-use Prim.Native.Nat.{ℕ}
+use Prim.Native.Nat.{ℕ, suc}
 use mathlib.Core.Bool.{true, false}
 use mathlib.Core.List.{List, [], _∷_, map}
 use mathlib.Core.Path.{_≡_, refl}
 use Rattle.capabilities.specs.Lists.{each}
-use Rattle.calls.specs.Commands.{page, frame}
+use Rattle.calls.specs.Commands.{page, frame, lastByte}
 use Rattle.calls.specs.Writer.{writeOf}
 use Rattle.calls.specs.declared.Call.the-variants.{Map}
 use Rattle.operands.specs.Numbers.{numbersOf, callFrom, same, areCall, answered, writeNumbers}
@@ -33,9 +33,9 @@ cases =
     -- six numbers, and eight
     ∷ (6 ∷ 0 ∷ 10 ∷ 0 ∷ 0 ∷ 0 ∷ [])
     ∷ (6 ∷ 0 ∷ 10 ∷ 0 ∷ 0 ∷ 0 ∷ 0 ∷ 0 ∷ [])
-    -- no commands: 0, 17 and 262, which is 6 and a byte too many
+    -- no commands: 0, one past the last, and 262, which is 6 and a byte too many
     ∷ (0 ∷ 0 ∷ 10 ∷ 0 ∷ 0 ∷ 0 ∷ 0 ∷ [])
-    ∷ (17 ∷ 0 ∷ 10 ∷ 0 ∷ 0 ∷ 0 ∷ 0 ∷ [])
+    ∷ (suc lastByte ∷ 0 ∷ 10 ∷ 0 ∷ 0 ∷ 0 ∷ 0 ∷ [])
     ∷ (262 ∷ 0 ∷ 10 ∷ 0 ∷ 0 ∷ 0 ∷ 0 ∷ [])
     ∷ []
 

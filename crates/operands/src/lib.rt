@@ -26,6 +26,27 @@ fn copy(from: &[u64], to: &mut [u64])
     }
 }
 
+// The numbers of calls with a base and a byte or two, the second 0 where there is none.
+fn base_numbers(command: u64, party: u8, base: u16, x: u8, y: u8) -> [u64; 7]
+    ensures { λ r. ⌜ r ≡ command ∷ party ∷ base ∷ x ∷ y ∷ 0 ∷ 0 ∷ [] ⌝ }
+{
+    [command, party as u64, base as u64, x as u64, y as u64, 0, 0]
+}
+
+// The numbers of calls with one operand of two bytes or two, the second 0 where there is none.
+fn range_numbers(command: u64, party: u8, x: u16, y: u16) -> [u64; 7]
+    ensures { λ r. ⌜ r ≡ command ∷ party ∷ x ∷ y ∷ 0 ∷ 0 ∷ 0 ∷ [] ⌝ }
+{
+    [command, party as u64, x as u64, y as u64, 0, 0, 0]
+}
+
+// The numbers of calls with single bytes, two at the most, and 0 where there is none.
+fn byte_numbers(command: u64, party: u8, x: u8, y: u8) -> [u64; 7]
+    ensures { λ r. ⌜ r ≡ command ∷ party ∷ x ∷ y ∷ 0 ∷ 0 ∷ 0 ∷ [] ⌝ }
+{
+    [command, party as u64, x as u64, y as u64, 0, 0, 0]
+}
+
 // The numbers of load and store, which have their operands alike.
 fn access_numbers(command: u64, party: u8, a: u8, off: u16, other: u8) -> [u64; 7]
     ensures { λ r. ⌜ r ≡ command ∷ party ∷ a ∷ off ∷ other ∷ 0 ∷ 0 ∷ [] ⌝ }
@@ -55,29 +76,27 @@ fn narrow_numbers(party: u8, s: u8, off: u16, len: u16, mask: u8, d: u8) -> [u64
     ]
 }
 
-// A call's seven numbers.
+fn value_numbers(party: u8, d: u8, value: u64) -> [u64; 7]
+    ensures { λ r. ⌜ r ≡ 14 ∷ party ∷ d ∷ value ∷ 0 ∷ 0 ∷ 0 ∷ [] ⌝ }
+{
+    [14, party as u64, d as u64, value, 0, 0, 0]
+}
+
+// A call's seven numbers. Each arm only calls, so that a new kind adds needs to the proof and renames none.
 pub fn numbers_of(call: Call) -> [u64; 7]
     ensures { λ r. ⌜ r ≡ numbersOf call ⌝ }
 {
     match call {
-        Call::Take { party, base, reg } => [1, party as u64, base as u64, reg as u64, 0, 0, 0],
-        Call::Split { party, base, len } => [2, party as u64, base as u64, len as u64, 0, 0, 0],
-        Call::Merge { party, base } => [3, party as u64, base as u64, 0, 0, 0, 0],
-        Call::Give { party, base, to } => [4, party as u64, base as u64, to as u64, 0, 0, 0],
-        Call::Revoke { party, base } => [5, party as u64, base as u64, 0, 0, 0, 0],
-        Call::Sweep { party, n } => [6, party as u64, n as u64, 0, 0, 0, 0],
-        Call::Collect { party } => [7, party as u64, 0, 0, 0, 0, 0],
-        Call::Map { party, page, frame } => [
-            8,
-            party as u64,
-            page.0 as u64,
-            frame.0 as u64,
-            0,
-            0,
-            0,
-        ],
-        Call::Unmap { party, page } => [9, party as u64, page.0 as u64, 0, 0, 0, 0],
-        Call::Zero { party, frame } => [10, party as u64, frame.0 as u64, 0, 0, 0, 0],
+        Call::Take { party, base, reg } => base_numbers(1, party, base, reg, 0),
+        Call::Split { party, base, len } => range_numbers(2, party, base, len),
+        Call::Merge { party, base } => range_numbers(3, party, base, 0),
+        Call::Give { party, base, to } => base_numbers(4, party, base, to, 0),
+        Call::Revoke { party, base } => range_numbers(5, party, base, 0),
+        Call::Sweep { party, n } => range_numbers(6, party, n, 0),
+        Call::Collect { party } => byte_numbers(7, party, 0, 0),
+        Call::Map { party, page, frame } => byte_numbers(8, party, page.0, frame.0),
+        Call::Unmap { party, page } => byte_numbers(9, party, page.0, 0),
+        Call::Zero { party, frame } => byte_numbers(10, party, frame.0, 0),
         Call::Load { party, a, off, d } => access_numbers(11, party, a, off, d),
         Call::Store { party, a, off, s } => access_numbers(12, party, a, off, s),
         Call::Narrow {
@@ -88,9 +107,9 @@ pub fn numbers_of(call: Call) -> [u64; 7]
             mask,
             d,
         } => narrow_numbers(party, s, off, len, mask, d),
-        Call::Number { party, d, value } => [14, party as u64, d as u64, value, 0, 0, 0],
-        Call::Grant { party, s, to } => [15, party as u64, s as u64, to as u64, 0, 0, 0],
-        Call::Receive { party, d } => [16, party as u64, d as u64, 0, 0, 0, 0],
+        Call::Number { party, d, value } => value_numbers(party, d, value),
+        Call::Grant { party, s, to } => byte_numbers(15, party, s, to),
+        Call::Receive { party, d } => byte_numbers(16, party, d, 0),
     }
 }
 

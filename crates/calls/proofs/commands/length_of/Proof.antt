@@ -4,16 +4,16 @@ use Prim.Native.Nat.{ℕ, zero, suc, _≤_}
 use mathlib.Core.Path.{_≡_, refl, sym}
 use lib.ListN.{List·getD-eq-default}
 use native.Mathlib.Omega.{arith}
-use Rattle.calls.specs.Commands.{lengths, lengthOf}
+use Rattle.calls.specs.Commands.{lengths, lengthOf, lastByte}
 use Rattle.calls.proofs.Cases.{NoneTo, above}
 use Rattle.calls.proofs.commands.length_of.Statement.{statement}
 use Rattle.calls.proofs.commands.length_of.Tie as tie
 
-none-left : (k : ℕ) → NoneTo 16 k → 0 ≡ lengthOf k
+none-left : (k : ℕ) → NoneTo lastByte k → 0 ≡ lengthOf k
 none-left zero others = refl
 none-left (suc k) others =
     let low : 1 ≤ suc k = omega arith in
-    sym (List·getD-eq-default lengths 0 (above 16 low others))
+    sym (List·getD-eq-default lengths 0 (above lastByte low others))
 
 returns : tie.Need-returns
 returns c = search needs

@@ -1,8 +1,8 @@
--- In each arm the command is the arm's number, so that kind's own function answers; in the last arm only 16 is left.
+-- In each arm the command is the arm's number, so that kind's own function answers; in the last arm only the last command is left.
 use borrow.Author.Needs.{needs}
 use Prim.Native.Nat.{ℕ, _≤_}
 use mathlib.Core.Path.{_≡_, subst}
-use Rattle.calls.specs.Commands.{callAt, lengthOf}
+use Rattle.calls.specs.Commands.{callAt, lengthOf, lastByte}
 use Rattle.calls.proofs.Cases.{in-case, last-case}
 use Rattle.calls.proofs.reader.call_at.Statement.{statement}
 use Rattle.calls.proofs.reader.call_at.Tie as tie
@@ -59,7 +59,7 @@ grant-at-requires c κs = long-enough (c .match .keys15) (c .before .before .pre
 receive-at-requires : tie.Need-receive-at-requires
 receive-at-requires c κs =
     let pre = c .before .before .pre in
-    long-enough (last-case 15 (pre .0 .0) (pre .0 .1) (c .match .rest)) (pre .1)
+    long-enough (last-case lastByte (pre .0 .0) (pre .0 .1) (c .match .rest)) (pre .1)
 
 returns : tie.Need-returns
 returns c = in-case (λ k. callAt k (c .before .before .before .args .s .now)) (c .before .match .keys1) (c .take-at .ensures)
@@ -111,7 +111,7 @@ returns-16 c =
     let match = c .before .match in
     let a = c .before .before .before .args in
     let pre = c .before .before .before .pre in
-    in-case (λ k. callAt k (a .s .now)) (last-case 15 (pre .0 .0) (pre .0 .1) (match .rest)) (c .receive-at .ensures)
+    in-case (λ k. callAt k (a .s .now)) (last-case lastByte (pre .0 .0) (pre .0 .1) (match .rest)) (c .receive-at .ensures)
 
 pub call-at-spec : {M : Type 1} → statement M
 call-at-spec =
