@@ -45,6 +45,7 @@ static void tell_granted(uint64_t kind, cetomuhi_answer answer) {
     printf("granted");
     switch (kind) {
     case CETOMUHI_TAKE:
+    case CETOMUHI_TAKE_MASKED:
         printf(", %" PRIu64 " cells", answer.number);
         break;
     case CETOMUHI_SWEEP:
@@ -132,11 +133,16 @@ static void set_up(struct server *server) {
     PLAY(in_one_run, server, steps);
 }
 
+/* The loader and the expander may keep capabilities in their ranges and take them with all
+ * permissions; the others store only text. */
 static void take_ranges(struct server *server) {
     const struct step steps[] = {
-        {cetomuhi_take(LOADER, NOTES, 0), "The loader takes its notes"},
-        {cetomuhi_take(LOADER, ENTRIES, 1), "The loader takes the entries"},
-        {cetomuhi_take(EXPANDER, EXPANDED, 0), "The expander takes its range"},
+        {cetomuhi_take_masked(LOADER, NOTES, 0, CETOMUHI_ALL_PERMISSIONS),
+         "The loader takes its notes"},
+        {cetomuhi_take_masked(LOADER, ENTRIES, 1, CETOMUHI_ALL_PERMISSIONS),
+         "The loader takes the entries"},
+        {cetomuhi_take_masked(EXPANDER, EXPANDED, 0, CETOMUHI_ALL_PERMISSIONS),
+         "The expander takes its range"},
         {cetomuhi_take(HYPHENATOR, HYPHENATED, 0), "The hyphenator takes its range"},
         {cetomuhi_take(FIT_CHECK, CHECKED, 0), "The fit check takes its range"},
         {cetomuhi_take(HYPHENATOR, EXPANDED, 1),

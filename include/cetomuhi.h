@@ -4,7 +4,7 @@
  * The functions of the library (section "The library") are total: they answer for all numbers,
  * bytes and lengths, and a refused call leaves every byte as it was. The inline functions after
  * them put pointers and lengths in their places; they are tested, not proved. "The document" is
- * document 01, whose numbers the commands and refusals bear.
+ * document 01 with request 2026-01, whose numbers the commands and refusals bear.
  *
  * What a caller owes, here as with all C: pointers are valid and aligned for the lengths that go
  * with them, and what a function writes overlaps nothing else that it is handed. Nothing is kept
@@ -27,7 +27,7 @@ extern "C" {
 
 /* ---- Sizes ---- */
 
-#define CETOMUHI_VERSION 1         /* of this boundary; cetomuhi_version() is the library's */
+#define CETOMUHI_VERSION 2         /* of this boundary; cetomuhi_version() is the library's */
 #define CETOMUHI_PAGES 256         /* V is 1 to 256 */
 #define CETOMUHI_FRAMES 128        /* F is 1 to 128 */
 #define CETOMUHI_PAGE_CELLS 16     /* cells of a page and of a frame */
@@ -45,7 +45,7 @@ extern "C" {
 
 /* The operands stand behind each, in the order of their bytes: one byte each, or /2 or /8. */
 enum cetomuhi_kind {
-    CETOMUHI_TAKE = 0x01,    /* party base/2 reg: the reservation is Taken; answers its length */
+    CETOMUHI_TAKE = 0x01,    /* party base/2 reg: Taken, to load and store; answers its length */
     CETOMUHI_SPLIT = 0x02,   /* party base/2 len/2: two Open ones, the lower of len cells */
     CETOMUHI_MERGE = 0x03,   /* party base/2: joined with the next one above */
     CETOMUHI_GIVE = 0x04,    /* party base/2 to: `to` is its holder */
@@ -60,7 +60,8 @@ enum cetomuhi_kind {
     CETOMUHI_NARROW = 0x0D,  /* party s off/2 len/2 mask d: a part of s, with fewer permissions */
     CETOMUHI_NUMBER = 0x0E,  /* party d value/8: register d holds the value, untagged */
     CETOMUHI_GRANT = 0x0F,   /* party s to: copies into the mailbox of `to` */
-    CETOMUHI_RECEIVE = 0x10  /* party d: moves the caller's mailbox to d; answers it */
+    CETOMUHI_RECEIVE = 0x10, /* party d: moves the caller's mailbox to d; answers it */
+    CETOMUHI_TAKE_MASKED = 0x11 /* party base/2 reg mask: a take with the permissions in mask */
 };
 
 /* The code of an answer: the lowest number that applies. */
@@ -117,8 +118,9 @@ static inline const char *cetomuhi_refusal_words(uint64_t code) {
 /* A command's word: "take" for 0x01. */
 static inline const char *cetomuhi_kind_word(uint64_t kind) {
     static const char *const words[] = {
-        "no command", "take", "split", "merge", "give",   "revoke", "sweep", "collect", "map",
-        "unmap",      "zero", "load",  "store", "narrow", "number", "grant", "receive",
+        "no command", "take",    "split",  "merge", "give",    "revoke",
+        "sweep",      "collect", "map",    "unmap", "zero",    "load",
+        "store",      "narrow",  "number", "grant", "receive", "take masked",
     };
     return kind < sizeof words / sizeof words[0] ? words[kind] : words[0];
 }
@@ -260,6 +262,7 @@ static inline cetomuhi_call cetomuhi_call_of(uint64_t kind, uint64_t party, uint
     return call;
 }
 
+/* The capability may load and store numbers: permissions 3. */
 static inline cetomuhi_call cetomuhi_take(uint64_t party, uint64_t base, uint64_t reg) {
     return cetomuhi_call_of(CETOMUHI_TAKE, party, base, reg, 0);
 }
@@ -309,6 +312,13 @@ static inline cetomuhi_call cetomuhi_grant(uint64_t party, uint64_t s, uint64_t 
 }
 static inline cetomuhi_call cetomuhi_receive(uint64_t party, uint64_t d) {
     return cetomuhi_call_of(CETOMUHI_RECEIVE, party, d, 0, 0);
+}
+/* Who keeps capabilities in its range takes it with CETOMUHI_ALL_PERMISSIONS. The capability has
+ * the permissions in mask, a sum of enum cetomuhi_permission; bits above 15 are ignored, and 0 is
+ * granted too. */
+static inline cetomuhi_call cetomuhi_take_masked(uint64_t party, uint64_t base, uint64_t reg,
+                                                 uint64_t mask) {
+    return cetomuhi_call_of(CETOMUHI_TAKE_MASKED, party, base, reg, mask);
 }
 
 /* A call's bytes, first in `out`: their length, or 0 as with cetomuhi_write. */
@@ -437,7 +447,8 @@ enum cetomuhi_permission {
     CETOMUHI_MAY_LOAD = 1,
     CETOMUHI_MAY_STORE = 2,
     CETOMUHI_MAY_LOAD_CAPABILITY = 4,
-    CETOMUHI_MAY_STORE_CAPABILITY = 8
+    CETOMUHI_MAY_STORE_CAPABILITY = 8,
+    CETOMUHI_ALL_PERMISSIONS = 15 /* the four */
 };
 
 typedef struct cetomuhi_reservation {

@@ -173,7 +173,7 @@ static void test_start(void) {
 
 static void test_sizes(void) {
     CHECK(cetomuhi_matches());
-    CHECK(cetomuhi_version() == 1);
+    CHECK(cetomuhi_version() == 2);
     for (uint64_t which = 10; which < 300; which++)
         CHECK(cetomuhi_size(which) == 0);
     CHECK(cetomuhi_size(UINT64_MAX) == 0);
@@ -215,10 +215,10 @@ static void test_well_formed(void) {
 /* ---- Calls to bytes and back ---- */
 
 /* Widths of the operands, from the document's list of commands. */
-static const uint8_t widths[17][7] = {
-    {0},       {1, 2, 1}, {1, 2, 2}, {1, 2}, {1, 2, 1},    {1, 2},       {1, 2},
-    {1},       {1, 1, 1}, {1, 1},    {1, 1}, {1, 1, 2, 1}, {1, 1, 2, 1}, {1, 1, 2, 2, 1, 1},
-    {1, 1, 8}, {1, 1, 1}, {1, 1},
+static const uint8_t widths[18][7] = {
+    {0},       {1, 2, 1}, {1, 2, 2}, {1, 2},       {1, 2, 1},    {1, 2},       {1, 2},
+    {1},       {1, 1, 1}, {1, 1},    {1, 1},       {1, 1, 2, 1}, {1, 1, 2, 1}, {1, 1, 2, 2, 1, 1},
+    {1, 1, 8}, {1, 1, 1}, {1, 1},    {1, 2, 1, 1},
 };
 
 /* Operand i of a call: all zero, the largest, or bytes that differ. */
@@ -295,7 +295,7 @@ static void test_round_trips(void) {
 static void test_no_calls(void) {
     uint8_t out[16] = {0};
     uint64_t numbers[8] = {CETOMUHI_COLLECT, 0, 0, 0, 0, 0, 0, 5};
-    const uint64_t kinds[] = {0, 17, 255, 256, 257, UINT64_MAX};
+    const uint64_t kinds[] = {0, 18, 255, 256, 257, UINT64_MAX};
     for (size_t i = 0; i < COUNT(kinds); i++) {
         const cetomuhi_call call = {{kinds[i], 0, 0, 0, 0, 0, 0}};
         const uint8_t byte[12] = {(uint8_t)kinds[i]};

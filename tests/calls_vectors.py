@@ -5,7 +5,7 @@
 """
 import pathlib
 
-# Document 01's own lines: the byte in hexadecimal, the word, the operands with their widths.
+# The documents' own lines: the byte in hexadecimal, the word, the operands with their widths.
 COMMANDS = """
 01 take P base/2 reg
 02 split P base/2 len/2
@@ -23,6 +23,7 @@ COMMANDS = """
 0E number P d value/8
 0F grant P s to
 10 receive P d
+11 take P base/2 reg mask
 """
 BUFFER, KEPT = 12, "ee"
 

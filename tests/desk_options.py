@@ -149,6 +149,7 @@ class Building(Case):
 REFUSED = [
     ("01 08 0000 00", "there is no party 8"),
     ("04 00 0000 09", "there is no party 9"),
+    ("11 08 0000 09 0F", "there is no party 8 and no register 9"),
     ("0D 08 09 0000 0001 0F 0A", "there is no party 8 and no register 9 and no register 10"),
     ("05 01 0000", "only party 0 may"),
     ("06 01 0001", "only party 0 may"),
@@ -157,6 +158,7 @@ REFUSED = [
     ("09 01 00", "only party 0 may"),
     ("0A 01 00", "only party 0 may"),
     ("01 01 0000 00", "party 1 holds none that begins there"),
+    ("11 01 0000 00 0F", "party 1 holds none that begins there"),
     ("02 01 0000 0001", "party 1 holds none that begins there"),
     ("03 01 0000", "party 1 holds none that begins there"),
     ("04 01 0000 01", "party 1 holds none that begins there"),
@@ -185,6 +187,7 @@ REFUSED = [
     ("02 00 0000 0010", None),
     ("01 00 0000 00", None),
     ("01 00 0000 00", "it is not Open"),
+    ("11 00 0000 00 0F", "it is not Open"),
     ("02 00 0000 0001", "it is not Open"),
     ("04 00 0000 01", "it is not Open"),
     ("05 00 0000", "a page of it is Mapped"),
@@ -194,13 +197,17 @@ REFUSED = [
         "0C 00 01 0000 02",
         "the capability has no permission to store, or none to store capabilities",
     ),
+    (
+        "0C 00 00 0000 00",
+        "the capability has no permission to store, or none to store capabilities",
+    ),
     ("0B 00 00 0010 02", "the offset is not below the capability's length"),
     ("0C 00 00 0010 02", "the offset is not below the capability's length"),
     (
         "0D 00 00 0000 0000 0F 02",
         "the length is 0, or the range ends past the capability or begins above 65,535",
     ),
-    ("01 00 0010 03", None),
+    ("11 00 0010 03 0F", None),
     ("0B 00 03 0000 02", "the page there is not Mapped"),
     ("0C 00 03 0000 02", "the page there is not Mapped"),
     ("0F 00 00 01", None),
@@ -208,7 +215,7 @@ REFUSED = [
     ("05 00 0010", None),
     ("05 00 0010", "it is Revoking already"),
     ("05 00 0000", "a revocation runs already"),
-    ("11", "11 is no command"),
+    ("12", "12 is no command"),
 ]
 
 
@@ -283,10 +290,12 @@ def split_tables(output):
 
 
 # By hand: frames 4 to 7, 2 and 1 are zeroed and mapped to pages 0 to 5, and page 5 is unmapped
-# again; cell 0 is taken, narrowed to permissions 5 and to none, and granted.
+# again; cell 0 is taken with mask 0F, narrowed to permissions 5 and to none, and granted; cell 1 is
+# taken, which gives permissions 3.
 SUMMED = """\
     reservations  cell 0              Taken
-                  cells 1 to 4095     Open, held by party 0
+                  cell 1              Taken
+                  cells 2 to 4095     Open, held by party 0
     pages         0 to 3              Mapped to frames 4 to 7
                   4                   Mapped to frame 2
                   5                   Freed
@@ -298,6 +307,7 @@ SUMMED = """\
                   8 to 127            Dirty
     registers     party 0 register 0  base 0, length 1, load, load capability, tag 1
                   party 0 register 1  base 0, length 1, no permission, tag 1
+                  party 0 register 2  base 1, length 1, load, store, tag 1
                   party 0 register 7  base 0, length 1, load, store, load capability, store capability, tag 1
     mailboxes     party 7             base 0, length 1, load, load capability, tag 1
 """
@@ -334,11 +344,12 @@ class State(Case):
         self.assertEqual([thing for thing, _ in found.get("revocation", [])], revoked)
 
     # sessions/document.state was written by hand from document 01, before the tables were first
-    # printed: its commands and lines are those of "One session in full", and what each command
-    # changes is the sentence for it under "Commands". The sums: V 2 is cells 0 to 31 and F 1 is 16
-    # cells of memory; a take gives permissions 15, which are all four; 64425558016 is
-    # 15 x 2^32 + 16 x 2^16, the number that is left of it when the collect clears its tag; the
-    # stores change lent memory alone, so that the state is as before.
+    # printed: its commands and lines are those of "One session in full", the take by command 11 with
+    # mask 0F as request 2026-01 says, and what each command changes is the sentence for it under
+    # "Commands". The sums: V 2 is cells 0 to 31 and F 1 is 16 cells of memory; mask 0F gives
+    # permissions 15, which are all four; 64425558016 is 15 x 2^32 + 16 x 2^16, the number that is
+    # left of it when the collect clears its tag; the stores change lent memory alone, so that the
+    # state is as before.
     def test_document(self):
         document = ROOT / "sessions/document.hex"
         expected = document.with_suffix(".state").read_text()
@@ -378,10 +389,12 @@ class State(Case):
         frames = [4, 5, 6, 7, 2, 1]
         commands = [f"0A 00 {frame:02X}" for frame in frames]
         commands += [f"08 00 {page:02X} {frame:02X}" for page, frame in enumerate(frames)]
-        commands += ["09 00 05", "02 00 0000 0001", "01 00 0000 07"]
+        commands += ["09 00 05", "02 00 0000 0001", "02 00 0001 0001"]
+        commands += ["11 00 0000 07 0F", "01 00 0001 02"]
         commands += ["0D 00 07 0000 0001 05 00", "0D 00 07 0000 0001 10 01", "0F 00 00 07"]
         path = self.session("0100 80\n" + "\n".join(commands))
-        self.prints("0 0 0\n" * 15 + "0 1 0\n" + "0 0 0\n" * 3 + "\n" + SUMMED, path, "--state=end")
+        lines = "0 0 0\n" * 16 + "0 1 0\n" * 2 + "0 0 0\n" * 3
+        self.prints(lines + "\n" + SUMMED, path, "--state=end")
 
 
 if __name__ == "__main__":

@@ -1,5 +1,5 @@
 #!/usr/bin/env python3
-"""Shows that the checklist's sessions catch its faults.
+"""Shows that the checklist's sessions catch its faults, and those of command 11 its own.
 
 Puts one fault after another into a copy of the plain implementation in bench/ and runs sessions/
 over it. Each fault must make the sessions that are named with it print something else.
@@ -147,6 +147,48 @@ FAULTS = [
         "*number > 7",
         "*number > 8",
         ["edges"],
+    ),
+    (
+        "a take gives all permissions",
+        "capability.rs",
+        "PLAIN_PERMISSIONS: u8 = LOAD | STORE;",
+        "PLAIN_PERMISSIONS: u8 = ALL_PERMISSIONS;",
+        ["take-masked-plain", "lent-once-twice"],
+    ),
+    (
+        "a take by mask gives all permissions",
+        "step.rs",
+        "cap::ALL_PERMISSIONS & mask",
+        "cap::ALL_PERMISSIONS | mask & 0",
+        ["take-masked-none", "take-masked-each", "take-masked-refused"],
+    ),
+    (
+        "a take by mask gives permissions above 15",
+        "step.rs",
+        "cap::ALL_PERMISSIONS & mask",
+        "mask",
+        ["take-masked-none", "take-masked-all"],
+    ),
+    (
+        "a take by mask gives what a take gives",
+        "step.rs",
+        "cap::ALL_PERMISSIONS & mask",
+        "cap::PLAIN_PERMISSIONS & mask",
+        ["take-masked-all", "take-masked-each", "take-masked-plain", "document"],
+    ),
+    (
+        "a load keeps the tag without permission 4",
+        "step.rs",
+        "memory.tags[place] != 0 && cap::allows(through, cap::LOAD_CAPABILITY)",
+        "memory.tags[place] != 0",
+        ["take-masked-plain", "take-masked-each"],
+    ),
+    (
+        "a capability is stored without permission 8",
+        "step.rs",
+        "stored.tag && !cap::allows(through, cap::STORE_CAPABILITY)",
+        "stored.tag && through == 0",
+        ["take-masked-plain", "take-masked-each"],
     ),
 ]
 

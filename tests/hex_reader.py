@@ -74,6 +74,8 @@ class Words(unittest.TestCase):
             "0E 01 02 0000000000010000": "party 1 sets register 2 to the number 65536",
             "0F 01 02 03": "party 1 grants register 2 to party 3",
             "10 01 02": "party 1 receives into register 2",
+            "11 01 0102 03 04": "party 1 takes the reservation at cell 258 into register 3 "
+            "with mask 4",
         }
         text = "0100 80\n" + "\n".join(commands)
         self.assertEqual(self.words(text), ["start with V 256 and F 128", *commands.values()])
@@ -81,8 +83,10 @@ class Words(unittest.TestCase):
     def test_where_a_session_ends(self):
         start = "start with V 1 and F 1"
         self.assertEqual(self.words("0001"), ["start, cut short"])
-        self.assertEqual(self.words("000101 11 0700"), [start, "11 is no command"])
+        self.assertEqual(self.words("000101 12 0700"), [start, "12 is no command"])
         self.assertEqual(self.words("000101 0B 00"), [start, "the input ends within command 0B"])
+        words = self.words("000101 11 00 0000 00")
+        self.assertEqual(words, [start, "the input ends within command 11"])
 
     def test_no_byte_beyond_the_limit(self):
         words = self.words("000101" + "0700" * 20000)
@@ -109,6 +113,20 @@ class Explained(unittest.TestCase):
             "11 0 0  party 0 collects; refused: no revocation runs, or cells are left to sweep\n"
         )
         self.assertEqual(self.explained("000101 0700 0700", lines), (0, expected, ""))
+
+    def test_refusals_of_a_take_by_mask(self):
+        lines = "0 0 0\n4 0 0\n6 0 0\n7 0 0\n"
+        words = "takes the reservation at cell 0 into register"
+        expected = (
+            "0 0 0  start with V 1 and F 1\n"
+            f"4 0 0  party 8 {words} 9 with mask 15; "
+            "refused: there is no party 8 and no register 9\n"
+            f"6 0 0  party 1 {words} 0 with mask 0; "
+            "refused: party 1 holds none that begins there\n"
+            f"7 0 0  party 0 {words} 0 with mask 240; refused: it is not Open\n"
+        )
+        data = "000101 11080000090F 110100000000 1100000000F0"
+        self.assertEqual(self.explained(data, lines), (0, expected, ""))
 
     def test_other_lines_stay(self):
         lines = "0 0 0\n    a table's line, longer than the answers\n\n0 0 0\n"

@@ -1,5 +1,6 @@
-/* Tests of calls through the inline functions of cetomuhi.h: document 01's session, every refusal
- * with every byte kept, random histories in which a run equals single commands, showing a state.
+/* Tests of calls through the inline functions of cetomuhi.h: document 01's session, what the two
+ * takes give, every refusal with every byte kept, random histories in which a run equals single
+ * commands, showing a state.
  *
  *   histories [ROUNDS]    ROUNDS random histories, 200 if not given */
 #include "check.h"
@@ -43,7 +44,7 @@ static void test_session(void) {
     grant(&m, cetomuhi_map(0, 0, 0));
     grant(&m, cetomuhi_split(0, 0, 16));
     grant(&m, cetomuhi_give(0, 0, 3));
-    expect(&m, cetomuhi_take(3, 0, 0), 0, 16);
+    expect(&m, cetomuhi_take_masked(3, 0, 0, 0x0F), 0, 16);
     grant(&m, cetomuhi_number(3, 1, 0x2A));
     grant(&m, cetomuhi_store(3, 0, 5, 1));
     grant(&m, cetomuhi_store(3, 0, 6, 0));
@@ -57,6 +58,50 @@ static void test_session(void) {
     grant(&m, cetomuhi_sweep(0, 0xFF));
     grant(&m, cetomuhi_collect(0));
     refuse(&m, cetomuhi_load(3, 0, 6, 2), CETOMUHI_REFUSED_UNTAGGED);
+}
+
+/* ---- What the two takes give ---- */
+
+/* A take on a fresh machine of 16 cells, page 0 shown, into register 5: its permissions. */
+static unsigned taken(cetomuhi_machine *m, cetomuhi_call call) {
+    CHECK(cetomuhi_machine_start(m, 1, 1) == 0);
+    grant(m, cetomuhi_zero(0, 0));
+    grant(m, cetomuhi_map(0, 0, 0));
+    expect(m, call, 0, 16);
+    const cetomuhi_word word = cetomuhi_register_at(&m->state, 0, 5);
+    const cetomuhi_capability capability = cetomuhi_capability_of(word.cell);
+    CHECK(word.tag == 1 && capability.base == 0 && capability.length == 16);
+    CHECK(word.cell >> 40 == 0);
+    return capability.permissions;
+}
+
+/* Loads and stores through register 5 by its permissions. From a start nobody stores a capability
+ * in a range taken without permission 8, so that the tagged cell to load is put there by hand. */
+static void use(cetomuhi_machine *m, unsigned given) {
+    const bool loads = given & CETOMUHI_MAY_LOAD;
+    const bool stores = given & CETOMUHI_MAY_STORE;
+    const bool with_tag = loads && given & CETOMUHI_MAY_LOAD_CAPABILITY;
+    const bool of_tagged = stores && given & CETOMUHI_MAY_STORE_CAPABILITY;
+    const uint64_t refused = CETOMUHI_REFUSED_NO_PERMISSION;
+    m->cells[3] = 0;
+    m->tags[3] = 7;
+    expect(m, cetomuhi_load(0, 5, 3, 6), loads ? 0 : refused, 0);
+    CHECK(cetomuhi_register_at(&m->state, 0, 6).tag == with_tag && m->tags[3] == 7);
+    expect(m, cetomuhi_store(0, 5, 4, 5), of_tagged ? 0 : refused, 0);
+    CHECK(m->tags[4] == of_tagged);
+    expect(m, cetomuhi_store(0, 5, 4, 7), stores ? 0 : refused, 0);
+    CHECK(m->tags[4] == 0);
+}
+
+static void test_takes(void) {
+    static cetomuhi_machine m;
+    for (uint64_t mask = 0; mask < 256; mask++) {
+        const unsigned given = taken(&m, cetomuhi_take_masked(0, 0, 5, mask));
+        CHECK(given == (mask & CETOMUHI_ALL_PERMISSIONS));
+        use(&m, given);
+    }
+    CHECK(taken(&m, cetomuhi_take(0, 0, 5)) == (CETOMUHI_MAY_LOAD | CETOMUHI_MAY_STORE));
+    use(&m, CETOMUHI_MAY_LOAD | CETOMUHI_MAY_STORE);
 }
 
 /* ---- Every refusal ---- */
@@ -96,13 +141,16 @@ static void lend_nothing(cetomuhi_machine *machine) {
     CHECK(cetomuhi_machine_commands(machine, &byte, 1, &at, NULL, 0) == 0);
     refuse(machine, cetomuhi_zero(256, 0), CETOMUHI_REFUSED_NO_COMMAND);
     refuse(machine, cetomuhi_take(0, 65536, 0), CETOMUHI_REFUSED_NO_COMMAND);
-    refuse(machine, cetomuhi_call_of(17, 0, 0, 0, 0), CETOMUHI_REFUSED_NO_COMMAND);
+    refuse(machine, cetomuhi_take_masked(0, 0, 0, 256), CETOMUHI_REFUSED_NO_COMMAND);
+    refuse(machine, cetomuhi_call_of(18, 0, 0, 0, 0), CETOMUHI_REFUSED_NO_COMMAND);
 }
 
 /* 4 and 5. */
 static void wrong_caller(cetomuhi_machine *m) {
     refuse(m, cetomuhi_collect(8), CETOMUHI_REFUSED_ABOVE_SEVEN);
     refuse(m, cetomuhi_take(0, 0, 8), CETOMUHI_REFUSED_ABOVE_SEVEN);
+    refuse(m, cetomuhi_take_masked(8, 0, 0, 15), CETOMUHI_REFUSED_ABOVE_SEVEN);
+    refuse(m, cetomuhi_take_masked(0, 0, 8, 15), CETOMUHI_REFUSED_ABOVE_SEVEN);
     refuse(m, cetomuhi_give(0, 0, 8), CETOMUHI_REFUSED_ABOVE_SEVEN);
     refuse(m, cetomuhi_number(0, 255, 1), CETOMUHI_REFUSED_ABOVE_SEVEN);
     refuse(m, cetomuhi_revoke(1, 0), CETOMUHI_REFUSED_NOT_MANAGER);
@@ -116,6 +164,7 @@ static void wrong_caller(cetomuhi_machine *m) {
 /* 6 to 9; the marked edges of split and take among them. */
 static void wrong_reservation(cetomuhi_machine *m) {
     refuse(m, cetomuhi_take(1, 0, 0), CETOMUHI_REFUSED_NOT_HELD);
+    refuse(m, cetomuhi_take_masked(0, 1, 0, 15), CETOMUHI_REFUSED_NOT_HELD);
     refuse(m, cetomuhi_split(0, 1, 1), CETOMUHI_REFUSED_NOT_HELD);
     grant(m, cetomuhi_split(0, 0, 16));
     refuse(m, cetomuhi_split(0, 0, 0), CETOMUHI_REFUSED_SPLIT_LENGTH);
@@ -127,6 +176,8 @@ static void wrong_reservation(cetomuhi_machine *m) {
     expect(m, cetomuhi_take(1, 0, 0), 0, 16);
     refuse(m, cetomuhi_take(1, 0, 0), CETOMUHI_REFUSED_NOT_HELD);
     refuse(m, cetomuhi_take(0, 0, 0), CETOMUHI_REFUSED_WRONG_RESERVATION);
+    refuse(m, cetomuhi_take_masked(1, 0, 0, 15), CETOMUHI_REFUSED_NOT_HELD);
+    refuse(m, cetomuhi_take_masked(0, 0, 0, 0), CETOMUHI_REFUSED_WRONG_RESERVATION);
     refuse(m, cetomuhi_give(0, 0, 1), CETOMUHI_REFUSED_WRONG_RESERVATION);
     refuse(m, cetomuhi_merge(0, 0), CETOMUHI_REFUSED_WRONG_RESERVATION);
 }
@@ -145,7 +196,7 @@ static void wrong_page(cetomuhi_machine *m) {
     refuse(m, cetomuhi_revoke(0, 0), CETOMUHI_REFUSED_WRONG_PAGE);
 }
 
-/* 15 to 19; party 1 has cells 0 to 15 in register 0. */
+/* 15 to 19; party 1 has cells 0 to 15 in register 0, to load and store numbers. */
 static void wrong_word(cetomuhi_machine *m) {
     refuse(m, cetomuhi_load(1, 1, 0, 2), CETOMUHI_REFUSED_UNTAGGED);
     refuse(m, cetomuhi_grant(1, 7, 2), CETOMUHI_REFUSED_UNTAGGED);
@@ -154,6 +205,7 @@ static void wrong_word(cetomuhi_machine *m) {
     grant(m, cetomuhi_narrow(1, 0, 0, 16, CETOMUHI_MAY_STORE, 2));
     refuse(m, cetomuhi_load(1, 2, 0, 3), CETOMUHI_REFUSED_NO_PERMISSION);
     refuse(m, cetomuhi_store(1, 2, 0, 0), CETOMUHI_REFUSED_NO_PERMISSION);
+    refuse(m, cetomuhi_store(1, 0, 0, 0), CETOMUHI_REFUSED_NO_PERMISSION);
     expect(m, cetomuhi_load(1, 0, 15, 3), 0, 0);
     refuse(m, cetomuhi_load(1, 0, 16, 3), CETOMUHI_REFUSED_OUT_OF_BOUNDS);
     refuse(m, cetomuhi_narrow(1, 0, 0, 0, 15, 3), CETOMUHI_REFUSED_OUT_OF_BOUNDS);
@@ -223,7 +275,12 @@ static void test_words(void) {
         for (uint64_t other = code + 1; other < 21; other++)
             CHECK(strcmp(cetomuhi_refusal_words(code), cetomuhi_refusal_words(other)) != 0);
     CHECK(strcmp(cetomuhi_kind_word(CETOMUHI_TAKE), "take") == 0);
+    for (uint64_t kind = 0; kind <= CETOMUHI_TAKE_MASKED; kind++)
+        for (uint64_t other = kind + 1; other <= CETOMUHI_TAKE_MASKED; other++)
+            CHECK(strcmp(cetomuhi_kind_word(kind), cetomuhi_kind_word(other)) != 0);
     CHECK(strcmp(cetomuhi_kind_word(CETOMUHI_RECEIVE), "receive") == 0);
+    CHECK(strcmp(cetomuhi_kind_word(CETOMUHI_TAKE_MASKED), "take masked") == 0);
+    CHECK(strcmp(cetomuhi_kind_word(CETOMUHI_TAKE_MASKED + 1), cetomuhi_kind_word(0)) == 0);
     CHECK(strcmp(cetomuhi_kind_word(UINT64_MAX), cetomuhi_kind_word(0)) == 0);
     CHECK(strcmp(cetomuhi_reservation_word(CETOMUHI_REVOKING), "Revoking") == 0);
     CHECK(strcmp(cetomuhi_page_word(CETOMUHI_PAGE_FREED), "Freed") == 0);
@@ -245,10 +302,11 @@ static uint64_t below(uint64_t limit) {
 
 /* A call that is often granted on the state: it names a reservation by its base and holder. */
 static cetomuhi_call random_call(const cetomuhi_state *state) {
-    const uint64_t kind = below(40) ? 1 + below(16) : below(20);
+    const uint64_t kind = below(40) ? 1 + below(17) : below(21);
     const cetomuhi_reservation row =
         cetomuhi_reservation_at(state, below(cetomuhi_row_count(state)));
-    const bool named = kind <= CETOMUHI_REVOKE && below(8);
+    const bool of_row = kind <= CETOMUHI_REVOKE || kind == CETOMUHI_TAKE_MASKED;
+    const bool named = of_row && below(8);
     const bool manager = kind >= CETOMUHI_REVOKE && kind <= CETOMUHI_ZERO && below(20);
     const uint64_t other = below(below(30) ? 3 : 9);
     const uint64_t party = manager ? 0 : named ? row.holder : other;
@@ -257,10 +315,13 @@ static cetomuhi_call random_call(const cetomuhi_state *state) {
     const uint64_t second = below(30) ? below(3) : below(9);
     const uint64_t off = below(20);
     const uint64_t len = below(3) ? 16 : below(40);
+    const uint64_t mask = below(3) ? CETOMUHI_ALL_PERMISSIONS : below(256);
     switch (kind) {
     case CETOMUHI_TAKE:
     case CETOMUHI_GIVE:
         return cetomuhi_call_of(kind, party, base, first, 0);
+    case CETOMUHI_TAKE_MASKED:
+        return cetomuhi_take_masked(party, base, first, mask);
     case CETOMUHI_SPLIT:
         return cetomuhi_split(party, base, len);
     case CETOMUHI_MERGE:
@@ -346,6 +407,7 @@ int main(int count, char **words) {
     const size_t rooms[] = {1, 2, 7, 16, CALLS};
     const long rounds = count > 1 ? atol(words[1]) : 200;
     test_session();
+    test_takes();
     test_refusals_and_showing();
     test_words();
     for (long i = 0; i < rounds; i++)

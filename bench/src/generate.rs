@@ -39,7 +39,7 @@ fn whole(random: &mut Random, bytes: usize) -> Vec<u8> {
 
 fn few_bytes(random: &mut Random) -> Vec<u8> {
     let mut bytes = vec![0, 1 + random.below(8) as u8, 1 + random.below(8) as u8];
-    bytes.extend((0..12).map(|_| random.below(18) as u8));
+    bytes.extend((0..12).map(|_| random.below(19) as u8));
     bytes.truncate(random.below(12));
     bytes
 }
@@ -173,6 +173,7 @@ mod tests {
         assert!(tally.granted[1..].iter().all(|count| *count > 100));
         assert!(tally.codes[0] * 10 > tally.commands * 7);
         assert!(tally.stored_behind > 100 && tally.stored_ahead > 100 && tally.swept > 100);
+        assert!(tally.loaded > 100 && tally.loaded_untagged > 100);
         assert!(tally.full_tables > 0 && tally.full_mailboxes > 0);
     }
 

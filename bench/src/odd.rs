@@ -134,7 +134,7 @@ fn other_row(random: &mut Random, row: u64) -> u64 {
 /// A few commands, most of whose operands the state may grant, or some forty bytes of any sort.
 pub fn bytes(random: &mut Random, lent: &Lent) -> Box<[u8]> {
     if random.one_in(3) {
-        let below = *random.pick(&[4, 17, 64, 256]);
+        let below = *random.pick(&[4, 18, 64, 256]);
         let count = random.below(40);
         return (0..count).map(|_| random.below(below) as u8).collect();
     }
@@ -151,13 +151,15 @@ pub fn bytes(random: &mut Random, lent: &Lent) -> Box<[u8]> {
 fn likely_command(random: &mut Random, lent: &Lent) -> Vec<u8> {
     let rows = 1 + random.below(lent.numbers.get(2).map_or(1, |count| 1 + *count as usize));
     let row = lent.rows.get(random.below(rows)).copied().unwrap_or(0);
-    let command = 1 + random.below(16) as u64;
+    let command = 1 + random.below(17) as u64;
     let mut numbers = [command, 0, 0, 0, 0, 0, 0];
     match command {
-        0x01..=0x05 => {
+        0x01..=0x05 | 0x11 => {
             numbers[1] = row >> 40 & 255;
             numbers[2] = row & 0xFFFF;
-            numbers[3] = if matches!(command, 1 | 2 | 4) { random.below(8) as u64 } else { 0 };
+            let has_third = matches!(command, 1 | 2 | 4 | 0x11);
+            numbers[3] = if has_third { random.below(8) as u64 } else { 0 };
+            numbers[4] = if command == 0x11 { random.below(256) as u64 } else { 0 };
         }
         0x06..=0x0A => {
             let most = usize::from(lent.numbers.first().copied().unwrap_or(8)).min(255) + 1;
@@ -191,7 +193,7 @@ pub fn call_numbers(random: &mut Random) -> Box<[u64]> {
     let limit = *random.pick(&[8, 256, 300, 65_540]);
     let operands = random.below(7);
     let number = |place| match place {
-        0 => random.below(18) as u64,
+        0 => random.below(19) as u64,
         _ if random.one_in(40) => random.number(),
         _ if place <= operands => random.below(limit) as u64,
         _ => 0,

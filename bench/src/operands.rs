@@ -1,7 +1,7 @@
-//! Commands as seven numbers, by document 01's list: the command, its operands, 0 after them.
+//! Commands as seven numbers, by the documents' lists: the command, its operands, 0 after them.
 
-/// The bytes of each operand of commands 01 to 10, the party's first.
-const WIDTHS: [&[usize]; 16] = [
+/// The bytes of each operand of commands 01 to 11, the party's first.
+const WIDTHS: [&[usize]; 17] = [
     &[1, 2, 1],
     &[1, 2, 2],
     &[1, 2],
@@ -18,6 +18,7 @@ const WIDTHS: [&[usize]; 16] = [
     &[1, 1, 8],
     &[1, 1, 1],
     &[1, 1],
+    &[1, 2, 1, 1],
 ];
 
 fn widths(command: u64) -> Option<&'static [usize]> {
@@ -61,7 +62,7 @@ mod tests {
 
     #[test]
     fn numbers_and_bytes_undo_each_other() {
-        for command in 0..=17 {
+        for command in 0..=18 {
             let input: Vec<u8> = (0..11).map(|place| command + 23 * place).collect();
             let found = numbers(&input);
             assert_eq!(found.map(|(_, length)| length), read(&input).map(|(_, length)| length));

@@ -11,7 +11,10 @@ pub struct Tally {
     /// Answers by code, those of starts included.
     pub codes: [u64; 20],
     /// Commands granted, by the command's number.
-    pub granted: [u64; 17],
+    pub granted: [u64; 18],
+    /// Capabilities that loads put into a register, with their tag and without permission 4 for it.
+    pub loaded: u64,
+    pub loaded_untagged: u64,
     /// Dying capabilities stored while a revocation runs, behind and ahead of the sweep place.
     pub stored_behind: u64,
     pub stored_ahead: u64,
@@ -47,11 +50,15 @@ impl Tally {
                 break;
             };
             let dying = dying_store(&state, call);
+            let of_a_capability = loads_a_capability(&state, &tags, call);
             let is_sweep = matches!(call.action, Action::Sweep { .. });
             let before = if is_sweep { count(&tags) } else { 0 };
             let mut memory = Memory { cells: &mut cells, tags: &mut tags };
             let answer = state.step(&mut memory, call);
             self.add_answer(input[0], answer, dying);
+            let is_loaded = of_a_capability && answer.code == 0;
+            self.loaded += u64::from(is_loaded && answer.tag);
+            self.loaded_untagged += u64::from(is_loaded && !answer.tag);
             self.swept += if is_sweep { before - count(&tags) } else { 0 };
             table_full |= state.table.rows().len() == ROWS;
             mailboxes_full |= state.mailboxes.iter().all(|slot| slot.tag);
@@ -90,13 +97,25 @@ fn dying_store(state: &State, call: Call) -> Option<Side> {
     let running = state.revocation?;
     let Action::Store { a, off, s } = call.action else { return None };
     let registers = state.registers.get(usize::from(call.party))?;
-    let (through, stored) = (registers.get(usize::from(a))?, registers.get(usize::from(s))?);
+    let stored = registers.get(usize::from(s))?;
     if !stored.tag || !running.range.kills(stored.cell) {
         return None;
     }
-    let cell = usize::from(cap::base(through.cell)) + usize::from(off);
-    let place = state.pages.lent_place(cell).ok()?;
+    let place = addressed(state, call.party, a, off)?;
     Some(if place < running.place { Side::Behind } else { Side::Ahead })
+}
+
+/// Whether the call is a load of a tagged cell.
+fn loads_a_capability(state: &State, tags: &[u8], call: Call) -> bool {
+    let Action::Load { a, off, .. } = call.action else { return false };
+    addressed(state, call.party, a, off).is_some_and(|place| tags[place] != 0)
+}
+
+/// The lent cell at a register's base and an offset, if there is one.
+fn addressed(state: &State, party: u8, a: u8, off: u16) -> Option<usize> {
+    let through = state.registers.get(usize::from(party))?.get(usize::from(a))?;
+    let cell = usize::from(cap::base(through.cell)) + usize::from(off);
+    state.pages.lent_place(cell).ok()
 }
 
 impl fmt::Display for Tally {
@@ -110,6 +129,11 @@ impl fmt::Display for Tally {
         for (command, count) in self.granted.iter().enumerate().skip(1) {
             writeln!(out, "  {command:02X} {count:>10}")?;
         }
+        writeln!(
+            out,
+            "capabilities loaded: {} with their tag, {} without permission 4 for it",
+            self.loaded, self.loaded_untagged
+        )?;
         writeln!(
             out,
             "dying capabilities stored: {} behind the sweep place, {} ahead; tags swept {}",

@@ -30,7 +30,7 @@ pub fn sweep(cells: Cells, count: u16) -> Vec<u8> {
     }
     session.call(0, Action::Split { base: 0, len: SWEPT_CELLS });
     session.call(0, Action::Split { base: SWEPT_CELLS, len: 16 });
-    session.call(0, Action::Take { base: 0, reg: 0 });
+    session.call(0, Action::TakeMasked { base: 0, reg: 0, mask: 15 });
     session.call(0, Action::Take { base: SWEPT_CELLS, reg: 1 });
     session.call(0, Action::Number { d: 2, value: u64::from(SWEPT_CELLS) });
     let s = match cells {
@@ -94,6 +94,7 @@ pub fn kinds_by_difference() -> Vec<(&'static str, Vec<u8>, Vec<u8>)> {
     let unmap = |page: u8| Action::Unmap { page };
     let split = |base: u8| Action::Split { base: base.into(), len: 1 };
     let take = |base: u8| Action::Take { base: base.into(), reg: base % 8 };
+    let take_masked = |base: u8| Action::TakeMasked { base: base.into(), reg: base % 8, mask: 15 };
     let (frames, rows) = (0..128, 0..63);
     let mut session = Session::start(256, 128);
     let mut before = session.bytes.clone();
@@ -102,13 +103,19 @@ pub fn kinds_by_difference() -> Vec<(&'static str, Vec<u8>, Vec<u8>)> {
         let shorter = std::mem::replace(&mut before, session.bytes.clone());
         (name, shorter, session.bytes.clone())
     };
-    vec![
+    let mut pairs = vec![
         step("zero", frames.clone().map(zero).collect()),
         step("map", frames.clone().map(map).collect()),
         step("unmap", frames.map(unmap).collect()),
         step("split, 1 to 63 rows", rows.clone().map(split).collect()),
-        step("take, of 64 rows", rows.map(take).collect()),
-    ]
+        step("take, of 64 rows", rows.clone().map(take).collect()),
+    ];
+    // The same rows, taken by mask instead.
+    let split_only = pairs[4].1.clone();
+    let mut masked = Session { bytes: split_only.clone() };
+    rows.map(take_masked).for_each(|action| masked.call(0, action));
+    pairs.push(("take by mask, of 64 rows", split_only, masked.bytes));
+    pairs
 }
 
 fn repeated(name: &str, round: &[Action]) -> Vec<u8> {
@@ -139,12 +146,12 @@ impl Session {
         Call { party, action }.write(&mut self.bytes);
     }
 
-    /// Page 0 is Mapped, and party 0 takes its lower half into register 0.
+    /// Page 0 is Mapped, and party 0 takes its lower half, for capabilities too, into register 0.
     fn settle(&mut self) {
         self.call(0, Action::Zero { frame: 0 });
         self.call(0, Action::Map { page: 0, frame: 0 });
         self.call(0, Action::Split { base: 0, len: 8 });
-        self.call(0, Action::Take { base: 0, reg: 0 });
+        self.call(0, Action::TakeMasked { base: 0, reg: 0, mask: 15 });
     }
 
     fn small_round(&mut self) {

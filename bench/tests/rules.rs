@@ -1,4 +1,5 @@
-//! Document 01's session, its edges marked K, and the refusals that no session can show.
+//! Document 01's session, its edges marked K, the refusals that no session can show, and what the two
+//! takes give.
 
 use cetomuhi_bench::hex;
 use cetomuhi_bench::plain::state::{Memory, Revocation};
@@ -24,7 +25,7 @@ const DOCUMENT: &str = "
     08 00 00 00                # 0 0 0
     02 00 00 00 00 10          # 0 0 0
     04 00 00 00 03             # 0 0 0
-    01 03 00 00 00             # 0 16 0
+    11 03 00 00 00 0F          # 0 16 0
     0E 03 01 000000000000002A  # 0 0 0
     0C 03 00 00 05 01          # 0 0 0
     0C 03 00 00 06 00          # 0 0 0
@@ -103,7 +104,8 @@ fn starts_out_of_range_or_short_are_refused() {
 #[test]
 fn a_session_ends_after_refusal_3() {
     assert_eq!(codes("0001 01 00 07 00"), [0, 3]);
-    assert_eq!(codes("0001 01 11 00 00 00"), [0, 3]);
+    assert_eq!(codes("0001 01 12 00 00 00"), [0, 3]);
+    assert_eq!(codes("0001 01 11 00 00 00 00"), [0, 3]);
     assert_eq!(codes("0001 01 07 00 05 00 00"), [0, 11, 3]);
 }
 
@@ -147,6 +149,67 @@ fn a_command_is_read_from_its_place() {
     assert_eq!(state.command(&mut memory, &input, 4).0.code, 3);
     assert_eq!(state.command(&mut memory, &input, 5).0.code, 3);
     assert_eq!(state.command(&mut memory, &input, 6).0.code, 3);
+}
+
+#[test]
+fn a_take_gives_load_and_store_and_one_by_mask_what_of_fifteen_is_in_it() {
+    let (mut cells, mut tags) = ([0; 16], [0; 16]);
+    let mut memory = Memory { cells: &mut cells, tags: &mut tags };
+    let mut given = |action| {
+        let mut state = State::start(1, 1).unwrap();
+        let answer = state.call(&mut memory, Call { party: 0, action });
+        assert_eq!((answer.code, answer.number, answer.tag), (0, 16, false));
+        assert!(state.registers[0][5].tag);
+        state.registers[0][5].cell
+    };
+    assert_eq!(given(Action::Take { base: 0, reg: 5 }), 16 << 16 | 3 << 32);
+    for mask in 0..=255 {
+        let cell = given(Action::TakeMasked { base: 0, reg: 5, mask });
+        assert_eq!(cell, 16 << 16 | u64::from(mask % 16) << 32, "mask {mask}");
+    }
+}
+
+#[test]
+fn a_take_by_mask_is_refused_as_a_take() {
+    let both = |rest: &str| {
+        let codes = ["01", "11"].map(|command| {
+            let mask = if command == "11" { "0F" } else { "" };
+            codes(&format!("0002 01 02 00 0000 0010 04 00 0000 03 {command} {rest} {mask}"))
+        });
+        assert_eq!(codes[0], codes[1], "{rest}");
+        *codes[1].last().unwrap()
+    };
+    assert_eq!((both("08 0000 00"), both("03 0000 08"), both("08 0001 08")), (4, 4, 4));
+    assert_eq!((both("03 0001 00"), both("03 0010 00"), both("00 0020 00")), (6, 6, 6));
+    assert_eq!((both("03 0000 07"), both("00 0010 00")), (0, 0));
+    assert_eq!(codes("0001 01 04 00 0000 03 11 03 0000 00 0F 11 03 0000 00 0F"), [0, 0, 0, 6]);
+    assert_eq!(codes("0001 01 11 00 0000 00 0F 11 00 0000 00 0F"), [0, 0, 7]);
+    assert_eq!(codes("0001 01 11 00 0000 00 00 01 00 0000 00"), [0, 0, 7]);
+    assert_eq!(codes("0001 01 01 00 0000 00 11 00 0000 00 0F"), [0, 0, 7]);
+}
+
+/// From a fresh start nobody stores a capability in a range taken without permission 8, so that the
+/// tagged cell is put there by hand.
+#[test]
+fn a_take_loads_a_capability_without_its_tag_and_stores_none() {
+    let mut state = State::start(1, 1).unwrap();
+    let (mut cells, mut tags) = ([0; 16], [0; 16]);
+    let mut memory = Memory { cells: &mut cells, tags: &mut tags };
+    let call = |state: &mut State, memory: &mut Memory, action| {
+        let answer = state.call(memory, Call { party: 0, action });
+        (answer.code, answer.number, answer.tag)
+    };
+    call(&mut state, &mut memory, Action::Zero { frame: 0 });
+    call(&mut state, &mut memory, Action::Map { page: 0, frame: 0 });
+    call(&mut state, &mut memory, Action::Take { base: 0, reg: 0 });
+    (memory.cells[4], memory.tags[4]) = (77, 5);
+    let load = Action::Load { a: 0, off: 4, d: 1 };
+    assert_eq!(call(&mut state, &mut memory, load), (0, 77, false));
+    assert_eq!(memory.tags[4], 5);
+    let store = |s| Action::Store { a: 0, off: 5, s };
+    assert_eq!(call(&mut state, &mut memory, store(0)), (16, 0, false));
+    assert_eq!(call(&mut state, &mut memory, store(1)), (0, 0, false));
+    assert_eq!((memory.cells[5], memory.tags[5]), (77, 0));
 }
 
 #[test]

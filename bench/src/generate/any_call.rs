@@ -33,7 +33,7 @@ impl Author {
     }
 
     fn any_action(&mut self, party: u8) -> Action {
-        match 1 + self.random.below(16) {
+        match 1 + self.random.below(17) {
             0x01 => Action::Take { base: self.any_base(), reg: self.any_register() },
             0x02 => Action::Split { base: self.any_base(), len: self.any_length() },
             0x03 => Action::Merge { base: self.any_base() },
@@ -60,7 +60,11 @@ impl Author {
             }
             0x0E => Action::Number { d: self.any_register(), value: self.random.number() },
             0x0F => Action::Grant { s: self.any_register(), to: self.any_register() },
-            _ => Action::Receive { d: self.any_register() },
+            0x10 => Action::Receive { d: self.any_register() },
+            _ => {
+                let mask = self.random.below(256) as u8;
+                Action::TakeMasked { base: self.any_base(), reg: self.any_register(), mask }
+            }
         }
     }
 

@@ -26,16 +26,16 @@ impl Mood {
         *random.pick(&[Settling, Mixed, Mixed, Splitting, Merging, Mailing, Storing, Revoking])
     }
 
-    /// How often each of the sixteen commands is tried, in the order of their numbers.
-    fn weights(self) -> [u8; 16] {
+    /// How often each of the seventeen commands is tried, in the order of their numbers.
+    fn weights(self) -> [u8; 17] {
         match self {
-            Mood::Settling => [5, 8, 0, 6, 0, 2, 2, 9, 0, 9, 2, 3, 2, 2, 2, 2],
-            Mood::Mixed => [4, 3, 2, 3, 3, 6, 6, 6, 1, 6, 14, 16, 8, 6, 6, 8],
-            Mood::Splitting => [1, 60, 1, 4, 0, 1, 1, 2, 0, 2, 3, 3, 2, 2, 1, 1],
-            Mood::Merging => [1, 3, 40, 8, 2, 2, 2, 2, 1, 2, 2, 2, 2, 2, 1, 1],
-            Mood::Mailing => [2, 1, 1, 1, 0, 1, 1, 1, 0, 1, 4, 6, 12, 3, 40, 20],
-            Mood::Storing => [2, 0, 0, 0, 0, 1, 1, 3, 0, 3, 30, 40, 8, 6, 2, 2],
-            Mood::Revoking => [3, 1, 1, 1, 12, 8, 4, 5, 0, 5, 12, 40, 4, 1, 5, 6],
+            Mood::Settling => [2, 8, 0, 6, 0, 2, 2, 9, 0, 9, 2, 3, 2, 2, 2, 2, 4],
+            Mood::Mixed => [2, 3, 2, 3, 3, 6, 6, 6, 1, 6, 14, 16, 8, 6, 6, 8, 3],
+            Mood::Splitting => [1, 60, 1, 4, 0, 1, 1, 2, 0, 2, 3, 3, 2, 2, 1, 1, 1],
+            Mood::Merging => [1, 3, 40, 8, 2, 2, 2, 2, 1, 2, 2, 2, 2, 2, 1, 1, 1],
+            Mood::Mailing => [1, 1, 1, 1, 0, 1, 1, 1, 0, 1, 4, 6, 12, 3, 40, 20, 2],
+            Mood::Storing => [1, 0, 0, 0, 0, 1, 1, 3, 0, 3, 30, 40, 8, 6, 2, 2, 2],
+            Mood::Revoking => [1, 1, 1, 1, 12, 8, 4, 5, 0, 5, 12, 40, 4, 1, 5, 6, 3],
         }
     }
 
@@ -92,18 +92,33 @@ impl Author {
             0x0D => self.narrow(),
             0x0E => Some(self.number()),
             0x0F => self.grant(),
-            _ => self.receive(),
+            0x10 => self.receive(),
+            _ => self.take_masked(),
         }
     }
 
     fn take(&mut self) -> Option<Call> {
+        let (row, reg) = self.row_to_take()?;
+        by(row.holder, Action::Take { base: row.base, reg })
+    }
+
+    /// Mostly with all permissions, so that capabilities are stored and loaded; masks of all sorts too.
+    fn take_masked(&mut self) -> Option<Call> {
+        let (row, reg) = self.row_to_take()?;
+        let any = self.random.below(256) as u8;
+        let mask =
+            *self.random.pick(&[15, 15, 15, 15, 15, 15, 0xFF, 0xFF, 11, 7, 14, 3, 0, 0xF0, any]);
+        by(row.holder, Action::TakeMasked { base: row.base, reg, mask })
+    }
+
+    /// An Open reservation, seldom one of all cells, and the register for its capability.
+    fn row_to_take(&mut self) -> Option<(Reservation, u8)> {
         let row = self.open_row(|_| true)?;
         let everything = row.length == self.state.pages.virtual_cells();
         if everything && row.length > 16 && !self.random.one_in(8) {
             return None;
         }
-        let reg = self.register_to_fill(row.holder);
-        by(row.holder, Action::Take { base: row.base, reg })
+        Some((row, self.register_to_fill(row.holder)))
     }
 
     fn split(&mut self) -> Option<Call> {

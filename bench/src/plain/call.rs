@@ -1,4 +1,4 @@
-//! The sixteen kinds of call, read from bytes and written to them.
+//! The seventeen kinds of call, read from bytes and written to them.
 
 #[derive(Clone, Copy, Debug, PartialEq, Eq)]
 pub struct Call {
@@ -24,6 +24,7 @@ pub enum Action {
     Number { d: u8, value: u64 },
     Grant { s: u8, to: u8 },
     Receive { d: u8 },
+    TakeMasked { base: u16, reg: u8, mask: u8 },
 }
 
 /// The call at the input's beginning and its length in bytes. None is refusal 3.
@@ -106,6 +107,11 @@ pub fn read(input: &[u8]) -> Option<(Call, usize)> {
             let &[p, d] = rest.first_chunk()?;
             (p, Action::Receive { d }, 2)
         }
+        0x11 => {
+            let &[p, b1, b0, reg, mask] = rest.first_chunk()?;
+            let base = two(b1, b0);
+            (p, Action::TakeMasked { base, reg, mask }, 5)
+        }
         _ => return None,
     };
     Some((Call { party, action }, 1 + operands))
@@ -137,6 +143,9 @@ impl Call {
             Action::Number { d, value } => put(0x0E, &[&[d], &value.to_be_bytes()]),
             Action::Grant { s, to } => put(0x0F, &[&[s, to]]),
             Action::Receive { d } => put(0x10, &[&[d]]),
+            Action::TakeMasked { base, reg, mask } => {
+                put(0x11, &[&base.to_be_bytes(), &[reg, mask]])
+            }
         }
     }
 }
@@ -147,7 +156,7 @@ mod tests {
 
     #[test]
     fn a_written_call_reads_back_from_its_length_on() {
-        for command in 0x01..=0x10 {
+        for command in 0x01..=0x11 {
             let bytes: Vec<u8> = (0..12).map(|i| command + 17 * i).collect();
             let (call, length) = read(&bytes).expect("twelve bytes hold every command");
             let mut written = Vec::new();
@@ -161,6 +170,6 @@ mod tests {
     fn other_first_bytes_are_no_command() {
         assert_eq!(read(&[]), None);
         assert_eq!(read(&[0; 16]), None);
-        assert_eq!(read(&[0x11; 16]), None);
+        assert_eq!(read(&[0x12; 16]), None);
     }
 }

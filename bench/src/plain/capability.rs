@@ -5,6 +5,8 @@ pub const STORE: u8 = 2;
 pub const LOAD_CAPABILITY: u8 = 4;
 pub const STORE_CAPABILITY: u8 = 8;
 pub const ALL_PERMISSIONS: u8 = 15;
+/// What take gives: most houses store only text.
+pub const PLAIN_PERMISSIONS: u8 = LOAD | STORE;
 
 pub fn make(base: u16, length: u16, permissions: u8) -> u64 {
     u64::from(base) | u64::from(length) << 16 | u64::from(permissions) << 32

@@ -153,7 +153,7 @@ impl State {
     #[inline]
     fn outcome(&mut self, memory: &mut Memory, Call { party: p, action }: Call) -> Outcome {
         match action {
-            Action::Take { base, reg } => self.take(p, base, reg),
+            Action::Take { base, reg } => self.take(p, base, reg, cap::PLAIN_PERMISSIONS),
             Action::Split { base, len } => self.split(p, base, len),
             Action::Merge { base } => self.merge(p, base),
             Action::Give { base, to } => self.give(p, base, to),
@@ -169,17 +169,20 @@ impl State {
             Action::Number { d, value } => self.number(p, d, value),
             Action::Grant { s, to } => self.grant(p, s, to),
             Action::Receive { d } => self.receive(p, d),
+            Action::TakeMasked { base, reg, mask } => {
+                self.take(p, base, reg, cap::ALL_PERMISSIONS & mask)
+            }
         }
     }
 
-    fn take(&mut self, party: u8, base: u16, reg: u8) -> Outcome {
+    fn take(&mut self, party: u8, base: u16, reg: u8, permissions: u8) -> Outcome {
         up_to_seven(&[party, reg])?;
         let index = self.table.held_open(party, base)?;
         let row = self.table.row(index);
         row.standing = Standing::Taken;
         row.holder = 0;
         let length = row.length;
-        let cell = cap::make(base, length, cap::ALL_PERMISSIONS);
+        let cell = cap::make(base, length, permissions);
         *self.register(party, reg) = Slot { cell, tag: true };
         Ok(Answer::number(length.into()))
     }

@@ -6,7 +6,7 @@ use lib.ListN.{drop}
 use Rattle.calls.specs.Reader.{whole, readOf}
 use Rattle.calls.specs.Commands.{page, frame}
 use Rattle.calls.specs.declared.Call.{Call}
-use Rattle.calls.specs.declared.Call.the-variants.{Take, Split, Give, Revoke, Sweep, Collect, Map, Unmap, Zero, Load, Store, Number}
+use Rattle.calls.specs.declared.Call.the-variants.{Split, Give, Revoke, Sweep, Collect, Map, Unmap, Zero, Load, Store, Number, TakeMasked}
 use Rattle.calls.specs.declared.Reading.the-variants.{Read, Refused}
 
 -- The calls of an input, `n` at the most, up to the first place where none is read.
@@ -14,14 +14,14 @@ pub calls : ℕ → List ℕ → List Call
 calls zero s = []
 calls (suc n) s = elim (readOf s) [ Read call used ↦ call ∷ calls n (drop used s) | Refused ↦ [] ]
 
--- Document 01, "One session in full", without V and F in front.
+-- Document 01, "One session in full", without V and F in front. Its take is 11 with mask 0F, as request 2026-01 says.
 pub session : List ℕ
 session =
     0x0A ∷ 0x00 ∷ 0x00 ∷
     0x08 ∷ 0x00 ∷ 0x00 ∷ 0x00 ∷
     0x02 ∷ 0x00 ∷ 0x00 ∷ 0x00 ∷ 0x00 ∷ 0x10 ∷
     0x04 ∷ 0x00 ∷ 0x00 ∷ 0x00 ∷ 0x03 ∷
-    0x01 ∷ 0x03 ∷ 0x00 ∷ 0x00 ∷ 0x00 ∷
+    0x11 ∷ 0x03 ∷ 0x00 ∷ 0x00 ∷ 0x00 ∷ 0x0F ∷
     0x0E ∷ 0x03 ∷ 0x01 ∷ 0x00 ∷ 0x00 ∷ 0x00 ∷ 0x00 ∷ 0x00 ∷ 0x00 ∷ 0x00 ∷ 0x2A ∷
     0x0C ∷ 0x03 ∷ 0x00 ∷ 0x00 ∷ 0x05 ∷ 0x01 ∷
     0x0C ∷ 0x03 ∷ 0x00 ∷ 0x00 ∷ 0x06 ∷ 0x00 ∷
@@ -42,7 +42,7 @@ pub session-read :
     ∷ Map 0 (page 0) (frame 0)
     ∷ Split 0 0 16
     ∷ Give 0 0 3
-    ∷ Take 3 0 0
+    ∷ TakeMasked 3 0 0 15
     ∷ Number 3 1 42
     ∷ Store 3 0 5 1
     ∷ Store 3 0 6 0

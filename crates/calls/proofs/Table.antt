@@ -12,7 +12,7 @@ use native.Mathlib.Omega.{arith}
 use Rattle.calls.specs.Bytes.{number, numbersAt, sum}
 use Rattle.calls.specs.Commands.{Command, commands, take-command, lastByte, commandOf, lengthOf, lengths, callAt, partsOf, byteOf, operandsOf}
 use Rattle.calls.specs.declared.Call.{Call}
-use Rattle.calls.specs.declared.Call.the-variants.{Take, Split, Merge, Give, Revoke, Sweep, Collect, Map, Unmap, Zero, Load, Store, Narrow, Number, Grant, Receive}
+use Rattle.calls.specs.declared.Call.the-variants.{Take, Split, Merge, Give, Revoke, Sweep, Collect, Map, Unmap, Zero, Load, Store, Narrow, Number, Grant, Receive, TakeMasked}
 use Rattle.calls.proofs.Bytes.{formed}
 
 -- A call is made of its operands again; its command's length is that of the operands and a byte; each operand has a width.
@@ -38,6 +38,7 @@ listed (Narrow party s off len mask d) = record { made = refl; long = refl; shap
 listed (Number party d value) = record { made = refl; long = refl; shaped = refl }
 listed (Grant party s to) = record { made = refl; long = refl; shaped = refl }
 listed (Receive party d) = record { made = refl; long = refl; shaped = refl }
+listed (TakeMasked party base reg mask) = record { made = refl; long = refl; shaped = refl }
 
 -- ---- a row
 

@@ -1,4 +1,4 @@
--- Document 01, "Commands": the one table of commands and their operands.
+-- Document 01, "Commands", and the requests since: the one table of commands and their operands.
 use Prim.Native.Nat.{ℕ, _+_, _-_}
 use mathlib.Core.List.{List, [], _∷_, _++_, map}
 use lib.ListN.{getD, length, replicate}
@@ -6,7 +6,7 @@ use Rattle.pages.specs.declared.VirtualPage.{VirtualPage}
 use Rattle.pages.specs.declared.Frame.{Frame}
 use Rattle.calls.specs.Bytes.{bytesIn, numbersAt, sum, Fit}
 use Rattle.calls.specs.declared.Call.{Call}
-use Rattle.calls.specs.declared.Call.the-variants.{Take, Split, Merge, Give, Revoke, Sweep, Collect, Map, Unmap, Zero, Load, Store, Narrow, Number, Grant, Receive}
+use Rattle.calls.specs.declared.Call.the-variants.{Take, Split, Merge, Give, Revoke, Sweep, Collect, Map, Unmap, Zero, Load, Store, Narrow, Number, Grant, Receive, TakeMasked}
 
 abbrev pub page : ℕ → VirtualPage
 page n = record { 0 = n }
@@ -61,6 +61,8 @@ commands =
     ∷ command (1 ∷ 1 ∷ 1 ∷ []) (λ x. Grant (x 0) (x 1) (x 2))
     -- 10 receive P d
     ∷ command (1 ∷ 1 ∷ []) (λ x. Receive (x 0) (x 1))
+    -- 11 take P base/2 reg mask
+    ∷ command (1 ∷ 2 ∷ 1 ∷ 1 ∷ []) (λ x. TakeMasked (x 0) (x 1) (x 2) (x 3))
     ∷ []
 
 -- The byte of the last command, which is how many there are.
@@ -101,6 +103,7 @@ partsOf (Narrow party s off len mask d) = (0x0D, party ∷ s ∷ off ∷ len ∷
 partsOf (Number party d value) = (0x0E, party ∷ d ∷ value ∷ [])
 partsOf (Grant party s to) = (0x0F, party ∷ s ∷ to ∷ [])
 partsOf (Receive party d) = (0x10, party ∷ d ∷ [])
+partsOf (TakeMasked party base reg mask) = (0x11, party ∷ base ∷ reg ∷ mask ∷ [])
 
 abbrev pub byteOf : Call → ℕ
 byteOf c = partsOf c .0

@@ -34,6 +34,8 @@ pub(crate) const GRANT: u8 = 0x0F;
 
 pub(crate) const RECEIVE: u8 = 0x10;
 
+pub(crate) const TAKE_MASKED: u8 = 0x11;
+
 // The length of the longest.
 pub(crate) const LONGEST: usize = 11;
 
@@ -58,6 +60,7 @@ pub(crate) fn length_of(command: u8) -> usize
         NUMBER => 11,
         GRANT => 4,
         RECEIVE => 3,
+        TAKE_MASKED => 6,
         _ => 0,
     }
 }

@@ -90,6 +90,12 @@ pub enum Call {
         party: u8,
         d: u8,
     },
+    TakeMasked {
+        party: u8,
+        base: u16,
+        reg: u8,
+        mask: u8,
+    },
 }
 
 // What reading finds: a call and how many bytes it used, or refusal 3.

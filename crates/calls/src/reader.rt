@@ -241,6 +241,18 @@ fn receive_at(s: &[u8]) -> Call
     }
 }
 
+fn take_masked_at(s: &[u8]) -> Call
+    requires { ⌜ 6 ≤ length (now s) ⌝ }
+    ensures { λ r. ⌜ r ≡ callAt 0x11 (now (s .entry)) ⌝ }
+{
+    Call::TakeMasked {
+        party: byte_in(s, 1),
+        base: two_at(s, 2),
+        reg: byte_in(s, 4),
+        mask: byte_in(s, 5),
+    }
+}
+
 // The call of a command's byte and the operands after it. In the last arm only the last command is left.
 fn call_at(command: u8, s: &[u8]) -> Call
     requires { ⌜ ((1 ≤ command) × (command ≤ lastByte)) × (lengthOf command ≤ length (now s)) ⌝ }
@@ -262,7 +274,8 @@ fn call_at(command: u8, s: &[u8]) -> Call
         commands::NARROW => narrow_at(s),
         commands::NUMBER => number_at(s),
         commands::GRANT => grant_at(s),
-        _ => receive_at(s),
+        commands::RECEIVE => receive_at(s),
+        _ => take_masked_at(s),
     }
 }
 

@@ -222,6 +222,24 @@ fn receive_bytes(party: u8, d: u8) -> [u8; commands::LONGEST]
     [commands::RECEIVE, party, d, 0, 0, 0, 0, 0, 0, 0, 0]
 }
 
+fn take_masked_bytes(party: u8, base: u16, reg: u8, mask: u8) -> [u8; commands::LONGEST]
+    ensures { λ r. ⌜ r ≡ padded (bytesOf (Call.TakeMasked party base reg mask)) ⌝ }
+{
+    [
+        commands::TAKE_MASKED,
+        party,
+        high(base),
+        low(base),
+        reg,
+        mask,
+        0,
+        0,
+        0,
+        0,
+        0,
+    ]
+}
+
 // A call's bytes, and 0 after them.
 fn bytes_of(call: Call) -> [u8; commands::LONGEST]
     ensures { λ r. ⌜ r ≡ padded (bytesOf call) ⌝ }
@@ -250,6 +268,12 @@ fn bytes_of(call: Call) -> [u8; commands::LONGEST]
         Call::Number { party, d, value } => number_bytes(party, d, value),
         Call::Grant { party, s, to } => grant_bytes(party, s, to),
         Call::Receive { party, d } => receive_bytes(party, d),
+        Call::TakeMasked {
+            party,
+            base,
+            reg,
+            mask,
+        } => take_masked_bytes(party, base, reg, mask),
     }
 }
 

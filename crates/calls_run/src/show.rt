@@ -54,7 +54,7 @@ fn cell(word: &[u8], party: u8, a: u8, off: u16, x: u64) {
     number(x);
 }
 
-// A call's word and its operands, in document 01's order.
+// A call's word and its operands, in the order of their bytes.
 pub(crate) fn call(c: Call) {
     match c {
         Call::Take {
@@ -92,5 +92,14 @@ pub(crate) fn call(c: Call) {
         Call::Number { party, d, value } => base_with(b"number", party, d as u16, value),
         Call::Grant { party, s, to } => three(b"grant", party, s, to),
         Call::Receive { party, d } => two(b"receive", party, d),
+        Call::TakeMasked {
+            party,
+            base: b,
+            reg,
+            mask,
+        } => {
+            base_with(b"take", party, b, reg as u64);
+            number(mask as u64);
+        }
     }
 }

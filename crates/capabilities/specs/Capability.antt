@@ -24,3 +24,7 @@ capability base length permissions = base + 65536 * length + 4294967296 * permis
 -- 0D: "base + off, len, and the permissions that are also in mask."
 abbrev pub narrowed : ℕ → ℕ → ℕ → ℕ → ℕ
 narrowed c off len mask = capability ((baseOf c + off) % 65536) len (bitAnd (permissionsOf c) mask)
+
+-- Document 02, 2026-01, 11: "the permissions in 15 that are also in mask".
+abbrev pub permitted : ℕ → ℕ
+permitted mask = bitAnd 15 mask

@@ -1,6 +1,6 @@
 // A capability is a number: its base in bits 0 to 15, its length in 16 to 31, its permissions in 32 to 39.
 ghost use mathlib.Core.Path.{_≡_};
-ghost use Rattle.capabilities.specs.Capability.{baseOf, lengthOf, permissionsOf, permits, capability, narrowed};
+ghost use Rattle.capabilities.specs.Capability.{baseOf, lengthOf, permissionsOf, permits, capability, narrowed, permitted};
 
 pub fn base_of(cell: u64) -> u16
     ensures { λ r. ⌜ r ≡ baseOf cell ⌝ }
@@ -56,4 +56,11 @@ pub fn narrowed(cell: u64, offset: u16, length: u16, mask: u8) -> u64
 {
     let base = (base_of(cell) as u32 + offset as u32) % 65536;
     capability(base as u16, length, permissions_of(cell) & mask)
+}
+
+// The permissions that are also in `mask`.
+pub fn permitted(mask: u8) -> u8
+    ensures { λ r. ⌜ r ≡ permitted mask ⌝ }
+{
+    15 & mask
 }

@@ -75,12 +75,12 @@ fn at_end(
     }
 }
 
-// The number of this layout; another layout has another one.
+// The number of this boundary; another layout has another one, and so have rules under which a call that was there does something else.
 #[no_mangle]
 pub extern "C" fn cetomuhi_version() -> u64
-    ensures { λ r. ⌜ r ≡ 1 ⌝ }
+    ensures { λ r. ⌜ r ≡ 2 ⌝ }
 {
-    1
+    2
 }
 
 const SIZES: [usize; 10] = [6, 64, 64, 8, 8, 64, 256, 128, 4, 7];

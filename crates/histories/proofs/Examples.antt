@@ -10,7 +10,7 @@ use Rattle.pages.specs.Pages.{Pages}
 use Rattle.sweep.specs.Sweep.{Passed, passing, sweepOf}
 use Rattle.table.specs.Rows.{live}
 use Rattle.calls.specs.declared.Call.{Call}
-use Rattle.calls.specs.declared.Call.the-variants.{Take, Split, Merge, Revoke, Sweep, Collect, Map, Unmap, Zero, Store, Grant, Receive}
+use Rattle.calls.specs.declared.Call.the-variants.{Take, Split, Merge, Revoke, Sweep, Collect, Map, Unmap, Zero, Store, Grant, Receive, TakeMasked}
 use Rattle.calls.specs.Commands.{page, frame}
 use Rattle.words.specs.Words.{byteOf}
 use Rattle.machine.specs.Edges.{same, all}
@@ -68,7 +68,7 @@ again =
           note (Zero 0 (frame 0)) (0 ∷ 1 ∷ 0 ∷ 0 ∷ 0 ∷ [])
           ∷ note (Map 0 (page 0) (frame 0)) (0 ∷ 1 ∷ 0 ∷ 0 ∷ 0 ∷ [])
           ∷ note (Split 0 0 16) (0 ∷ 2 ∷ 0 ∷ 0 ∷ 0 ∷ [])
-          ∷ note (Take 0 0 0) (0 ∷ 2 ∷ 1 ∷ 0 ∷ 0 ∷ [])
+          ∷ note (TakeMasked 0 0 0 15) (0 ∷ 2 ∷ 1 ∷ 0 ∷ 0 ∷ [])
           ∷ note (Store 0 0 3 0) (0 ∷ 2 ∷ 1 ∷ 0 ∷ 0 ∷ [])
           ∷ note (Grant 0 0 1) (0 ∷ 2 ∷ 1 ∷ 0 ∷ 0 ∷ [])
           ∷ note (Receive 1 0) (0 ∷ 2 ∷ 1 ∷ 0 ∷ 1 ∷ [])
@@ -86,7 +86,7 @@ again =
 abbrev pub merged : History
 merged = record { step = stepOf; spots = []; calls = note (Split 0 0 16) (0 ∷ 2 ∷ []) ∷ note (Merge 0 0) (0 ∷ 1 ∷ []) ∷ [] }
 
--- Party 0 takes cells 0 to 15 into register 0, and 16 to 31, which the frame shows, into register 1; it stores the first capability
+-- Party 0 takes cells 0 to 15 into register 0, and 16 to 31, which the frame shows, into register 1 with all permissions; it stores the first capability
 -- at virtual cell 19, and cells 0 to 15 are revoked. Virtual cells 18 and 19 and register 0 are looked at.
 abbrev pub revoking : Rule → List Noted → History
 revoking step rest =
@@ -98,7 +98,7 @@ revoking step rest =
           ∷ note (Map 0 (page 1) (frame 0)) (0 ∷ 1 ∷ 0 ∷ 0 ∷ 0 ∷ [])
           ∷ note (Split 0 0 16) (0 ∷ 2 ∷ 0 ∷ 0 ∷ 0 ∷ [])
           ∷ note (Take 0 0 0) (0 ∷ 2 ∷ 0 ∷ 0 ∷ 1 ∷ [])
-          ∷ note (Take 0 16 1) (0 ∷ 2 ∷ 0 ∷ 0 ∷ 1 ∷ [])
+          ∷ note (TakeMasked 0 16 1 15) (0 ∷ 2 ∷ 0 ∷ 0 ∷ 1 ∷ [])
           ∷ note (Store 0 1 3 0) (0 ∷ 2 ∷ 0 ∷ 1 ∷ 1 ∷ [])
           ∷ note (Revoke 0 0) (0 ∷ 2 ∷ 0 ∷ 1 ∷ 1 ∷ [])
           ∷ rest;

@@ -9,7 +9,7 @@ use Rattle.pages.specs.Layer.{pageAt}
 use Rattle.table.specs.declared.Reservation.{Reservation}
 use Rattle.table.specs.declared.ReservationState.the-variants.{Open}
 use Rattle.table.specs.Rows.{live, reservation}
-use Rattle.calls.specs.declared.Call.the-variants.{Take, Split, Merge, Give, Revoke, Sweep, Collect, Map, Unmap, Zero, Store}
+use Rattle.calls.specs.declared.Call.the-variants.{Take, Split, Merge, Give, Revoke, Sweep, Collect, Map, Unmap, Zero, Store, TakeMasked}
 use Rattle.calls.specs.Commands.{page, frame}
 use Rattle.machine.specs.State.{Answered}
 use Rattle.machine.proofs.Computing.{computing}
@@ -19,7 +19,7 @@ use Rattle.histories.proofs.Examples.{start}
 
 -- A revocation in its middle: the sweep has passed five cells.
 pub swept : Machine
-swept = run start (Zero 0 (frame 0) ∷ Map 0 (page 0) (frame 0) ∷ Split 0 0 16 ∷ Take 0 0 0 ∷ Store 0 0 3 0 ∷ Unmap 0 (page 0) ∷ Revoke 0 0 ∷ Sweep 0 5 ∷ [])
+swept = run start (Zero 0 (frame 0) ∷ Map 0 (page 0) (frame 0) ∷ Split 0 0 16 ∷ TakeMasked 0 0 0 15 ∷ Store 0 0 3 0 ∷ Unmap 0 (page 0) ∷ Revoke 0 0 ∷ Sweep 0 5 ∷ [])
 
 -- Splits inside of pages, one part Taken, one page Mapped.
 pub cut : Machine

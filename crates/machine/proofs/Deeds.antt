@@ -7,7 +7,8 @@ use mathlib.Core.Bool.{true, false, not, _||_}
 use mathlib.Core.List.{[], _∷_}
 use mathlib.Core.Path.{_≡_, refl, subst}
 use borrow.Author.Tests.{not-false}
-use Rattle.capabilities.specs.Capability.{narrowed, permits}
+use lib.Bits.{and-le-l}
+use Rattle.capabilities.specs.Capability.{narrowed, permitted, permits}
 use Rattle.capabilities.specs.Refusals.{first, reason}
 use Rattle.capabilities.proofs.Refusals.{first-clear}
 use Rattle.pages.specs.declared.Frame.{Frame}
@@ -20,13 +21,13 @@ use Rattle.reservations.specs.Core.{Core}
 use Rattle.reservations.specs.Revocation.{core, running, revoked, revokeReasons, revokeOf, collectReasons, collectOf}
 use Rattle.sweep.specs.Sweep.{cellsLeft}
 use Rattle.calls.specs.declared.Call.{Call}
-use Rattle.calls.specs.declared.Call.the-variants.{Take, Split, Merge, Give, Revoke, Sweep, Collect, Map, Unmap, Zero, Load, Store, Narrow, Number, Grant, Receive}
+use Rattle.calls.specs.declared.Call.the-variants.{Take, Split, Merge, Give, Revoke, Sweep, Collect, Map, Unmap, Zero, Load, Store, Narrow, Number, Grant, Receive, TakeMasked}
 use Rattle.words.specs.declared.Slot.{Slot}
 use Rattle.words.specs.Words.{slot, empty, registerOf, mailboxOf, placeNumber, stored}
 use Rattle.words.specs.WordReasons.{unnamed, notManager, mayNotLoad, mayNotStore}
 use Rattle.machine.specs.State.{State}
 use Rattle.machine.specs.Roles.{Sources, fromNone, fromOne, Role, takes, collects, fills, stores, grants, plain, Asked, asked, plainPermissions, roleOf, IsTake}
-use Rattle.machine.specs.Reasons.{addressed, reasons}
+use Rattle.machine.specs.Reasons.{addressed, takingReasons, reasons}
 use Rattle.machine.specs.Effects.{keepRegisters, putRegister, fetchInto, collectRegisters, keepMailboxes, putMailbox, collectMailboxes, keepMemory, writeWord, clearFrame, sweepCells, Effect, effectOf, withTable, withPages, sweptTo, taking, effect}
 use Rattle.machine.specs.Step.{reasonsOn, effectOn}
 use Rattle.machine.proofs.Found.{after-five, low-two, low-three, Addressing, addressing, Narrowing, narrowing}
@@ -79,12 +80,17 @@ pub data Deed (s : State) : Asked → Effect → Type 0 where
   received : (p d : ℕ) → d < 8
       → Deed s (asked p plain) (effectOf (s .core) (putRegister p d (mailboxOf (s .mailboxes) p)) (putMailbox p empty) keepMemory (mailboxOf (s .mailboxes) p))
 
+-- A take, of either kind.
+taking-deed : (s : State) (p base reg permissions : ℕ) → permissions ≤ 15 → first (takingReasons (s .core) p base reg) ≡ 0
+    → Deed s (asked p (takes base reg permissions)) (taking (s .core) p base reg permissions)
+taking-deed s p base reg permissions few z =
+    let low = low-two p reg (takeReasons (s .core .table) p base) z in
+    took p base reg permissions (low .0) (low .1) few (first-clear 4 (unnamed p || unnamed reg) _ (λ x. omega arith) z .1)
+
 -- Every granted call does one of these.
 pub deed : (s : State) (c : Call) → first (reasonsOn s c) ≡ 0 → Deed s (roleOf c) (effectOn s c)
 unfolding reasons effect
-deed s (Take p base reg) z =
-    let low = low-two p reg (takeReasons (s .core .table) p base) z in
-    took p base reg plainPermissions (low .0) (low .1) (omega arith) (first-clear 4 (unnamed p || unnamed reg) _ (λ x. omega arith) z .1)
+deed s (Take p base reg) z = taking-deed s p base reg plainPermissions (omega arith) z
 deed s (Split p base len) z = recored p _ (splits p base len (first-clear 4 (unnamed p) _ (λ x. omega arith) z .1))
 deed s (Merge p base) z = recored p _ (merges p base (first-clear 4 (unnamed p) _ (λ x. omega arith) z .1))
 deed s (Give p base to) z =
@@ -110,6 +116,7 @@ deed s (Grant p x to) z =
     let one = first-clear 4 ((unnamed p || unnamed x) || unnamed to) _ (λ x. omega arith) z in
     granted p x to (not-false (registerOf (s .registers) p x .tag) (first-clear 15 (not (registerOf (s .registers) p x .tag)) _ (λ x. omega arith) (one .1) .0))
 deed s (Receive p d) z = received p d (low-two p d _ z .1)
+deed s (TakeMasked p base reg mask) z = taking-deed s p base reg (permitted mask) (and-le-l 15 mask) z
 
 -- What a granted take, and a granted collect, have found, and their effect.
 pub record Taken (s : State) (p base reg permissions : ℕ) (e : Effect) : Type 0 where

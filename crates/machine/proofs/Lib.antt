@@ -15,3 +15,4 @@ pub mod Computing
 pub mod EdgesMet
 pub mod WrongMachines
 pub mod Shapes
+pub mod Masking

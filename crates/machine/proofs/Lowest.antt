@@ -17,7 +17,7 @@ use Rattle.pages.specs.Mapping.{mapReasons, unmapReasons, dirtyReasons}
 use Rattle.table.specs.Operations.{openReasons, takeReasons, splitReasonsAt, splitReasons, mergeReasonsAt, mergeReasons, giveReasons}
 use Rattle.reservations.specs.Revocation.{revokeReasonsAt, revokeReasons, collectReasons}
 use Rattle.calls.specs.declared.Call.{Call}
-use Rattle.calls.specs.declared.Call.the-variants.{Take, Split, Merge, Give, Revoke, Sweep, Collect, Map, Unmap, Zero, Load, Store, Narrow, Number, Grant, Receive}
+use Rattle.calls.specs.declared.Call.the-variants.{Take, Split, Merge, Give, Revoke, Sweep, Collect, Map, Unmap, Zero, Load, Store, Narrow, Number, Grant, Receive, TakeMasked}
 use Rattle.machine.specs.State.{State}
 use Rattle.machine.specs.Formed.{wellFormed}
 use Rattle.machine.specs.Reasons.{reasons}
@@ -142,6 +142,7 @@ reasons-rise s (Narrow p r off len mask d) = refl
 reasons-rise s (Number p d value) = refl
 reasons-rise s (Grant p r to) = refl
 reasons-rise s (Receive p d) = refl
+reasons-rise s (TakeMasked p base reg mask) = refl
 
 -- The same of all the reasons, 1 and 2 before the others.
 pub all-rise : (s : State) (c : Call) (cells tags : List ℕ) → rising 0 19 (allReasons s c cells tags) ≡ true

@@ -8,6 +8,7 @@ use mathlib.Core.Path.{_≡_, refl, sym, ap, subst, _∙_}
 use lib.ListN.{getD}
 use lib.Dec.{eqb}
 use borrow.Author.Tests.{eqb-true}
+use Rattle.capabilities.specs.Capability.{permitted}
 use Rattle.capabilities.specs.Lists.{pick}
 use Rattle.capabilities.specs.Refusals.{reason}
 use Rattle.capabilities.proofs.Choice.{and-left, and-right}
@@ -23,10 +24,11 @@ use Rattle.calls.proofs.Table.{listed}
 use Rattle.words.specs.Words.{stored, collectedRegister, collectedMailbox}
 use Rattle.words.specs.WordReasons.{unnamed, notManager}
 use Rattle.machine.specs.State.{State}
+use Rattle.machine.specs.Roles.{plainPermissions}
 use Rattle.machine.specs.Reasons.{reasons}
 use Rattle.machine.specs.Effects.{effect}
 use Rattle.machine.specs.Step.{Outcome, refused, registersAfter, mailboxesAfter, cellsAfter, tagsAfter, wordAfter, done, effectOn, withCore}
-use Rattle.machine.specs.WrongMachines.{Obeys, instead, sweepBy, takeBy, splitBy, unmapBy, storeBy, collectBy}
+use Rattle.machine.specs.WrongMachines.{Obeys, instead, sweepBy, takeBy, maskBy, plainBy, splitBy, unmapBy, storeBy, collectBy}
 use Rattle.machine.proofs.Judging.{Granted, pick-by, step-by}
 
 abbrev Made : Type 0
@@ -66,6 +68,14 @@ store-obeys = obeys-by 0x0C _ (λ s x cells tags g. refl)
 pub collect-obeys : Obeys (collectBy collectedRegister collectedMailbox)
 unfolding collectBy done effect registersAfter mailboxesAfter cellsAfter tagsAfter wordAfter
 collect-obeys = obeys-by 0x07 _ (λ s x cells tags g. refl)
+
+pub mask-obeys : Obeys (maskBy permitted)
+unfolding maskBy effect
+mask-obeys = obeys-by 0x11 _ (λ s x cells tags g. refl)
+
+pub plain-obeys : Obeys (plainBy plainPermissions)
+unfolding plainBy effect
+plain-obeys = obeys-by 0x01 _ (λ s x cells tags g. refl)
 
 module _ (s : State) (cells tags : List ℕ) where
   take-clear : (p base reg : ℕ) → Granted s (Take p base reg) cells tags → takeOf (s .core .table) p base .code ≡ 0

@@ -10,11 +10,11 @@ use Rattle.pages.specs.Numbers.{pageCode, frameCode}
 use Rattle.table.specs.Numbers.{rowCode}
 use Rattle.machine.specs.Step.{Outcome, stepOf}
 use Rattle.machine.specs.Edges.{same, all}
-use Rattle.machine.specs.WrongMachines.{Wrong, Rule, Obeys, instead, sweepBy, takeBy, splitBy, unmapBy, storeBy, collectBy, clearsAll, inventsLeft, inventsLength, pleadsFull, turnsDown, answersAlike, keepsState, releases, tagged, tellsTags, refusalWrites, after, from, lent, splits, machines, numbers, leaves, differs, shown, NoneObeys}
+use Rattle.machine.specs.WrongMachines.{Wrong, Rule, Obeys, instead, sweepBy, takeBy, maskBy, plainBy, splitBy, unmapBy, storeBy, collectBy, clearsAll, inventsLeft, inventsLength, pleadsFull, turnsDown, answersAlike, keepsState, releases, tagged, tellsTags, refusalWrites, after, from, lent, splits, machines, numbers, leaves, differs, shown, NoneObeys}
 use Rattle.machine.proofs.Computing.{computing}
 
 pub all-shown : all shown machines ≡ true
-unfolding all shown machines differs numbers same instead sweepBy takeBy splitBy unmapBy storeBy collectBy clearsAll inventsLeft inventsLength pleadsFull turnsDown answersAlike keepsState releases tagged tellsTags refusalWrites after from lent splits pageCode frameCode rowCode computing
+unfolding all shown machines differs numbers same instead sweepBy takeBy maskBy plainBy splitBy unmapBy storeBy collectBy clearsAll inventsLeft inventsLength pleadsFull turnsDown answersAlike keepsState releases tagged tellsTags refusalWrites after from lent splits pageCode frameCode rowCode computing
 all-shown = refl
 
 -- A list is the same as itself.

@@ -5,7 +5,7 @@ use Prim.Native.Nat.{ℕ}
 use mathlib.Core.Bool.{Bool, true, false}
 use mathlib.Core.List.{List}
 use Rattle.capabilities.specs.declared.Range.{Range}
-use Rattle.capabilities.specs.Capability.{capability, narrowed, permits}
+use Rattle.capabilities.specs.Capability.{capability, narrowed, permitted, permits}
 use Rattle.pages.specs.declared.Frame.{Frame}
 use Rattle.pages.specs.declared.FrameState.the-variants.{Free}
 use Rattle.pages.specs.Pages.{Pages}
@@ -17,7 +17,7 @@ use Rattle.table.specs.Operations.{takeOf, splitOf, mergeOf, giveOf}
 use Rattle.reservations.specs.Core.{Core}
 use Rattle.reservations.specs.Revocation.{core, revoked, revokeOf, collectOf}
 use Rattle.calls.specs.declared.Call.{Call}
-use Rattle.calls.specs.declared.Call.the-variants.{Take, Split, Merge, Give, Revoke, Sweep, Collect, Map, Unmap, Zero, Load, Store, Narrow, Number, Grant, Receive}
+use Rattle.calls.specs.declared.Call.the-variants.{Take, Split, Merge, Give, Revoke, Sweep, Collect, Map, Unmap, Zero, Load, Store, Narrow, Number, Grant, Receive, TakeMasked}
 use Rattle.words.specs.declared.Slot.{Slot}
 use Rattle.words.specs.Words.{slot, empty, mailboxOf, placeNumber, stored}
 use Rattle.machine.specs.Roles.{plainPermissions}
@@ -73,7 +73,7 @@ pageChange c p = effectOf (withPages c p) keepRegisters keepMailboxes keepMemory
 abbrev pub sweptTo : Core → ℕ → ℕ
 sweptTo c n = reached (c .pages) (c .place) n
 
--- 01 take: "Open becomes Taken with holder 0; reg gets a capability for it with permissions .. Answers the length."
+-- 01 and 11: "Open becomes Taken with holder 0; reg gets a capability for it with permissions .. Answers the length."
 abbrev pub taking : Core → ℕ → ℕ → ℕ → ℕ → Effect
 taking c p base reg permissions =
     let taken = takeOf (c .table) p base in
@@ -81,8 +81,9 @@ taking c p base reg permissions =
     (slot (taken .length) false)
 
 unfoldable pub effect : Core → List Slot → Reads → Call → Effect
--- 01 take.
+-- 01 take, and 11 with its mask.
 effect c mail r (Take p base reg) = taking c p base reg plainPermissions
+effect c mail r (TakeMasked p base reg mask) = taking c p base reg (permitted mask)
 -- 02 split, 03 merge, 04 give: the table's own rules.
 effect c mail r (Split p base len) = tableChange c (splitOf (c .table) p base len .table)
 effect c mail r (Merge p base) = tableChange c (mergeOf (c .table) p base .table)

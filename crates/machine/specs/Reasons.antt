@@ -11,7 +11,7 @@ use Rattle.table.specs.Operations.{takeReasons, splitReasons, mergeReasons, giv
 use Rattle.reservations.specs.Core.{Core}
 use Rattle.reservations.specs.Revocation.{running, revokeReasons, collectReasons}
 use Rattle.calls.specs.declared.Call.{Call}
-use Rattle.calls.specs.declared.Call.the-variants.{Take, Split, Merge, Give, Revoke, Sweep, Collect, Map, Unmap, Zero, Load, Store, Narrow, Number, Grant, Receive}
+use Rattle.calls.specs.declared.Call.the-variants.{Take, Split, Merge, Give, Revoke, Sweep, Collect, Map, Unmap, Zero, Load, Store, Narrow, Number, Grant, Receive, TakeMasked}
 use Rattle.words.specs.declared.Slot.{Slot}
 use Rattle.words.specs.WordReasons.{unnamed, notManager, loadReasons, storeReasons, narrowReasons, grantReasons, receiveReasons}
 use Rattle.words.specs.Words.{empty, registerOf, mailboxOf}
@@ -39,9 +39,13 @@ reads registers c = wordsIn registers (callerOf c) (sourcesOf (roleOf c .role))
 unfoldable pub addressed : Core → Slot → ℕ → Place
 addressed c a off = lookupOf (c .pages) (baseOf (a .cell) + off)
 
+-- 01 and 11, which "is otherwise take".
+abbrev pub takingReasons : Core → ℕ → ℕ → ℕ → List Reason
+takingReasons c p base reg = reason 4 (unnamed p || unnamed reg) ∷ takeReasons (c .table) p base
+
 -- The reasons against a call, given the core, the mailboxes and the registers that it reads.
 unfoldable pub reasons : Core → List Slot → Reads → Call → List Reason
-reasons c mail r (Take p base reg) = reason 4 (unnamed p || unnamed reg) ∷ takeReasons (c .table) p base
+reasons c mail r (Take p base reg) = takingReasons c p base reg
 reasons c mail r (Split p base len) = reason 4 (unnamed p) ∷ splitReasons (c .table) p base len
 reasons c mail r (Merge p base) = reason 4 (unnamed p) ∷ mergeReasons (c .table) p base
 reasons c mail r (Give p base to) = reason 4 (unnamed p || unnamed to) ∷ giveReasons (c .table) p base
@@ -57,3 +61,4 @@ reasons c mail r (Narrow p s off len mask d) = narrowReasons p s d (r .one) off 
 reasons c mail r (Number p d value) = reason 4 (unnamed p || unnamed d) ∷ []
 reasons c mail r (Grant p s to) = grantReasons p s to (r .one) (mailboxOf mail to)
 reasons c mail r (Receive p d) = receiveReasons p d (mailboxOf mail p)
+reasons c mail r (TakeMasked p base reg mask) = takingReasons c p base reg

@@ -2,8 +2,9 @@
 -- rule says of it and which call is a take are read off this table. Assumes nothing.
 use Prim.Native.Nat.{ℕ}
 use mathlib.Core.Path.{_≡_}
+use Rattle.capabilities.specs.Capability.{permitted}
 use Rattle.calls.specs.declared.Call.{Call}
-use Rattle.calls.specs.declared.Call.the-variants.{Take, Split, Merge, Give, Revoke, Sweep, Collect, Map, Unmap, Zero, Load, Store, Narrow, Number, Grant, Receive}
+use Rattle.calls.specs.declared.Call.the-variants.{Take, Split, Merge, Give, Revoke, Sweep, Collect, Map, Unmap, Zero, Load, Store, Narrow, Number, Grant, Receive, TakeMasked}
 
 -- The registers of its caller that a call reads: at most two, in the order of its operands.
 pub data Sources : Type 0 where
@@ -33,9 +34,9 @@ pub record Asked : Type 0 where
 abbrev pub asked : ℕ → Role → Asked
 asked p role = record { caller = p; role = role }
 
--- 01 take: "reg gets a capability for it with permissions 15."
+-- Document 02, 2026-01: 01, "take now gives permissions 3". 11 gives those that its mask permits.
 abbrev pub plainPermissions : ℕ
-plainPermissions = 15
+plainPermissions = 3
 
 abbrev pub roleOf : Call → Asked
 roleOf (Take p base reg) = asked p (takes base reg plainPermissions)
@@ -54,6 +55,7 @@ roleOf (Narrow p s off len mask d) = asked p (fills (fromOne s))
 roleOf (Number p d value) = asked p (fills fromNone)
 roleOf (Grant p s to) = asked p (grants s)
 roleOf (Receive p d) = asked p plain
+roleOf (TakeMasked p base reg mask) = asked p (takes base reg (permitted mask))
 
 -- The party that makes a call.
 abbrev pub callerOf : Call → ℕ

@@ -1,4 +1,5 @@
--- Document 01, 'The strength of each promise', 3, and 'Missteps that look sound': the wrong machines, as one list. Each is the rule
+-- Document 01, 'The strength of each promise', 3, and 'Missteps that look sound': the wrong machines, as one list, with those of document
+-- 02's requests. Each is the rule
 -- with one thing changed, has the type of the rule that it replaces, and stands with a state, lent memory and a call for which it
 -- leaves something else than the rule. Since every contract is an equation with the rule for every input, no such program can be
 -- proved. Assumes nothing.
@@ -9,6 +10,7 @@ use mathlib.Core.Path.{_≡_}
 use lib.ListN.{getD, set, replicate}
 use lib.Dec.{leb, eqb}
 use Rattle.capabilities.specs.declared.Range.{Range}
+use Rattle.capabilities.specs.Capability.{permitted}
 use Rattle.capabilities.specs.Lists.{pick}
 use Rattle.pages.specs.declared.VirtualPage.{VirtualPage}
 use Rattle.pages.specs.declared.PageState.the-variants.{Unmapped}
@@ -24,7 +26,7 @@ use Rattle.table.specs.Numbers.{numbersOf as rowNumbers}
 use Rattle.reservations.specs.Core.{Core}
 use Rattle.reservations.specs.Revocation.{core, revoked}
 use Rattle.calls.specs.declared.Call.{Call}
-use Rattle.calls.specs.declared.Call.the-variants.{Take, Split, Revoke, Sweep, Collect, Map, Unmap, Zero, Load, Store, Number, Grant}
+use Rattle.calls.specs.declared.Call.the-variants.{Take, Split, Revoke, Sweep, Collect, Map, Unmap, Zero, Load, Store, Number, Grant, TakeMasked}
 use Rattle.calls.specs.Commands.{page, frame, operandsOf}
 use Rattle.calls.specs.Commands.{byteOf as kindOf}
 use Rattle.words.specs.declared.Slot.{Slot}
@@ -32,9 +34,10 @@ use Rattle.words.specs.Words.{slot, empty, byteOf, tagOf, placeNumber, stored, 
 use Rattle.words.specs.Lent.{cellsOf, bytesOf}
 use Rattle.machine.specs.State.{State}
 use Rattle.machine.specs.Formed.{answered, startOf}
+use Rattle.machine.specs.Roles.{plainPermissions}
 use Rattle.machine.specs.Reasons.{reads, addressed}
-use Rattle.machine.specs.Effects.{withTable, withPages}
-use Rattle.machine.specs.Step.{Outcome, left, refused, withCore, stepOf}
+use Rattle.machine.specs.Effects.{withTable, withPages, taking}
+use Rattle.machine.specs.Step.{Outcome, left, refused, done, withCore, stepOf}
 use Rattle.machine.specs.Edges.{same}
 
 -- What a step is: the type of the rule `stepOf`.
@@ -69,6 +72,14 @@ takeBy take =
     (λ s c cells tags o.
     let t = take (s .core .table) (operand c 0) (operand c 1) in
     left (answered (t .code) (slot (t .length) false) (withCore (o .answer .state) (withTable (s .core) (t .table)))) cells tags)
+
+-- The rule, but that 11 gives other permissions for its mask, of the type of `permitted`, or 01 others.
+unfoldable pub maskBy : (ℕ → ℕ) → Rule
+maskBy given =
+    instead 0x11 (λ s c cells tags o. done s (taking (s .core) (operand c 0) (operand c 1) (operand c 2) (given (operand c 3))) cells tags)
+
+unfoldable pub plainBy : ℕ → Rule
+plainBy given = instead 0x01 (λ s c cells tags o. done s (taking (s .core) (operand c 0) (operand c 1) (operand c 2) given) cells tags)
 
 unfoldable pub splitBy : (Table → ℕ → ℕ → ℕ → Tabled) → Rule
 splitBy split =
@@ -126,6 +137,14 @@ inventsLength t party base =
 -- "A split pleading a full table below 64": at 63.
 unfoldable pub pleadsFull : Table → ℕ → ℕ → ℕ → Tabled
 pleadsFull t party base len = pick (leb 63 (t .count)) (tabled 9 t t) (splitOf t party base len)
+
+-- Document 02, 2026-01: 11 that gives all of mask, where the rule gives the permissions in 15 that are also in it.
+abbrev pub givesAll : ℕ → ℕ
+givesAll mask = mask
+
+-- 01 that still gives 15, as document 01 had it.
+abbrev pub stillAll : ℕ
+stillAll = 15
 
 -- "A machine that turns down every call": those that the rule refuses as the rule does, the others under 19.
 unfoldable pub turnsDown : Rule
@@ -191,7 +210,7 @@ after o (c ∷ rest) = after (stepOf (o .answer .state) c (o .cells) (o .tags)) 
 unfoldable pub from : ℕ → List Call → Outcome
 from v calls = after (left (startOf v 1) (replicate 16 0) (replicate 16 0)) calls
 
--- Party 0 takes cells 0 to 15 into register 0, and 16 to 31, which the frame shows, into register 1; there it stores a number
+-- Party 0 takes cells 0 to 15 into register 0, and 16 to 31, which the frame shows, into register 1 with all permissions; there it stores a number
 -- at offset 0 and the first capability at offset 5, which it also grants to party 3.
 unfoldable pub lent : List Call
 lent =
@@ -199,7 +218,7 @@ lent =
     ∷ Map 0 (page 1) (frame 0)
     ∷ Split 0 0 16
     ∷ Take 0 0 0
-    ∷ Take 0 16 1
+    ∷ TakeMasked 0 16 1 15
     ∷ Number 0 2 42 ∷ Store 0 1 0 2 ∷ Store 0 1 5 0 ∷ Grant 0 0 3 ∷ []
 
 -- Cells 0 to 15 are revoked, and some of the sixteen cells of memory swept.
@@ -228,7 +247,10 @@ machines =
     ∷ entry unmapBy releases unmapOf (from 2 lent) (Unmap 0 (page 1))
     ∷ entry sweepBy tellsTags sweepOf (from 2 (revoking 0)) (Sweep 0 16)
     -- Beside them.
-    ∷ entry (λ m. m) refusalWrites stepOf (from 2 lent) (Load 0 1 16 3) ∷ []
+    ∷ entry (λ m. m) refusalWrites stepOf (from 2 lent) (Load 0 1 16 3)
+    -- Plain permissions on take.
+    ∷ entry maskBy givesAll permitted (from 2 []) (TakeMasked 0 0 0 0xFF)
+    ∷ entry plainBy stillAll plainPermissions (from 2 []) (Take 0 0 0) ∷ []
 
 -- All numbers of an outcome, so that outcomes with different numbers differ.
 unfoldable pub numbers : Outcome → List ℕ

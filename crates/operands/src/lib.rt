@@ -110,6 +110,12 @@ pub fn numbers_of(call: Call) -> [u64; 7]
         Call::Number { party, d, value } => value_numbers(party, d, value),
         Call::Grant { party, s, to } => byte_numbers(15, party, s, to),
         Call::Receive { party, d } => byte_numbers(16, party, d, 0),
+        Call::TakeMasked {
+            party,
+            base,
+            reg,
+            mask,
+        } => base_numbers(17, party, base, reg, mask),
     }
 }
 

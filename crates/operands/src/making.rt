@@ -196,6 +196,17 @@ fn receive_from(numbers: &[u64]) -> Call
     }
 }
 
+fn take_masked_from(numbers: &[u64]) -> Call
+    ensures { λ r. ⌜ r ≡ callOf (commandOf 0x11) (now (numbers .entry)) ⌝ }
+{
+    Call::TakeMasked {
+        party: byte_at(numbers, 1),
+        base: two_at(numbers, 2),
+        reg: byte_at(numbers, 3),
+        mask: byte_at(numbers, 4),
+    }
+}
+
 // The call that numbers make. The table answers with take for a number that is no command.
 pub fn call_from(numbers: &[u64]) -> Call
     ensures { λ r. ⌜ r ≡ callFrom (now (numbers .entry)) ⌝ }
@@ -217,6 +228,7 @@ pub fn call_from(numbers: &[u64]) -> Call
         14 => number_from(numbers),
         15 => grant_from(numbers),
         16 => receive_from(numbers),
+        17 => take_masked_from(numbers),
         _ => take_from(numbers),
     }
 }

@@ -4,7 +4,7 @@ use mathlib.Core.List.{List, [], _∷_}
 use mathlib.Core.Path.{_≡_, refl}
 use lib.ListN.{replicate}
 use Rattle.calls.specs.Commands.{page, frame}
-use Rattle.calls.specs.declared.Call.the-variants.{Take, Split, Merge, Give, Revoke, Sweep, Collect, Map, Unmap, Zero, Load, Store, Narrow, Number, Grant, Receive}
+use Rattle.calls.specs.declared.Call.the-variants.{Take, Split, Merge, Give, Revoke, Sweep, Collect, Map, Unmap, Zero, Load, Store, Narrow, Number, Grant, Receive, TakeMasked}
 use Rattle.machine.specs.Roles.{plainPermissions}
 use Rattle.machine.specs.Edges.{all}
 use Rattle.privacy.proofs.Pairs.{Pair, inBoth, inOne, inTwo, same, says, fine, unnoticed, comparing, EachWithin, each-within}
@@ -19,11 +19,11 @@ retaken =
       cells = replicate 16 0;
       tags = replicate 16 0;
       before = Zero 0 (frame 0) ∷ Map 0 (page 0) (frame 0) ∷ Split 0 0 16 ∷ Give 0 0 3 ∷ [];
-      take = Take 3 0 0;
+      take = TakeMasked 3 0 0 15;
       house = 3;
       base = 0;
       reg = 0;
-      permissions = plainPermissions;
+      permissions = 15;
       takes = refl;
       after =
           inOne (Number 3 1 42) fine
@@ -51,12 +51,12 @@ shared =
       f = 1;
       cells = replicate 16 0;
       tags = replicate 16 0;
-      before = Zero 0 (frame 0) ∷ Map 0 (page 0) (frame 0) ∷ Split 0 0 8 ∷ Give 0 0 3 ∷ Give 0 8 4 ∷ Take 4 8 0 ∷ [];
-      take = Take 3 0 0;
+      before = Zero 0 (frame 0) ∷ Map 0 (page 0) (frame 0) ∷ Split 0 0 8 ∷ Give 0 0 3 ∷ Give 0 8 4 ∷ TakeMasked 4 8 0 15 ∷ [];
+      take = TakeMasked 3 0 0 15;
       house = 3;
       base = 0;
       reg = 0;
-      permissions = plainPermissions;
+      permissions = 15;
       takes = refl;
       after =
           inOne (Number 3 1 42) fine
@@ -80,11 +80,11 @@ managed =
       cells = replicate 32 0;
       tags = replicate 32 0;
       before = Zero 0 (frame 0) ∷ Map 0 (page 0) (frame 0) ∷ Zero 0 (frame 1) ∷ Map 0 (page 1) (frame 1) ∷ Split 0 0 16 ∷ Give 0 16 5 ∷ Take 5 16 0 ∷ [];
-      take = Take 0 0 2;
+      take = TakeMasked 0 0 2 15;
       house = 0;
       base = 0;
       reg = 2;
-      permissions = plainPermissions;
+      permissions = 15;
       takes = refl;
       after =
           inOne (Number 0 1 42) fine
@@ -99,7 +99,7 @@ managed =
           ∷ [];
     }
 
--- Lent memory is not 0 and all tagged. House 3 has the next page too: a store of 9 there and a grant of that page's capability
+-- The house's take is the plain one. Lent memory is not 0 and all tagged. House 3 has the next page too: a store of 9 there and a grant of that page's capability
 -- are left, and read equal registers. Both pages' reservations are merged, and the collect of the larger range ends the time:
 -- party 4's capability is gone, and party 0, which takes all, finds 0.
 abbrev pub merged : Pair
@@ -124,7 +124,7 @@ merged =
           ∷ same (Number 3 3 9) fine
           ∷ same (Store 3 5 2 3) fine
           ∷ same (Grant 3 5 4) fine
-          ∷ same (Receive 4 0) (says 0 64425558032 true)
+          ∷ same (Receive 4 0) (says 0 12885950480 true)
           ∷ same (Load 4 0 2 1) (says 0 9 false)
           ∷ same (Merge 0 0) fine
           ∷ same (Unmap 0 (page 0)) fine

@@ -7,15 +7,14 @@ use mathlib.Core.Path.{_≡_, refl}
 use lib.ListN.{replicate}
 use Rattle.calls.specs.Commands.{page, frame}
 use Rattle.calls.specs.declared.Call.{Call}
-use Rattle.calls.specs.declared.Call.the-variants.{Take, Split, Give, Revoke, Sweep, Collect, Map, Unmap, Zero, Load, Store, Number, Grant, Receive}
-use Rattle.machine.specs.Roles.{plainPermissions}
+use Rattle.calls.specs.declared.Call.the-variants.{Split, Give, Revoke, Sweep, Collect, Map, Unmap, Zero, Load, Store, Number, Grant, Receive, TakeMasked}
 use Rattle.machine.specs.Edges.{all}
 use Rattle.privacy.proofs.Pairs.{Entry, inBoth, inOne, inTwo, same, says, fine, Pair, unguarded, unequal, differing, comparing}
 
 -- House 3 has page 0, and party 5 has page 1 and granted house 3 its capability, which is in register 5.
 abbrev before : List Call
 before =
-    Zero 0 (frame 0) ∷ Map 0 (page 0) (frame 0) ∷ Zero 0 (frame 1) ∷ Map 0 (page 1) (frame 1) ∷ Split 0 0 16 ∷ Give 0 0 3 ∷ Give 0 16 5 ∷ Take 5 16 0
+    Zero 0 (frame 0) ∷ Map 0 (page 0) (frame 0) ∷ Zero 0 (frame 1) ∷ Map 0 (page 1) (frame 1) ∷ Split 0 0 16 ∷ Give 0 0 3 ∷ Give 0 16 5 ∷ TakeMasked 5 16 0 15
     ∷ Grant 5 0 3 ∷ Receive 3 5 ∷ []
 
 -- The house keeps 42 or 7 in its page and in register 1; then what follows.
@@ -27,11 +26,11 @@ kept after =
       cells = replicate 32 0;
       tags = replicate 32 0;
       before = before;
-      take = Take 3 0 0;
+      take = TakeMasked 3 0 0 15;
       house = 3;
       base = 0;
       reg = 0;
-      permissions = plainPermissions;
+      permissions = 15;
       takes = refl;
       after = inOne (Number 3 1 42) fine ∷ inTwo (Number 3 1 7) fine ∷ same (Store 3 0 5 1) fine ∷ after;
     }

@@ -1,4 +1,4 @@
--- 01 to 04 in place: the numbers that the table's call leaves are what the rule's table is written as. Assumes nothing.
+-- 01 to 04 and 11 in place: the numbers that the table's call leaves are what the rule's table is written as. Assumes nothing.
 use Prim.Native.Nat.{ℕ, _+_, _*_}
 use native.Mathlib.Omega.{arith}
 use mathlib.Core.Bool.{Bool, true, false, _||_}
@@ -7,7 +7,7 @@ use mathlib.Core.Path.{_≡_, refl, sym, ap, subst, _∙_}
 use lib.ListN.{length, set}
 use lib.Dec.{eqb}
 use borrow.Author.Tests.{eqb-true, eqb-false, eq-eqb}
-use Rattle.capabilities.specs.Capability.{capability}
+use Rattle.capabilities.specs.Capability.{capability, permitted}
 use Rattle.capabilities.specs.Lists.{pick}
 use Rattle.capabilities.specs.Refusals.{first}
 use Rattle.capabilities.proofs.Choice.{pick-yes, pick-no}
@@ -23,7 +23,7 @@ use Rattle.reservations.specs.Core.{Core}
 use Rattle.reservations.specs.Revocation.{core}
 use Rattle.reservations.proofs.CoreKept.{core-facts, revoked-kept}
 use Rattle.calls.specs.declared.Call.{Call}
-use Rattle.calls.specs.declared.Call.the-variants.{Take, Split, Merge, Give}
+use Rattle.calls.specs.declared.Call.the-variants.{Take, Split, Merge, Give, TakeMasked}
 use Rattle.words.specs.declared.Slot.{Slot}
 use Rattle.words.specs.Words.{slot, empty, byteOf}
 use Rattle.words.specs.WordReasons.{unnamed}
@@ -32,6 +32,7 @@ use Rattle.machine.specs.Reasons.{reasons}
 use Rattle.machine.specs.Effects.{effect, effectOf, tableChange, putRegister, keepMailboxes, keepMemory}
 use Rattle.machine.specs.Step.{withCore, reasonsOn, effectOn, ruled}
 use Rattle.machine.proofs.Keeps.{facts}
+use Rattle.machine.proofs.Masking.{plain-ruled}
 use Rattle.table.specs.Numbers.{tableOf, allWritten}
 use Rattle.table.specs.Lent.{Leaves, fitting, tabledOf}
 use Rattle.table.proofs.RoundTrip.{kept-written, left-numbers}
@@ -95,7 +96,7 @@ module _ (b : Arrays) (f : Formed b) (call : Call) (unknown : Bool) (rule : Tabl
         ≡ leftOf (ruled (stateOf b) call cells tags)
     table-registered p r x w z g = core-registered b f call code code-is cells tags new (withTable b (counted (b .nums) n) rows) rows-are p r x w z g
 
--- The four calls.
+-- The calls on the table.
 module _ (b : Arrays) (f : Formed b) where
   abbrev t : Table
   t = stateOf b .core .table
@@ -110,9 +111,9 @@ module _ (b : Arrays) (f : Formed b) where
   fits : (count : ℕ) (rule : Tabled) → fitting (b .rows) count rule ≡ rule
   fits count rule = pick-yes (eqb (length (b .rows)) 64) rule (record { code = 1; table = tableOf (b .rows) count }) (eq-eqb (length (b .rows)) 64 (lengths b f .rows))
 
-  take-judges : (p base reg : ℕ) → Judges (stateOf b) (Take p base reg) (unnamed p || unnamed reg) (tabledOf (takeOf (stateOf b .core .table) p base))
+  take-judges : (p base reg mask : ℕ) → Judges (stateOf b) (TakeMasked p base reg mask) (unnamed p || unnamed reg) (tabledOf (takeOf (stateOf b .core .table) p base))
   unfolding reasons first takeOf
-  take-judges p base reg =
+  take-judges p base reg mask =
       record { told = refl; kept = refused _ _ refl _ t; still = take-still (16 * stateOf b .core .pages .v) t sound p base }
 
   split-judges : (p base len : ℕ) → Judges (stateOf b) (Split p base len) (unnamed p) (splitOf (stateOf b .core .table) p base len)
@@ -130,13 +131,13 @@ module _ (b : Arrays) (f : Formed b) where
   give-judges p base to =
       record { told = refl; kept = refused _ _ refl _ t; still = give-still (16 * stateOf b .core .pages .v) t sound p base to }
 
--- 01.
-module _ (b : Arrays) (f : Formed b) (count : ℕ) (ec : b .nums .count ≡ count) (p base reg : ℕ) (cells tags : List ℕ) where
+-- 11.
+module _ (b : Arrays) (f : Formed b) (count : ℕ) (ec : b .nums .count ≡ count) (p base reg mask : ℕ) (cells tags : List ℕ) where
   abbrev took : Call
-  took = Take p base reg
+  took = TakeMasked p base reg mask
 
   pub take-unknown : (unnamed p || unnamed reg) ≡ true → leaving (answer 4 empty) b cells tags ≡ leftOf (ruled (stateOf b) took cells tags)
-  take-unknown = unknown-down b f took _ _ (take-judges b f p base reg) cells tags
+  take-unknown = unknown-down b f took _ _ (take-judges b f p base reg mask) cells tags
 
   module _ (known : (unnamed p || unnamed reg) ≡ false) (rows : List ℕ) (code : ℕ) (d : Leaves (b .rows) rows code count (tabledOf (takeOf (tableOf (b .rows) count) p base))) where
     own : Leaves (b .rows) rows code count (tabledOf (takeOf (stateOf b .core .table) p base))
@@ -145,11 +146,11 @@ module _ (b : Arrays) (f : Formed b) (count : ℕ) (ec : b .nums .count ≡ coun
     pub take-down : (code ≡ 0 → ⊥) → leaving (answer code empty) (withRows b rows) cells tags ≡ leftOf (ruled (stateOf b) took cells tags)
     take-down h =
         ap (λ k. leaving (answer code empty) (withTable b (counted (b .nums) k) rows) cells tags) ec
-        ∙ table-down b f took _ _ (take-judges b f p base reg) cells tags rows code count own known h
+        ∙ table-down b f took _ _ (take-judges b f p base reg mask) cells tags rows code count own known h
 
     effect-is : effectOn (stateOf b) took
         ≡ effectOf (core (stateOf b .core .pages) (takeOf (stateOf b .core .table) p base .table) (stateOf b .core .place))
-        (putRegister p reg (slot (capability base (takeOf (stateOf b .core .table) p base .length) 15) true)) keepMailboxes keepMemory (slot (takeOf (stateOf b .core .table) p base .length) false)
+        (putRegister p reg (slot (capability base (takeOf (stateOf b .core .table) p base .length) (permitted mask)) true)) keepMailboxes keepMemory (slot (takeOf (stateOf b .core .table) p base .length) false)
     unfolding effect
     effect-is = refl
 
@@ -157,14 +158,19 @@ module _ (b : Arrays) (f : Formed b) (count : ℕ) (ec : b .nums .count ≡ coun
     abbrev taken : ℕ → ℕ → Left
     taken n len =
         leaving (answer 0 (slot len false))
-        (withWords (withTable b (counted (b .nums) n) rows) (set (b .words) (8 * p + reg) (capability base len 15)) (set (b .marks) (8 * p + reg) (byteOf true))) cells tags
+        (withWords (withTable b (counted (b .nums) n) rows) (set (b .words) (8 * p + reg) (capability base len (permitted mask))) (set (b .marks) (8 * p + reg) (byteOf true))) cells tags
 
     pub take-done : (len : ℕ) → len ≡ takeOf (tableOf (b .rows) count) p base .length → code ≡ 0 → taken (b .nums .count) len ≡ leftOf (ruled (stateOf b) took cells tags)
     take-done len e z =
         let own-length = takeOf (stateOf b .core .table) p base .length in
         ap (taken (b .nums .count)) (e ∙ ap (λ u. takeOf u p base .length) (table-is b f count ec)) ∙ ap (λ n. taken n own-length) ec
-        ∙ table-registered b f took _ _ (take-judges b f p base reg) cells tags rows code count own known p reg
-        (slot (capability base own-length 15) true) (slot own-length false) z effect-is
+        ∙ table-registered b f took _ _ (take-judges b f p base reg mask) cells tags rows code count own known p reg
+        (slot (capability base own-length (permitted mask)) true) (slot own-length false) z effect-is
+
+-- 01 is 11 with mask 3.
+pub take-plain : (s : State) (p base reg : ℕ) (cells tags : List ℕ) (x : Left) → x ≡ leftOf (ruled s (TakeMasked p base reg 3) cells tags)
+    → x ≡ leftOf (ruled s (Take p base reg) cells tags)
+take-plain s p base reg cells tags x e = e ∙ ap leftOf (plain-ruled s p base reg cells tags)
 
 -- 02, 03.
 module _ (b : Arrays) (f : Formed b) (p base : ℕ) (cells tags : List ℕ) where

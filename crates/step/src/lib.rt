@@ -1,4 +1,4 @@
-// The sixteen calls in place, over lent arrays of numbers; the state by value. The step and the command that stand here are private:
+// The calls in place, over lent arrays of numbers; the state by value. The step and the command that stand here are private:
 // on arrays that are not well formed they promise nothing, so they are no entries.
 use crate::collect_calls::collect;
 use crate::page_calls::map;
@@ -6,6 +6,7 @@ use crate::page_calls::unmap;
 use crate::page_calls::zero;
 use crate::revoke_calls::revoke;
 use crate::sweep_calls::sweep;
+use crate::table_calls::PLAIN;
 use crate::table_calls::give;
 use crate::table_calls::merge;
 use crate::table_calls::split;
@@ -99,7 +100,8 @@ fn step(
 {
     match call {
         Call::Take { party, base, reg } => {
-            with(nums, take(nums.count, rows, words, marks, party, base, reg))
+            let answer = take(nums.count, rows, words, marks, party, base, reg, PLAIN);
+            with(nums, answer)
         }
         Call::Split { party, base, len } => split(nums, rows, party, base, len),
         Call::Merge { party, base } => merge(nums, rows, party, base),
@@ -133,6 +135,15 @@ fn step(
         Call::Number { party, d, value } => with(nums, number(words, marks, party, d, value)),
         Call::Grant { party, s, to } => with(nums, grant(words, marks, mail, flags, party, s, to)),
         Call::Receive { party, d } => with(nums, receive(words, marks, mail, flags, party, d)),
+        Call::TakeMasked {
+            party,
+            base,
+            reg,
+            mask,
+        } => {
+            let answer = take(nums.count, rows, words, marks, party, base, reg, mask);
+            with(nums, answer)
+        }
     }
 }
 

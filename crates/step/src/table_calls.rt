@@ -1,17 +1,18 @@
-// Calls 01 to 04, on the reservation table. Refusal 4 is judged here, the others by the table's own calls.
+// Calls 01 to 04 and 11, on the reservation table. Refusal 4 is judged here, the others by the table's own calls.
 use crate::Stepped;
 use crate::word_calls::granted;
 use crate::word_calls::refused;
 use arrays::Answer;
 use arrays::Numbers;
 use capabilities::capability::capability;
+use capabilities::capability::permitted;
 use table::operations;
 use table::rows;
 use words::Slot;
 use words::registers::put_word;
 ghost use mathlib.Core.Path.{_≡_};
 ghost use Rattle.words.specs.Words.{empty};
-ghost use Rattle.calls.specs.declared.Call.the-variants.{Take, Split, Merge, Give};
+ghost use Rattle.calls.specs.declared.Call.the-variants.{Split, Merge, Give, TakeMasked};
 ghost use Rattle.arrays.specs.Steps.{answer};
 ghost use Rattle.step.specs.Parts.{OnRows, OnTable, OnRowsAndWords};
 
@@ -26,7 +27,10 @@ fn coded(code: u8) -> Answer
     }
 }
 
-// 01: the register gets a capability for what was taken, and the length is answered.
+// The mask with which 11 is 01.
+pub(crate) const PLAIN: u8 = 3;
+
+// 11, and by the mask PLAIN 01: the register gets a capability for what was taken, and the length is answered.
 pub(crate) fn take(
     count: usize,
     rows: &mut [u64],
@@ -35,8 +39,9 @@ pub(crate) fn take(
     party: u8,
     base: u16,
     reg: u8,
+    mask: u8,
 ) -> Answer
-    ensures { λ r. ⌜ OnRowsAndWords count r (now (rows .entry)) (now (words .entry)) (now (marks .entry)) (now (rows .exit)) (now (words .exit)) (now (marks .exit)) (Take party base reg) ⌝ }
+    ensures { λ r. ⌜ OnRowsAndWords count r (now (rows .entry)) (now (words .entry)) (now (marks .entry)) (now (rows .exit)) (now (words .exit)) (now (marks .exit)) (TakeMasked party base reg mask) ⌝ }
 {
     if !(party < 8) | !(reg < 8) {
         return refused(4);
@@ -47,7 +52,7 @@ pub(crate) fn take(
     }
     let at = 8 * (party as usize) + reg as usize;
     let word = Slot {
-        cell: capability(base, taken.length, 15),
+        cell: capability(base, taken.length, permitted(mask)),
         tag: true,
     };
     put_word(words, marks, at, word);

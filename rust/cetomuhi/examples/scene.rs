@@ -70,7 +70,7 @@ fn tell(told: &str, call: &Call, answer: Answer) {
 fn words(call: &Call, answer: Answer) -> String {
     match (call, answer) {
         (_, Answer::Refused(refusal)) => format!("refused, {refusal}"),
-        (Call::Take { .. }, Answer::Granted(Word { number, .. })) => {
+        (Call::Take { .. } | Call::TakeMasked { .. }, Answer::Granted(Word { number, .. })) => {
             format!("granted, {number} cells")
         }
         (Call::Sweep { .. }, Answer::Granted(Word { number, .. })) => {
@@ -111,12 +111,14 @@ fn opening() -> Vec<Step> {
     steps
 }
 
-/// Each house takes its range, and nobody else's.
+/// Each house takes its range, and nobody else's. The loader and the expander may keep capabilities
+/// in theirs and take them with all permissions; the others store only text.
 fn taking() -> Vec<Step> {
+    let whole = |party, base, reg| Call::TakeMasked { party, base, reg, mask: Capability::ALL };
     vec![
-        step("The loader takes its notes", Call::Take { party: LOADER, base: 0, reg: 0 }),
-        step("The loader takes the entries", Call::Take { party: LOADER, base: 64, reg: 1 }),
-        step("The expander takes its range", Call::Take { party: EXPANDER, base: 16, reg: 0 }),
+        step("The loader takes its notes", whole(LOADER, 0, 0)),
+        step("The loader takes the entries", whole(LOADER, 64, 1)),
+        step("The expander takes its range", whole(EXPANDER, 16, 0)),
         step("The hyphenator takes its range", Call::Take { party: HYPHENATOR, base: 32, reg: 0 }),
         step("The fit check takes its range", Call::Take { party: FIT_CHECK, base: 48, reg: 0 }),
         step(

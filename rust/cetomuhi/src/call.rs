@@ -1,4 +1,4 @@
-//! The sixteen kinds of call, and their bytes by the library's writer and reader.
+//! The seventeen kinds of call, and their bytes by the library's writer and reader.
 
 use crate::boundary;
 use crate::Refusal;
@@ -31,7 +31,8 @@ impl fmt::Display for Frame {
 #[rustfmt::skip]
 #[allow(missing_docs)]
 pub enum Call {
-    /// 01: an Open reservation becomes Taken, and `reg` gets a capability for it. Answers the length.
+    /// 01: an Open reservation becomes Taken, and `reg` gets a capability for it, to load and store
+    /// numbers. Answers the length.
     Take { party: u8, base: u16, reg: u8 },
     /// 02: two Open reservations of one; the lower has `len` cells.
     Split { party: u8, base: u16, len: u16 },
@@ -63,6 +64,9 @@ pub enum Call {
     Grant { party: u8, s: u8, to: u8 },
     /// 10: the caller's mailbox moves to register `d`. Answers it.
     Receive { party: u8, d: u8 },
+    /// 11: a take whose capability has the permissions also in `mask`; bits above 15 are ignored.
+    /// Who keeps capabilities in its range takes it with [`Capability::ALL`](crate::Capability::ALL).
+    TakeMasked { party: u8, base: u16, reg: u8, mask: u8 },
 }
 
 /// How many numbers a call has at the boundary: the command, its operands, and 0 after them.
@@ -136,6 +140,9 @@ impl Call {
             Call::Number { party, d, value } => (0x0E, party, &[d.into(), value]),
             Call::Grant { party, s, to } => (0x0F, party, &[s.into(), to.into()]),
             Call::Receive { party, d } => (0x10, party, &[d.into()]),
+            Call::TakeMasked { party, base, reg, mask } => {
+                (0x11, party, &[base.into(), reg.into(), mask.into()])
+            }
         };
         let mut numbers = [0; CALL_NUMBERS];
         numbers[0] = command;
@@ -168,6 +175,7 @@ impl Call {
             0x0E => Call::Number { party, d: byte(x)?, value: y },
             0x0F => Call::Grant { party, s: byte(x)?, to: byte(y)? },
             0x10 => Call::Receive { party, d: byte(x)? },
+            0x11 => Call::TakeMasked { party, base: two(x)?, reg: byte(y)?, mask: byte(z)? },
             _ => return None,
         };
         (call.numbers() == numbers).then_some(call)
@@ -224,6 +232,9 @@ impl fmt::Display for Call {
                 write!(out, "party {party} grants register {s} to party {to}")
             }
             Call::Receive { party, d } => write!(out, "party {party} receives into register {d}"),
+            Call::TakeMasked { party, base, reg, mask } => {
+                write!(out, "party {party} takes {} into register {reg} with mask {mask}", at(base))
+            }
         }
     }
 }

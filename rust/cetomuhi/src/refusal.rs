@@ -18,7 +18,7 @@ pub enum Refusal {
     AboveSeven = 4,
     /// A command 05 to 0A comes from a party other than 0.
     NotManager = 5,
-    /// In 01 to 05, no reservation held by the caller begins at the base.
+    /// In 01 to 05 and 11, no reservation held by the caller begins at the base.
     NotHeld = 6,
     /// Take, split or give names one not Open; revoke names one Revoking; or merge finds no next
     /// one held by the caller with both Open or both Taken.

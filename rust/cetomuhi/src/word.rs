@@ -46,6 +46,8 @@ impl Capability {
     pub const LOAD_CAPABILITY: u8 = 4;
     /// The permission to store capabilities.
     pub const STORE_CAPABILITY: u8 = 8;
+    /// All four.
+    pub const ALL: u8 = 15;
 
     /// The capability that a tagged cell's number reads as. Bits above 39 say nothing.
     pub fn of(number: u64) -> Capability {

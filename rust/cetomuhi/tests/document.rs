@@ -1,6 +1,6 @@
-//! Document 01's session and its edges.
+//! Document 01's session and its edges, and what the two takes give.
 
-use cetomuhi::{Call, Frame, Machine, Refusal, VirtualPage};
+use cetomuhi::{Call, Capability, Frame, Machine, Refusal, VirtualPage};
 
 fn codes(machine: &mut Machine, calls: &[Call]) -> Vec<u8> {
     calls.iter().map(|call| machine.call(call).code()).collect()
@@ -19,7 +19,7 @@ fn the_session_has_the_documents_answers() {
         (Call::Map { party: 0, page: VirtualPage(0), frame: Frame(0) }, (0, 0, false)),
         (Call::Split { party: 0, base: 0, len: 16 }, (0, 0, false)),
         (Call::Give { party: 0, base: 0, to: 3 }, (0, 0, false)),
-        (Call::Take { party: 3, base: 0, reg: 0 }, (0, 16, false)),
+        (Call::TakeMasked { party: 3, base: 0, reg: 0, mask: 0x0F }, (0, 16, false)),
         (Call::Number { party: 3, d: 1, value: 42 }, (0, 0, false)),
         (Call::Store { party: 3, a: 0, off: 5, s: 1 }, (0, 0, false)),
         (Call::Store { party: 3, a: 0, off: 6, s: 0 }, (0, 0, false)),
@@ -52,6 +52,34 @@ fn k_split_of_sixteen() {
 #[test]
 fn k_take_twice() {
     let by = |party| Call::Take { party, base: 0, reg: 0 };
+    let give = Call::Give { party: 0, base: 0, to: 3 };
+    assert_eq!(codes(&mut start(1, 1), &[give, by(3), by(3)]), [0, 0, 6]);
+    assert_eq!(codes(&mut start(1, 1), &[by(0), by(0)]), [0, 7]);
+}
+
+/// The capability in register 5 of party 0 after the call on a fresh machine.
+fn taken_by(call: &Call) -> Option<Capability> {
+    let mut machine = start(1, 1);
+    assert_eq!(machine.call(call).granted().map(|word| word.number), Ok(16), "{call}");
+    let register = machine.state().registers().next()?;
+    assert_eq!((register.party, register.number), (0, 5), "{call}");
+    register.word.capability()
+}
+
+#[test]
+fn a_take_gives_load_and_store_and_one_by_mask_what_of_fifteen_is_in_it() {
+    let with = |permissions| Some(Capability { base: 0, length: 16, permissions });
+    let take = Call::Take { party: 0, base: 0, reg: 5 };
+    assert_eq!(taken_by(&take), with(Capability::LOAD | Capability::STORE));
+    for mask in 0..=255 {
+        let take = Call::TakeMasked { party: 0, base: 0, reg: 5, mask };
+        assert_eq!(taken_by(&take), with(mask & Capability::ALL));
+    }
+}
+
+#[test]
+fn a_take_by_mask_twice() {
+    let by = |party| Call::TakeMasked { party, base: 0, reg: 0, mask: Capability::ALL };
     let give = Call::Give { party: 0, base: 0, to: 3 };
     assert_eq!(codes(&mut start(1, 1), &[give, by(3), by(3)]), [0, 0, 6]);
     assert_eq!(codes(&mut start(1, 1), &[by(0), by(0)]), [0, 7]);

@@ -13,7 +13,7 @@ fn busy() -> Machine {
         Call::Split { party: 0, base: 32, len: 16 },
         Call::Split { party: 0, base: 48, len: 8 },
         Call::Give { party: 0, base: 0, to: 1 },
-        Call::Take { party: 1, base: 0, reg: 0 },
+        Call::TakeMasked { party: 1, base: 0, reg: 0, mask: 15 },
         Call::Narrow { party: 1, s: 0, off: 0, len: 16, mask: 2, d: 1 },
         Call::Narrow { party: 1, s: 0, off: 0, len: 16, mask: 1, d: 2 },
         Call::Number { party: 1, d: 3, value: u64::MAX },
@@ -42,11 +42,17 @@ fn refused_calls_keep_every_byte() {
         (Call::Number { party: 8, d: 0, value: 1 }, 4),
         (Call::Give { party: 0, base: 48, to: 8 }, 4),
         (Call::Grant { party: 1, s: 255, to: 2 }, 4),
+        (Call::TakeMasked { party: 8, base: 48, reg: 0, mask: 15 }, 4),
+        (Call::TakeMasked { party: 0, base: 48, reg: 8, mask: 15 }, 4),
         (Call::Map { party: 1, page: page(2), frame: frame(1) }, 5),
         (Call::Collect { party: 7 }, 5),
         (Call::Take { party: 2, base: 48, reg: 0 }, 6),
+        (Call::TakeMasked { party: 2, base: 48, reg: 0, mask: 15 }, 6),
+        (Call::TakeMasked { party: 0, base: 49, reg: 0, mask: 15 }, 6),
         (Call::Split { party: 0, base: 49, len: 1 }, 6),
         (Call::Take { party: 0, base: 0, reg: 0 }, 7),
+        (Call::TakeMasked { party: 0, base: 0, reg: 0, mask: 15 }, 7),
+        (Call::TakeMasked { party: 0, base: 32, reg: 0, mask: 0 }, 7),
         (Call::Revoke { party: 0, base: 32 }, 7),
         (Call::Merge { party: 0, base: 56 }, 7),
         (Call::Split { party: 0, base: 48, len: 8 }, 8),
@@ -144,9 +150,14 @@ fn a_refused_start_leaves_zeros() {
 
 #[test]
 fn bytes_that_are_no_command_are_refused_under_3() {
-    for input in
-        [&[][..], &[0], &[0x11, 0, 0], &[0x01, 0, 0, 0], &[0x0E, 0, 0, 0, 0, 0, 0, 0, 0, 0]]
-    {
+    for input in [
+        &[][..],
+        &[0],
+        &[0x12, 0, 0],
+        &[0x01, 0, 0, 0],
+        &[0x0E, 0, 0, 0, 0, 0, 0, 0, 0, 0],
+        &[0x11, 0, 0, 0, 0],
+    ] {
         let mut machine = busy();
         let done = machine.command(input, 0);
         assert_eq!((done.answer.granted(), done.used), (Err(Refusal::NoCommand), 0), "{input:?}");

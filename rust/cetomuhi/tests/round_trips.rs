@@ -3,13 +3,13 @@
 use cetomuhi::{raw, Call, Refusal, CALL_NUMBERS, LONGEST};
 use std::collections::HashSet;
 
-/// The lengths of commands 01 to 10, from document 01's list.
-const LENGTHS: [usize; 16] = [5, 6, 4, 5, 4, 4, 2, 4, 3, 3, 6, 6, 9, 11, 4, 3];
+/// The lengths of commands 01 to 10, from document 01's list, and of 11, from request 2026-01.
+const LENGTHS: [usize; 17] = [5, 6, 4, 5, 4, 4, 2, 4, 3, 3, 6, 6, 9, 11, 4, 3, 6];
 
 /// Calls of every kind: bytes 0, bytes 255, and bytes that all differ.
 fn inputs() -> Vec<(Vec<u8>, usize)> {
     let mut inputs = Vec::new();
-    for (command, length) in (1..=16).zip(LENGTHS) {
+    for (command, length) in (1..=17).zip(LENGTHS) {
         for operand in [|_| 0, |_| 255, |place: u8| 17 * place + 3] {
             let operands = (1..LONGEST as u8).map(operand);
             inputs.push(([command].into_iter().chain(operands).collect(), length));
@@ -70,7 +70,7 @@ fn numbers_that_are_no_call_are_not_written() {
     is_refused(&collect[..6]);
     is_refused(&[7, 0, 0, 0, 0, 0, 0, 0]);
     is_refused(&[]);
-    for (place, number) in [(0, 0), (0, 17), (0, 263), (1, 256), (2, 1), (6, 1), (1, u64::MAX)] {
+    for (place, number) in [(0, 0), (0, 18), (0, 263), (1, 256), (2, 1), (6, 1), (1, u64::MAX)] {
         let mut numbers = collect;
         numbers[place] = number;
         is_refused(&numbers);
@@ -78,6 +78,8 @@ fn numbers_that_are_no_call_are_not_written() {
     }
     is_refused(&[1, 0, 65_536, 0, 0, 0, 0]);
     is_refused(&[13, 1, 1, 1, 1, 256, 1]);
+    is_refused(&[17, 1, 1, 1, 256, 0, 0]);
+    is_refused(&[17, 1, 1, 1, 1, 1, 0]);
 }
 
 #[test]
@@ -102,4 +104,6 @@ fn calls_in_words_differ() {
         words,
         "party 1 narrows register 2 to 4 cells from offset 3 on, permissions 5, into register 6"
     );
+    let words = Call::read(&[0x11, 3, 0, 0, 0, 15], 0).expect("whole").0.to_string();
+    assert_eq!(words, "party 3 takes the reservation at cell 0 into register 0 with mask 15");
 }

@@ -13,7 +13,7 @@ fn busy() -> Machine {
         Call::Split { party: 0, base: 0, len: 16 },
         Call::Split { party: 0, base: 16, len: 16 },
         Call::Give { party: 0, base: 32, to: 5 },
-        Call::Take { party: 0, base: 0, reg: 3 },
+        Call::TakeMasked { party: 0, base: 0, reg: 3, mask: Capability::ALL },
         Call::Grant { party: 0, s: 3, to: 6 },
         Call::Number { party: 7, d: 7, value: 12 },
         Call::Revoke { party: 0, base: 16 },

@@ -101,6 +101,12 @@ enum-known-call-16 c = search needs
 byte-numbers-requires-6 : tie.Need-byte-numbers-requires-6
 byte-numbers-requires-6 c κs = search needs
 
+enum-known-call-17 : tie.Need-enum-known-call-17
+enum-known-call-17 c = search needs
+
+base-numbers-requires-3 : tie.Need-base-numbers-requires-3
+base-numbers-requires-3 c κs = search needs
+
 returns : tie.Need-returns
 unfolding numbersOf
 returns c = in-case numbersOf (c .before .before .call .given .1) (c .base-numbers .ensures)
@@ -165,6 +171,10 @@ returns-16 : tie.Need-returns-16
 unfolding numbersOf
 returns-16 c = in-case numbersOf (c .before .before .call16 .given .1) (c .byte-numbers6 .ensures)
 
+returns-17 : tie.Need-returns-17
+unfolding numbersOf
+returns-17 c = in-case numbersOf (c .before .before .call17 .given .1) (c .base-numbers3 .ensures)
+
 pub numbers-of-spec : {M : Type 1} → statement M
 numbers-of-spec =
     tie.close
@@ -201,6 +211,8 @@ numbers-of-spec =
     byte-numbers-requires-5
     enum-known-call-16
     byte-numbers-requires-6
+    enum-known-call-17
+    base-numbers-requires-3
     returns
     returns-2
     returns-3
@@ -216,4 +228,5 @@ numbers-of-spec =
     returns-13
     returns-14
     returns-15
-    returns-16)
+    returns-16
+    returns-17)

@@ -1,7 +1,8 @@
 -- `step::step` meets its contract. Each kind of call is done by one function, whose promise is the step's for that kind.
 use mathlib.Core.Path.{_≡_, refl}
-use Rattle.arrays.specs.Reading.{arrays}
+use Rattle.arrays.specs.Reading.{arrays, stateOf}
 use Rattle.step.specs.Entries.{ruledOn}
+use Rattle.step.proofs.Tabling.{take-plain}
 use borrow.Author.Needs.{needs}
 use Rattle.step.proofs.step.Statement.{statement}
 use Rattle.step.proofs.step.Tie as tie
@@ -154,6 +155,15 @@ receive-requires c κs = search needs
 with-requires-11 : tie.Need-with-requires-11
 with-requires-11 c κs = search needs
 
+enum-known-call-17 : tie.Need-enum-known-call-17
+enum-known-call-17 c = search needs
+
+take-requires-2 : tie.Need-take-requires-2
+take-requires-2 c κs = search needs
+
+with-requires-12 : tie.Need-with-requires-12
+with-requires-12 c κs = search needs
+
 same-length : tie.Need-same-length
 same-length c = search needs
 
@@ -168,7 +178,7 @@ unfolding ruledOn
 returns c =
     let a = c .before .before .before .before .before .before .before .before .before .before .before .before .before .before .before .before .before .before .before .before .before .before .before .args in
     let m = arrays (a .nums) (a .words .now) (a .marks .now) (a .mail .now) (a .flags .now) (a .rows .now) (a .pages .now) (a .frames .now) in
-    rw (c .with .ensures, c .before .before .before .before .before .before .before .before .before .before .before .before .call .given .1) (c .before .before .before .before .before .before .before .take .ensures m refl (c .before .before .before .before .before .before .before .before .before .before .before .before .before .before .before .before .before .before .before .before .before .before .before .pre .0) (a .cells .now) (a .tags .now))
+    rw (c .with .ensures, c .before .before .before .before .before .before .before .before .before .before .before .before .call .given .1) (take-plain (stateOf m) _ _ _ (a .cells .now) (a .tags .now) _ (c .before .before .before .before .before .before .before .take .ensures m refl (c .before .before .before .before .before .before .before .before .before .before .before .before .before .before .before .before .before .before .before .before .before .before .before .pre .0) (a .cells .now) (a .tags .now)))
 
 same-length-4 : tie.Need-same-length-4
 same-length-4 c = search needs
@@ -404,6 +414,22 @@ returns-16 c =
     let m = arrays (a .nums) (a .words .now) (a .marks .now) (a .mail .now) (a .flags .now) (a .rows .now) (a .pages .now) (a .frames .now) in
     rw (c .with11 .ensures, c .before .before .before .before .before .before .before .before .before .before .before .before .before .before .before .call16 .given .1) (c .before .before .before .before .before .before .before .before .before .receive .ensures m (c .before .before .before .before .before .before .before .before .before .before .before .before .before .before .before .before .before .before .before .before .before .before .before .before .before .before .pre .0) (a .cells .now) (a .tags .now))
 
+same-length-47 : tie.Need-same-length-47
+same-length-47 c = search needs
+
+same-length-48 : tie.Need-same-length-48
+same-length-48 c = search needs
+
+same-length-49 : tie.Need-same-length-49
+same-length-49 c = search needs
+
+returns-17 : tie.Need-returns-17
+unfolding ruledOn
+returns-17 c =
+    let a = c .before .before .before .before .before .before .before .before .before .before .before .before .before .before .before .before .before .before .before .before .before .before .before .args in
+    let m = arrays (a .nums) (a .words .now) (a .marks .now) (a .mail .now) (a .flags .now) (a .rows .now) (a .pages .now) (a .frames .now) in
+    rw (c .with12 .ensures, c .before .before .before .before .before .before .before .before .before .before .before .before .call17 .given .1) (c .before .before .before .before .before .before .before .take2 .ensures m refl (c .before .before .before .before .before .before .before .before .before .before .before .before .before .before .before .before .before .before .before .before .before .before .before .pre .0) (a .cells .now) (a .tags .now))
+
 pub step-spec : {M : Type 1} → statement M
 step-spec =
     tie.close
@@ -451,6 +477,9 @@ step-spec =
     enum-known-call-16
     receive-requires
     with-requires-11
+    enum-known-call-17
+    take-requires-2
+    with-requires-12
     same-length
     same-length-2
     same-length-3
@@ -512,4 +541,8 @@ step-spec =
     same-length-44
     same-length-45
     same-length-46
-    returns-16)
+    returns-16
+    same-length-47
+    same-length-48
+    same-length-49
+    returns-17)

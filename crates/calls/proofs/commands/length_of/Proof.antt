@@ -64,7 +64,10 @@ returns-16 : tie.Need-returns-16
 returns-16 c = search needs
 
 returns-17 : tie.Need-returns-17
-returns-17 c = none-left (c .before .args .command) (c .match .rest)
+returns-17 c = search needs
+
+returns-18 : tie.Need-returns-18
+returns-18 c = none-left (c .before .args .command) (c .match .rest)
 
 pub length-of-spec : {M : Type 1} → statement M
 length-of-spec =
@@ -86,4 +89,5 @@ length-of-spec =
     returns-14
     returns-15
     returns-16
-    returns-17)
+    returns-17
+    returns-18)

@@ -57,7 +57,10 @@ grant-at-requires : tie.Need-grant-at-requires
 grant-at-requires c κs = long-enough (c .match .keys15) (c .before .before .pre .1)
 
 receive-at-requires : tie.Need-receive-at-requires
-receive-at-requires c κs =
+receive-at-requires c κs = long-enough (c .match .keys16) (c .before .before .pre .1)
+
+take-masked-at-requires : tie.Need-take-masked-at-requires
+take-masked-at-requires c κs =
     let pre = c .before .before .pre in
     long-enough (last-case lastByte (pre .0 .0) (pre .0 .1) (c .match .rest)) (pre .1)
 
@@ -107,11 +110,14 @@ returns-15 : tie.Need-returns-15
 returns-15 c = in-case (λ k. callAt k (c .before .before .before .args .s .now)) (c .before .match .keys15) (c .grant-at .ensures)
 
 returns-16 : tie.Need-returns-16
-returns-16 c =
+returns-16 c = in-case (λ k. callAt k (c .before .before .before .args .s .now)) (c .before .match .keys16) (c .receive-at .ensures)
+
+returns-17 : tie.Need-returns-17
+returns-17 c =
     let match = c .before .match in
     let a = c .before .before .before .args in
     let pre = c .before .before .before .pre in
-    in-case (λ k. callAt k (a .s .now)) (last-case lastByte (pre .0 .0) (pre .0 .1) (match .rest)) (c .receive-at .ensures)
+    in-case (λ k. callAt k (a .s .now)) (last-case lastByte (pre .0 .0) (pre .0 .1) (match .rest)) (c .take-masked-at .ensures)
 
 pub call-at-spec : {M : Type 1} → statement M
 call-at-spec =
@@ -133,6 +139,7 @@ call-at-spec =
     number-at-requires
     grant-at-requires
     receive-at-requires
+    take-masked-at-requires
     returns
     returns-2
     returns-3
@@ -148,4 +155,5 @@ call-at-spec =
     returns-13
     returns-14
     returns-15
-    returns-16)
+    returns-16
+    returns-17)

@@ -101,6 +101,12 @@ enum-known-call-16 c = search needs
 receive-bytes-requires : tie.Need-receive-bytes-requires
 receive-bytes-requires c κs = search needs
 
+enum-known-call-17 : tie.Need-enum-known-call-17
+enum-known-call-17 c = search needs
+
+take-masked-bytes-requires : tie.Need-take-masked-bytes-requires
+take-masked-bytes-requires c κs = search needs
+
 returns : tie.Need-returns
 returns c = in-case (λ call. padded (bytesOf call)) (c .before .before .call .given .1) (c .take-bytes .ensures)
 
@@ -149,6 +155,9 @@ returns-15 c = in-case (λ call. padded (bytesOf call)) (c .before .before .call
 returns-16 : tie.Need-returns-16
 returns-16 c = in-case (λ call. padded (bytesOf call)) (c .before .before .call16 .given .1) (c .receive-bytes .ensures)
 
+returns-17 : tie.Need-returns-17
+returns-17 c = in-case (λ call. padded (bytesOf call)) (c .before .before .call17 .given .1) (c .take-masked-bytes .ensures)
+
 pub bytes-of-spec : {M : Type 1} → statement M
 bytes-of-spec =
     tie.close
@@ -185,6 +194,8 @@ bytes-of-spec =
     grant-bytes-requires
     enum-known-call-16
     receive-bytes-requires
+    enum-known-call-17
+    take-masked-bytes-requires
     returns
     returns-2
     returns-3
@@ -200,4 +211,5 @@ bytes-of-spec =
     returns-13
     returns-14
     returns-15
-    returns-16)
+    returns-16
+    returns-17)

@@ -55,6 +55,9 @@ grant-from-requires c κs = search needs
 receive-from-requires : tie.Need-receive-from-requires
 receive-from-requires c κs = search needs
 
+take-masked-from-requires : tie.Need-take-masked-from-requires
+take-masked-from-requires c κs = search needs
+
 take-from-requires-2 : tie.Need-take-from-requires-2
 take-from-requires-2 c κs = search needs
 
@@ -107,7 +110,10 @@ returns-16 : tie.Need-returns-16
 returns-16 c = made (c .before .before .before .before .args .numbers .now) (c .before .before .number-at .ensures) (c .before .match .keys16) (c .receive-from .ensures)
 
 returns-17 : tie.Need-returns-17
-returns-17 c = made-take (c .before .before .before .before .args .numbers .now) (c .before .before .number-at .ensures) (c .before .match .rest) (c .take-from2 .ensures)
+returns-17 c = made (c .before .before .before .before .args .numbers .now) (c .before .before .number-at .ensures) (c .before .match .keys17) (c .take-masked-from .ensures)
+
+returns-18 : tie.Need-returns-18
+returns-18 c = made-take (c .before .before .before .before .args .numbers .now) (c .before .before .number-at .ensures) (c .before .match .rest) (c .take-from2 .ensures)
 
 pub call-from-spec : {M : Type 1} → statement M
 call-from-spec =
@@ -130,6 +136,7 @@ call-from-spec =
     number-from-requires
     grant-from-requires
     receive-from-requires
+    take-masked-from-requires
     take-from-requires-2
     returns
     returns-2
@@ -147,4 +154,5 @@ call-from-spec =
     returns-14
     returns-15
     returns-16
-    returns-17)
+    returns-17
+    returns-18)

@@ -7,6 +7,7 @@ use Rattle.step.proofs.table_calls.take.Tie as tie
 use Rattle.step.proofs.table_calls.take.Reads as reads
 use Rattle.step.proofs.table_calls.take.Lts as lts
 use Rattle.capabilities.proofs.capability.capability.Reads as capability-reads
+use Rattle.capabilities.proofs.capability.permitted.Reads as permitted-reads
 use Rattle.table.proofs.operations.take.Reads as take-reads
 use Rattle.step.proofs.word_calls.granted.Reads as granted-reads
 use Rattle.words.proofs.registers.put_word.Reads as put-word-reads
@@ -18,7 +19,7 @@ refused-requires c κs = search needs
 returns : tie.Need-returns
 returns c =
     let a = c .before .before .before .before .before .args in
-    λ m ec f cells tags. rw (c .refused .ensures) (take-unknown (withRows (withWords m (a .words .now) (a .marks .now)) (a .rows .now)) f (a .count) ec (a .party) (a .base) (a .reg) cells tags (c .before .if1 .taken))
+    λ m ec f cells tags. rw (c .refused .ensures) (take-unknown (withRows (withWords m (a .words .now) (a .marks .now)) (a .rows .now)) f (a .count) ec (a .party) (a .base) (a .reg) (a .mask) cells tags (c .before .if1 .taken))
 
 take-requires : tie.Need-take-requires
 take-requires c κs = search needs
@@ -32,7 +33,7 @@ same-length c = search needs
 returns-2 : tie.Need-returns-2
 returns-2 c =
     let a = c .before .before .before .before .before .before .before .before .before .before .before .args in
-    λ m ec f cells tags. rw (c .refused2 .ensures) (take-down (withRows (withWords m (a .words .now) (a .marks .now)) (a .rows .now)) f (a .count) ec (a .party) (a .base) (a .reg) cells tags (c .before .before .before .before .before .before .before .if1 .left) _ _ (c .before .before .before .before .before .take .ensures .0) (c .before .if2 .taken))
+    λ m ec f cells tags. rw (c .refused2 .ensures) (take-down (withRows (withWords m (a .words .now) (a .marks .now)) (a .rows .now)) f (a .count) ec (a .party) (a .base) (a .reg) (a .mask) cells tags (c .before .before .before .before .before .before .before .if1 .left) _ _ (c .before .before .before .before .before .take .ensures .0) (c .before .if2 .taken))
 
 mul-at : tie.Need-mul-at
 mul-at c = search needs
@@ -40,14 +41,17 @@ mul-at c = search needs
 add-at : tie.Need-add-at
 add-at c = search needs
 
+permitted-requires : tie.Need-permitted-requires
+permitted-requires c κs = search needs
+
 capability-requires : tie.Need-capability-requires
 capability-requires c κs = search needs
 
 put-word-requires : tie.Need-put-word-requires
 put-word-requires c κs = search needs
 
-cast-t22 : tie.Need-cast-t22
-cast-t22 c = search needs
+cast-t23 : tie.Need-cast-t23
+cast-t23 c = search needs
 
 granted-requires : tie.Need-granted-requires
 granted-requires c κs = search needs
@@ -63,10 +67,10 @@ same-length-4 c = search needs
 
 returns-3 : tie.Need-returns-3
 returns-3 c =
-    let a = c .before .before .before .before .before .before .before .before .before .before .before .before .before .before .before .before .before .before .before .before .args in
+    let a = c .before .before .before .before .before .before .before .before .before .before .before .before .before .before .before .before .before .before .before .before .before .args in
     let put = c .before .before .before .before .before .before .put-word .ensures in
-    λ m ec f cells tags. rw (c .granted .ensures, put .0, put .1, c .before .before .before .before .before .before .before .before .before .capability .ensures)
-    (take-done (withRows (withWords m (a .words .now) (a .marks .now)) (a .rows .now)) f (a .count) ec (a .party) (a .base) (a .reg) cells tags (c .before .before .before .before .before .before .before .before .before .before .before .before .before .before .before .before .if1 .left) _ _ (c .before .before .before .before .before .before .before .before .before .before .before .before .before .before .take .ensures .0) _ (c .before .before .before .before .before .before .before .before .before .before .before .before .before .before .take .ensures .1) (c .before .before .before .before .before .before .before .before .before .before .if2 .left))
+    λ m ec f cells tags. rw (c .granted .ensures, put .0, put .1, c .before .before .before .before .before .before .before .before .before .capability .ensures, c .before .before .before .before .before .before .before .before .before .before .permitted .ensures)
+    (take-done (withRows (withWords m (a .words .now) (a .marks .now)) (a .rows .now)) f (a .count) ec (a .party) (a .base) (a .reg) (a .mask) cells tags (c .before .before .before .before .before .before .before .before .before .before .before .before .before .before .before .before .before .if1 .left) _ _ (c .before .before .before .before .before .before .before .before .before .before .before .before .before .before .before .take .ensures .0) _ (c .before .before .before .before .before .before .before .before .before .before .before .before .before .before .before .take .ensures .1) (c .before .before .before .before .before .before .before .before .before .before .before .if2 .left))
 
 pub take-spec : {M : Type 1} → statement M
 take-spec =
@@ -80,9 +84,10 @@ take-spec =
     returns-2
     mul-at
     add-at
+    permitted-requires
     capability-requires
     put-word-requires
-    cast-t22
+    cast-t23
     granted-requires
     same-length-2
     same-length-3
