@@ -1,1 +1,1 @@
-// The rules of the reservation machine: sixteen calls on one state and the memory that it is lent. Specifications and proofs alone.
+// The rules of the reservation machine: calls on one state and the memory that it is lent. Specifications and proofs alone.

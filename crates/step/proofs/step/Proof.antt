@@ -1,5 +1,5 @@
 -- `step::step` meets its contract. Each kind of call is done by one function, whose promise is the step's for that kind.
-use mathlib.Core.Path.{_≡_, refl}
+use mathlib.Core.Path.{refl}
 use Rattle.arrays.specs.Reading.{arrays, stateOf}
 use Rattle.step.specs.Entries.{ruledOn}
 use Rattle.step.proofs.Tabling.{take-plain}

@@ -1,5 +1,4 @@
 -- In each arm the command is the arm's number, so that kind's own function answers; in the last arm only the last command is left.
-use borrow.Author.Needs.{needs}
 use Prim.Native.Nat.{ℕ, _≤_}
 use mathlib.Core.Path.{_≡_, subst}
 use Rattle.calls.specs.Commands.{callAt, lengthOf, lastByte}
