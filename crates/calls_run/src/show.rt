@@ -38,13 +38,13 @@ fn three(word: &[u8], party: u8, x: u8, y: u8) {
     number(y as u64);
 }
 
-fn base(word: &[u8], party: u8, x: u16) {
+fn at_base(word: &[u8], party: u8, x: u16) {
     one(word, party);
     number(x as u64);
 }
 
 fn base_with(word: &[u8], party: u8, x: u16, y: u64) {
-    base(word, party, x);
+    at_base(word, party, x);
     number(y);
 }
 
@@ -57,20 +57,12 @@ fn cell(word: &[u8], party: u8, a: u8, off: u16, x: u64) {
 // A call's word and its operands, in the order of their bytes.
 pub(crate) fn call(c: Call) {
     match c {
-        Call::Take {
-            party,
-            base: b,
-            reg,
-        } => base_with(b"take", party, b, reg as u64),
-        Call::Split {
-            party,
-            base: b,
-            len,
-        } => base_with(b"split", party, b, len as u64),
-        Call::Merge { party, base: b } => base(b"merge", party, b),
-        Call::Give { party, base: b, to } => base_with(b"give", party, b, to as u64),
-        Call::Revoke { party, base: b } => base(b"revoke", party, b),
-        Call::Sweep { party, n } => base(b"sweep", party, n),
+        Call::Take { party, base, reg } => base_with(b"take", party, base, reg as u64),
+        Call::Split { party, base, len } => base_with(b"split", party, base, len as u64),
+        Call::Merge { party, base } => at_base(b"merge", party, base),
+        Call::Give { party, base, to } => base_with(b"give", party, base, to as u64),
+        Call::Revoke { party, base } => at_base(b"revoke", party, base),
+        Call::Sweep { party, n } => at_base(b"sweep", party, n),
         Call::Collect { party } => one(b"collect", party),
         Call::Map { party, page, frame } => three(b"map", party, page.0, frame.0),
         Call::Unmap { party, page } => two(b"unmap", party, page.0),
@@ -94,11 +86,11 @@ pub(crate) fn call(c: Call) {
         Call::Receive { party, d } => two(b"receive", party, d),
         Call::TakeMasked {
             party,
-            base: b,
+            base,
             reg,
             mask,
         } => {
-            base_with(b"take", party, b, reg as u64);
+            base_with(b"take", party, base, reg as u64);
             number(mask as u64);
         }
     }

@@ -24,7 +24,7 @@ use Rattle.machine.specs.State.{State}
 use Rattle.machine.specs.Roles.{collects, Asked, asked, callerOf, IsCollect}
 use Rattle.machine.specs.Effects.{Effect}
 use Rattle.machine.specs.Step.{done, effectOn}
-use Rattle.machine.proofs.Deeds.{Recored, splits, merges, gives, revokes, maps, unmaps, Deed, took, recored, swept, collectedAll, zeroed, filled, loaded, wrote, granted, received, deed}
+use Rattle.machine.proofs.Deeds.{Recored, splits, merges, gives, revokes, maps, unmaps, Deed, took, recored, swept, collectedAll, zeroed, filled, loaded, wrote, mailed, received, deed}
 use Rattle.histories.specs.Runs.{Machine, Granted, next, run}
 use Rattle.histories.specs.Inv.{rowAt}
 use Rattle.histories.specs.Lending.{lentRange, Ended, EndedBetween}
@@ -64,7 +64,7 @@ module _ (s : State) (ok : coreSound (s .core) ≡ true) where
   deed-carried (filled p d from w low g) = inl (carried-self t)
   deed-carried (loaded p a off d low g) = inl (carried-self t)
   deed-carried (wrote p a off x low-p low-a g) = inl (carried-self t)
-  deed-carried (granted p x to q) = inl (carried-self t)
+  deed-carried (mailed p x to q) = inl (carried-self t)
   deed-carried (received p d low) = inl (carried-self t)
 
 -- A range within a reservation that is within another.

@@ -19,11 +19,8 @@ use Rattle.pages.specs.declared.Place.{Place}
 use Rattle.pages.specs.declared.Place.the-variants.{At, Nowhere}
 use Rattle.pages.specs.declared.VirtualPage.{VirtualPage}
 use Rattle.pages.specs.Mapping.{lookupOf, freedOf, releasedOf, mapReasons, unmapReasons, dirtyReasons, mapped, unmapped, mapOf, unmapOf}
-use Rattle.pages.specs.Layer.{withFrame}
-use Rattle.pages.specs.declared.FrameState.the-variants.{Free}
 use Rattle.pages.proofs.Formed.{Sound as Layered, sound as layered}
 use Rattle.pages.proofs.Kept.{mappable, unmappable}
-use Rattle.sweep.specs.Sweep.{cellsLeft}
 use Rattle.table.specs.Table.{Table}
 use Rattle.table.specs.Find.{findOf, rowOf}
 use Rattle.table.specs.Operations.{takeReasons, takeOf, takenRow, splitReasons, splitOf, lowerPart, upperPart, mergeReasons, mergeOf, joined, giveReasons, giveOf, givenRow}
@@ -43,9 +40,9 @@ use Rattle.words.specs.declared.Slot.{Slot}
 use Rattle.words.specs.Words.{slot, empty, registerOf, mailboxOf, keepTag, wordAt, stored, collectedRegister, collectedMailbox}
 use Rattle.machine.specs.State.{State}
 use Rattle.machine.specs.Roles.{Sources, Asked}
-use Rattle.machine.specs.Effects.{keepRegisters, putRegister, fetchInto, keepMailboxes, putMailbox, keepMemory, writeWord, clearFrame, sweepCells, Effect, effectOf, withTable, withPages, sweptTo, taking}
+use Rattle.machine.specs.Effects.{Effect, withTable, withPages, sweptTo, taking}
 use Rattle.machine.specs.Step.{done, registersAfter, mailboxesAfter, cellsAfter, tagsAfter}
-use Rattle.machine.proofs.Deeds.{coreAlone, collecting, Recored, splits, merges, gives, revokes, maps, unmaps, Filling, narrows, numbers, aimedAt, Deed, took, recored, swept, collectedAll, zeroed, filled, loaded, wrote, granted, received}
+use Rattle.machine.proofs.Deeds.{coreAlone, sweeping, collecting, zeroing, putting, loading, storing, granting, receiving, Recored, splits, merges, gives, revokes, maps, unmaps, Filling, narrows, numbers, aimedAt, Deed, took, recored, swept, collectedAll, zeroed, filled, loaded, wrote, mailed, received}
 use Rattle.machine.proofs.Found.{Addressing}
 use Rattle.machine.proofs.PagesKept.{zero-clear}
 use Rattle.histories.specs.Runs.{Machine, machine}
@@ -170,12 +167,12 @@ module _ (s : State) (cells tags : List ℕ) (inv : Inv (machine s cells tags)) 
         λ e. narrowed-confined t (registerOf (s .registers) p x .cell) off len mask (register-sound t (s .registers) p x (inv .registers) (g .tagged)) (g .some) (g .ends) (g .starts)
     filling-sound p (numbers value) = λ e. absurd (false≢true e)
 
-    keep-filled : (p d : ℕ) (from : Sources) (w : Slot) → Filling s p from w → Inv (after (effectOf c (putRegister p d w) keepMailboxes keepMemory empty))
+    keep-filled : (p d : ℕ) (from : Sources) (w : Slot) → Filling s p from w → Inv (after (putting c p d w))
     unfolding done registersAfter mailboxesAfter cellsAfter tagsAfter
     keep-filled p d from w g = register-change p d w (filling-sound p g)
 
     -- 0F grant, 10 receive.
-    keep-grant : (p x to : ℕ) → Inv (after (effectOf c keepRegisters (putMailbox to (registerOf (s .registers) p x)) keepMemory empty))
+    keep-grant : (p x to : ℕ) → Inv (after (granting s p x to))
     unfolding done registersAfter mailboxesAfter cellsAfter tagsAfter
     keep-grant p x to =
         record {
@@ -184,7 +181,7 @@ module _ (s : State) (cells tags : List ℕ) (inv : Inv (machine s cells tags)) 
           memory = inv .memory;
         }
 
-    keep-receive : (p d : ℕ) → Inv (after (effectOf c (putRegister p d (mailboxOf (s .mailboxes) p)) (putMailbox p empty) keepMemory (mailboxOf (s .mailboxes) p)))
+    keep-receive : (p d : ℕ) → Inv (after (receiving s p d))
     unfolding done registersAfter mailboxesAfter cellsAfter tagsAfter
     keep-receive p d =
         record {
@@ -195,7 +192,7 @@ module _ (s : State) (cells tags : List ℕ) (inv : Inv (machine s cells tags)) 
 
     -- 0B load.
     keep-load : (p a off d : ℕ) → Addressing c (registerOf (s .registers) p a) off
-        → Inv (after (effectOf c (fetchInto p d (aimedAt s p a off) (permits (registerOf (s .registers) p a .cell) 4)) keepMailboxes keepMemory empty))
+        → Inv (after (loading s p a off d))
     unfolding done registersAfter mailboxesAfter cellsAfter tagsAfter
     keep-load p a off d g =
         let w = registerOf (s .registers) p a in
@@ -204,7 +201,7 @@ module _ (s : State) (cells tags : List ℕ) (inv : Inv (machine s cells tags)) 
 
     -- 0C store.
     keep-store : (p a off r : ℕ) → Addressing c (registerOf (s .registers) p a) off
-        → Inv (after (effectOf c keepRegisters keepMailboxes (writeWord (aimedAt s p a off) (stored c (registerOf (s .registers) p r))) empty))
+        → Inv (after (storing s p a off r))
     unfolding done registersAfter mailboxesAfter cellsAfter tagsAfter
     keep-store p a off r g =
         let w = registerOf (s .registers) p a in
@@ -220,7 +217,7 @@ module _ (s : State) (cells tags : List ℕ) (inv : Inv (machine s cells tags)) 
         }
 
     -- 06 sweep.
-    keep-swept : (n : ℕ) → Inv (after (effectOf (core (c .pages) t (sweptTo c n)) keepRegisters keepMailboxes (sweepCells (revoked c) (c .place) (sweptTo c n)) (slot (cellsLeft (c .pages) (sweptTo c n)) false)))
+    keep-swept : (n : ℕ) → Inv (after (sweeping c n))
     unfolding done registersAfter mailboxesAfter cellsAfter tagsAfter
     keep-swept n = record { registers = inv .registers; mailboxes = inv .mailboxes; memory = keep-sweep c cells tags (inv .memory) layer of-cells of-tags (sweptTo c n) }
 
@@ -247,7 +244,7 @@ module _ (s : State) (cells tags : List ℕ) (inv : Inv (machine s cells tags)) 
         (keep-pages c cells tags (inv .memory) (unmapped (c .pages) page) (λ v at e. inl (unmap-view (c .pages) layer page k v at e)) (unmap-free (c .pages) layer page k)))
 
     keep-zero : (frame : Frame) → first (dirtyReasons (c .pages) frame) ≡ 0
-        → Inv (after (effectOf (withPages c (withFrame (c .pages) (frame .0) Free)) keepRegisters keepMailboxes (clearFrame frame) empty))
+        → Inv (after (zeroing c frame))
     unfolding done registersAfter mailboxesAfter cellsAfter tagsAfter
     keep-zero frame z =
         let (low, dirty) = zero-clear (c .pages) frame z in
@@ -338,5 +335,5 @@ module _ (s : State) (cells tags : List ℕ) (inv : Inv (machine s cells tags)) 
     keep-deed (filled p d from w low g) = keep-filled p d from w g
     keep-deed (loaded p a off d low g) = keep-load p a off d g
     keep-deed (wrote p a off x low-p low-a g) = keep-store p a off x g
-    keep-deed (granted p x to t) = keep-grant p x to
+    keep-deed (mailed p x to t) = keep-grant p x to
     keep-deed (received p d low) = keep-receive p d

@@ -40,7 +40,7 @@ use Rattle.machine.specs.Effects.{Effect, effect}
 use Rattle.machine.specs.Reasons.{reasons}
 use Rattle.machine.specs.Roles.{collects, Asked, asked, callerOf, IsCollect}
 use Rattle.machine.specs.Step.{done, effectOn}
-use Rattle.machine.proofs.Deeds.{Recored, splits, merges, gives, revokes, maps, unmaps, Deed, took, recored, swept, collectedAll, zeroed, filled, loaded, wrote, granted, received, deed}
+use Rattle.machine.proofs.Deeds.{Recored, splits, merges, gives, revokes, maps, unmaps, Deed, took, recored, swept, collectedAll, zeroed, filled, loaded, wrote, mailed, received, deed}
 use Rattle.machine.proofs.Found.{after-five}
 use Rattle.histories.specs.Runs.{Machine, next, run}
 use Rattle.histories.specs.Inv.{rowAt}
@@ -117,7 +117,7 @@ module _ (s : State) (ok : coreSound (s .core) ≡ true) (n : ℕ) (low : n < 25
   deed-freed (filled p d from w low-d g) = inl is
   deed-freed (loaded p a off d low-d g) = inl is
   deed-freed (wrote p a off x low-p low-a g) = inl is
-  deed-freed (granted p x to t) = inl is
+  deed-freed (mailed p x to t) = inl is
   deed-freed (received p d low-d) = inl is
 
 -- The page as a reservation would have its cells.

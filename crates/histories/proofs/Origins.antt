@@ -16,7 +16,6 @@ use Rattle.pages.specs.declared.Place.the-variants.{At}
 use Rattle.pages.specs.Pages.{Pages}
 use Rattle.pages.specs.Layer.{withFrame}
 use Rattle.pages.specs.Mapping.{lookupOf, dirtyReasons, releasedOf}
-use Rattle.sweep.specs.Sweep.{cellsLeft}
 use Rattle.pages.proofs.Formed.{Sound as Layered, sound as layered}
 use Rattle.table.specs.Operations.{takeOf}
 use Rattle.reservations.specs.Core.{Core}
@@ -27,9 +26,9 @@ use Rattle.words.specs.declared.Slot.{Slot}
 use Rattle.words.specs.Words.{slot, empty, named, registerOf, mailboxOf, keepTag, wordAt, stored, collectedMailbox}
 use Rattle.machine.specs.State.{State}
 use Rattle.machine.specs.Roles.{Sources, takes, Asked, asked, IsTake}
-use Rattle.machine.specs.Effects.{keepRegisters, putRegister, fetchInto, keepMailboxes, putMailbox, keepMemory, writeWord, clearFrame, sweepCells, Effect, effectOf, withPages, sweptTo}
+use Rattle.machine.specs.Effects.{putRegister, keepMailboxes, keepMemory, Effect, effectOf, sweptTo}
 use Rattle.machine.specs.Step.{done, registersAfter, mailboxesAfter, cellsAfter, tagsAfter}
-use Rattle.machine.proofs.Deeds.{coreAlone, collecting, Recored, Filling, narrows, numbers, aimedAt, Deed, took, recored, swept, collectedAll, zeroed, filled, loaded, wrote, granted, received, deed}
+use Rattle.machine.proofs.Deeds.{coreAlone, sweeping, collecting, zeroing, loading, storing, granting, receiving, Recored, Filling, narrows, numbers, aimedAt, Deed, took, recored, swept, collectedAll, zeroed, filled, loaded, wrote, mailed, received, deed}
 use Rattle.machine.proofs.Found.{Addressing}
 use Rattle.machine.proofs.PagesKept.{zero-clear}
 use Rattle.histories.specs.Runs.{Machine, machine, next}
@@ -118,7 +117,7 @@ module _ (Q : ℕ → Type 0) where
           go v at (shownBefore q) = inl q
           go v at (wasFree j i free low e keep) = inr (subst (Blank cells tags) (sym e) (inv .memory .free j i free low))
 
-      came-sweep : (n : ℕ) → All Q (after (effectOf (core (c .pages) (c .table) (sweptTo c n)) keepRegisters keepMailboxes (sweepCells (revoked c) (c .place) (sweptTo c n)) (slot (cellsLeft (c .pages) (sweptTo c n)) false)))
+      came-sweep : (n : ℕ) → All Q (after (sweeping c n))
       unfolding done registersAfter mailboxesAfter cellsAfter tagsAfter
       came-sweep n =
           spots _ (λ i. old (register i)) (λ i. old (mailbox i))
@@ -134,7 +133,7 @@ module _ (Q : ℕ → Type 0) where
           (λ v. subst (λ x. Tagged Q (shown (x .pages) cells tags v)) (sym (k .parts)) (pages (releasedOf (c .pages) (revoked c)) (λ u at e. inl (released-shows (c .pages) layer (revoked c) u at e)) v))
 
       came-zero : (frame : Frame) → first (dirtyReasons (c .pages) frame) ≡ 0
-          → All Q (after (effectOf (withPages c (withFrame (c .pages) (frame .0) Free)) keepRegisters keepMailboxes (clearFrame frame) empty))
+          → All Q (after (zeroing c frame))
       unfolding done registersAfter mailboxesAfter cellsAfter tagsAfter
       came-zero frame z =
           let (low, dirty) = zero-clear (c .pages) frame z in
@@ -152,7 +151,7 @@ module _ (Q : ℕ → Type 0) where
           spots _ (put (8 * p + d) w t) (λ i. old (mailbox i)) (λ v. subst (λ q. Tagged Q (shown q cells tags v)) (sym e) (old (virtual v)))
 
       came-load : (p a off d : ℕ) → Addressing c (registerOf (s .registers) p a) off
-          → All Q (after (effectOf c (fetchInto p d (aimedAt s p a off) (permits (registerOf (s .registers) p a .cell) 4)) keepMailboxes keepMemory empty))
+          → All Q (after (loading s p a off d))
       unfolding done registersAfter mailboxesAfter cellsAfter tagsAfter
       came-load p a off d g =
           let w = registerOf (s .registers) p a in
@@ -162,7 +161,7 @@ module _ (Q : ℕ → Type 0) where
           (λ i. old (mailbox i)) (λ v. old (virtual v))
 
       came-store : (p a off r : ℕ) → Addressing c (registerOf (s .registers) p a) off
-          → All Q (after (effectOf c keepRegisters keepMailboxes (writeWord (aimedAt s p a off) (stored c (registerOf (s .registers) p r))) empty))
+          → All Q (after (storing s p a off r))
       unfolding done registersAfter mailboxesAfter cellsAfter tagsAfter
       came-store p a off r g =
           let v₀ = baseOf (registerOf (s .registers) p a .cell) + off in
@@ -175,12 +174,12 @@ module _ (Q : ℕ → Type 0) where
           (λ b e.
           write-word c cells tags (inv .memory) layer of-cells of-tags at (stored c x) low (Tagged Q) b (kept x _ (of-register (s .registers) p r (λ i. old (register i)))) (place v b e)))
 
-      came-grant : (p x to : ℕ) → All Q (after (effectOf c keepRegisters (putMailbox to (registerOf (s .registers) p x)) keepMemory empty))
+      came-grant : (p x to : ℕ) → All Q (after (granting s p x to))
       unfolding done registersAfter mailboxesAfter cellsAfter tagsAfter
       came-grant p x to =
           spots _ (λ i. old (register i)) (put-each (Tagged Q) (s .mailboxes) to (registerOf (s .registers) p x) (of-register (s .registers) p x (λ i. old (register i))) (λ i. old (mailbox i))) (λ v. old (virtual v))
 
-      came-receive : (p d : ℕ) → All Q (after (effectOf c (putRegister p d (mailboxOf (s .mailboxes) p)) (putMailbox p empty) keepMemory (mailboxOf (s .mailboxes) p)))
+      came-receive : (p d : ℕ) → All Q (after (receiving s p d))
       unfolding done registersAfter mailboxesAfter cellsAfter tagsAfter
       came-receive p d =
           spots _ (put (8 * p + d) (mailboxOf (s .mailboxes) p) (of-mailbox (s .mailboxes) p (λ i. old (mailbox i)))) (put-each (Tagged Q) (s .mailboxes) p empty (none empty refl) (λ i. old (mailbox i)))
@@ -202,7 +201,7 @@ module _ (Q : ℕ → Type 0) where
       deed-came narrower (filled p d from w low g) new = came-register c p d w empty refl (filling-came narrower p g)
       deed-came narrower (loaded p a off d low g) new = came-load p a off d g
       deed-came narrower (wrote p a off x low-p low-a g) new = came-store p a off x g
-      deed-came narrower (granted p x to t) new = came-grant p x to
+      deed-came narrower (mailed p x to t) new = came-grant p x to
       deed-came narrower (received p d low) new = came-receive p d
 
 -- A step, granted or refused: what holds of every live capability, and of each narrower one, holds after it, if it holds of the one that

@@ -20,7 +20,7 @@ use Rattle.reservations.proofs.CoreKept.{core-facts}
 use Rattle.machine.specs.State.{State}
 use Rattle.machine.specs.Roles.{Asked}
 use Rattle.machine.specs.Effects.{MemoryChange, keepMemory, Effect}
-use Rattle.machine.proofs.Deeds.{Recored, splits, merges, gives, revokes, maps, unmaps, Deed, took, recored, swept, collectedAll, zeroed, filled, loaded, wrote, granted, received}
+use Rattle.machine.proofs.Deeds.{Recored, splits, merges, gives, revokes, maps, unmaps, Deed, took, recored, swept, collectedAll, zeroed, filled, loaded, wrote, mailed, received}
 use Rattle.histories.proofs.Keep.{frame-lookup}
 use Rattle.histories.proofs.Layer.{map-done, map-view, unmap-done, unmap-view, freed-shows, released-shows}
 use Rattle.histories.proofs.Findings.{ends, revoke-parts}
@@ -59,5 +59,5 @@ came s ok (zeroed p frame z) v at q = shownBefore (sym (frame-lookup (s .core .p
 came s ok (filled p d from w low g) v at q = shownBefore q
 came s ok (loaded p a off d low g) v at q = shownBefore q
 came s ok (wrote p a off x low-p low-a g) v at q = shownBefore q
-came s ok (granted p x to t) v at q = shownBefore q
+came s ok (mailed p x to t) v at q = shownBefore q
 came s ok (received p d low) v at q = shownBefore q

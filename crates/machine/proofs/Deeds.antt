@@ -32,13 +32,42 @@ use Rattle.machine.specs.Effects.{keepRegisters, putRegister, fetchInto,
 use Rattle.machine.specs.Step.{reasonsOn, effectOn}
 use Rattle.machine.proofs.Found.{after-five, low-two, low-three, Addressing, addressing, Narrowing, narrowing}
 
--- Another core, and nothing else.
+-- The effects, by what they change. Another core, and nothing else.
 abbrev pub coreAlone : Core → Effect
 coreAlone k = effectOf k keepRegisters keepMailboxes keepMemory empty
 
--- What a collect does.
+-- 06, 07, 0A.
+abbrev pub sweeping : Core → ℕ → Effect
+sweeping c n =
+    effectOf (core (c .pages) (c .table) (sweptTo c n)) keepRegisters keepMailboxes (sweepCells (revoked c) (c .place) (sweptTo c n))
+    (slot (cellsLeft (c .pages) (sweptTo c n)) false)
+
 abbrev pub collecting : Core → Effect
-collecting k = effectOf (collectOf k .core) collectRegisters collectMailboxes keepMemory empty
+collecting c = effectOf (collectOf c .core) collectRegisters collectMailboxes keepMemory empty
+
+abbrev pub zeroing : Core → Frame → Effect
+zeroing c frame = effectOf (withPages c (withFrame (c .pages) (frame .0) Free)) keepRegisters keepMailboxes (clearFrame frame) empty
+
+-- A word is put into register d of party p, and nothing else: 0D and 0E.
+abbrev pub putting : Core → ℕ → ℕ → Slot → Effect
+putting c p d w = effectOf c (putRegister p d w) keepMailboxes keepMemory empty
+
+-- The place in lent memory of the cell at base + off of the capability in register a of party p.
+abbrev pub aimedAt : State → ℕ → ℕ → ℕ → ℕ
+aimedAt s p a off = placeNumber (addressed (s .core) (registerOf (s .registers) p a) off)
+
+-- 0B, 0C, 0F, 10.
+abbrev pub loading : State → ℕ → ℕ → ℕ → ℕ → Effect
+loading s p a off d = effectOf (s .core) (fetchInto p d (aimedAt s p a off) (permits (registerOf (s .registers) p a .cell) 4)) keepMailboxes keepMemory empty
+
+abbrev pub storing : State → ℕ → ℕ → ℕ → ℕ → Effect
+storing s p a off x = effectOf (s .core) keepRegisters keepMailboxes (writeWord (aimedAt s p a off) (stored (s .core) (registerOf (s .registers) p x))) empty
+
+abbrev pub granting : State → ℕ → ℕ → ℕ → Effect
+granting s p x to = effectOf (s .core) keepRegisters (putMailbox to (registerOf (s .registers) p x)) keepMemory empty
+
+abbrev pub receiving : State → ℕ → ℕ → Effect
+receiving s p d = effectOf (s .core) (putRegister p d (mailboxOf (s .mailboxes) p)) (putMailbox p empty) keepMemory (mailboxOf (s .mailboxes) p)
 
 -- What a call makes of the core where it changes nothing else.
 pub data Recored (c : Core) : Core → Type 0 where
@@ -55,30 +84,18 @@ pub data Filling (s : State) (p : ℕ) : Sources → Slot → Type 0 where
       → Filling s p (fromOne x) (slot (narrowed (registerOf (s .registers) p x .cell) off len mask) true)
   numbers : (value : ℕ) → Filling s p fromNone (slot value false)
 
--- The place in lent memory of the cell at base + off of the capability in register a of party p.
-abbrev pub aimedAt : State → ℕ → ℕ → ℕ → ℕ
-aimedAt s p a off = placeNumber (addressed (s .core) (registerOf (s .registers) p a) off)
-
 pub data Deed (s : State) : Asked → Effect → Type 0 where
   took : (p base reg permissions : ℕ) → p < 8 → reg < 8 → permissions ≤ 15 → first (takeReasons (s .core .table) p base) ≡ 0
       → Deed s (asked p (takes base reg permissions)) (taking (s .core) p base reg permissions)
   recored : (p : ℕ) (k : Core) → Recored (s .core) k → Deed s (asked p plain) (coreAlone k)
-  swept : (p n : ℕ) → running (s .core) ≡ true
-      → Deed s (asked p plain) (effectOf (core (s .core .pages) (s .core .table) (sweptTo (s .core) n)) keepRegisters keepMailboxes (sweepCells (revoked (s .core)) (s .core .place) (sweptTo (s .core) n)) (slot (cellsLeft (s .core .pages) (sweptTo (s .core) n)) false))
-  collectedAll : (p : ℕ) → first (collectReasons (s .core)) ≡ 0
-      → Deed s (asked p collects) (collecting (s .core))
-  zeroed : (p : ℕ) (frame : Frame) → first (dirtyReasons (s .core .pages) frame) ≡ 0
-      → Deed s (asked p plain) (effectOf (withPages (s .core) (withFrame (s .core .pages) (frame .0) Free)) keepRegisters keepMailboxes (clearFrame frame) empty)
-  filled : (p d : ℕ) (from : Sources) (w : Slot) → d < 8 → Filling s p from w
-      → Deed s (asked p (fills from)) (effectOf (s .core) (putRegister p d w) keepMailboxes keepMemory empty)
-  loaded : (p a off d : ℕ) → d < 8 → Addressing (s .core) (registerOf (s .registers) p a) off
-      → Deed s (asked p (fills (fromOne a))) (effectOf (s .core) (fetchInto p d (aimedAt s p a off) (permits (registerOf (s .registers) p a .cell) 4)) keepMailboxes keepMemory empty)
-  wrote : (p a off x : ℕ) → p < 8 → a < 8 → Addressing (s .core) (registerOf (s .registers) p a) off
-      → Deed s (asked p (stores a off x)) (effectOf (s .core) keepRegisters keepMailboxes (writeWord (aimedAt s p a off) (stored (s .core) (registerOf (s .registers) p x))) empty)
-  granted : (p x to : ℕ) → registerOf (s .registers) p x .tag ≡ true
-      → Deed s (asked p (grants x)) (effectOf (s .core) keepRegisters (putMailbox to (registerOf (s .registers) p x)) keepMemory empty)
-  received : (p d : ℕ) → d < 8
-      → Deed s (asked p plain) (effectOf (s .core) (putRegister p d (mailboxOf (s .mailboxes) p)) (putMailbox p empty) keepMemory (mailboxOf (s .mailboxes) p))
+  swept : (p n : ℕ) → running (s .core) ≡ true → Deed s (asked p plain) (sweeping (s .core) n)
+  collectedAll : (p : ℕ) → first (collectReasons (s .core)) ≡ 0 → Deed s (asked p collects) (collecting (s .core))
+  zeroed : (p : ℕ) (frame : Frame) → first (dirtyReasons (s .core .pages) frame) ≡ 0 → Deed s (asked p plain) (zeroing (s .core) frame)
+  filled : (p d : ℕ) (from : Sources) (w : Slot) → d < 8 → Filling s p from w → Deed s (asked p (fills from)) (putting (s .core) p d w)
+  loaded : (p a off d : ℕ) → d < 8 → Addressing (s .core) (registerOf (s .registers) p a) off → Deed s (asked p (fills (fromOne a))) (loading s p a off d)
+  wrote : (p a off x : ℕ) → p < 8 → a < 8 → Addressing (s .core) (registerOf (s .registers) p a) off → Deed s (asked p (stores a off x)) (storing s p a off x)
+  mailed : (p x to : ℕ) → registerOf (s .registers) p x .tag ≡ true → Deed s (asked p (grants x)) (granting s p x to)
+  received : (p d : ℕ) → d < 8 → Deed s (asked p plain) (receiving s p d)
 
 -- A take, of either kind.
 taking-deed : (s : State) (p base reg permissions : ℕ) → permissions ≤ 15 → first (takingReasons (s .core) p base reg) ≡ 0
@@ -114,7 +131,7 @@ deed s (Narrow p x off len mask d) z =
 deed s (Number p d value) z = filled p d _ _ (low-two p d [] z .1) (numbers value)
 deed s (Grant p x to) z =
     let one = first-clear 4 ((unnamed p || unnamed x) || unnamed to) _ (λ x. omega arith) z in
-    granted p x to (not-false (registerOf (s .registers) p x .tag) (first-clear 15 (not (registerOf (s .registers) p x .tag)) _ (λ x. omega arith) (one .1) .0))
+    mailed p x to (not-false (registerOf (s .registers) p x .tag) (first-clear 15 (not (registerOf (s .registers) p x .tag)) _ (λ x. omega arith) (one .1) .0))
 deed s (Receive p d) z = received p d (low-two p d _ z .1)
 deed s (TakeMasked p base reg mask) z = taking-deed s p base reg (permitted mask) (and-le-l 15 mask) z
 
@@ -148,7 +165,7 @@ known s (zeroed p frame z) = tt
 known s (filled p d from w low g) = tt
 known s (loaded p a off d low g) = tt
 known s (wrote p a off x low-p low-a g) = tt
-known s (granted p x to t) = tt
+known s (mailed p x to t) = tt
 known s (received p d low) = tt
 
 pub taken-by : (s : State) (c : Call) (p base reg permissions : ℕ) → IsTake c p base reg permissions → first (reasonsOn s c) ≡ 0

@@ -28,7 +28,7 @@ use Rattle.machine.specs.Roles.{Asked}
 use Rattle.machine.specs.Effects.{MailboxChange, keepMailboxes, putMailbox, collectMailboxes, Effect}
 use Rattle.machine.specs.Step.{mailboxesAfter, done, reasonsOn, effectOn, judged, stepOf}
 use Rattle.machine.proofs.Judging.{judged-by, step-by}
-use Rattle.machine.proofs.Deeds.{Recored, splits, merges, gives, revokes, maps, unmaps, Deed, took, recored, swept, collectedAll, zeroed, filled, loaded, wrote, granted, received, deed}
+use Rattle.machine.proofs.Deeds.{Recored, splits, merges, gives, revokes, maps, unmaps, Deed, took, recored, swept, collectedAll, zeroed, filled, loaded, wrote, mailed, received, deed}
 use Rattle.machine.proofs.Lengths.{length-registers, length-mailboxes}
 use Rattle.machine.proofs.Lists.{each-set, each-map}
 use Rattle.machine.proofs.PagesKept.{core-map, core-unmap, core-zero}
@@ -115,7 +115,7 @@ puts-sound s (zeroed p frame z) = refl
 puts-sound s (filled p d from w low g) = refl
 puts-sound s (loaded p a off d low g) = refl
 puts-sound s (wrote p a off x low-p low-a g) = refl
-puts-sound s (granted p x to t) = rw t
+puts-sound s (mailed p x to t) = rw t
 puts-sound s (received p d low) = refl
 
 -- The core after a granted call is well formed: each crate below says so of its own operations.
@@ -136,7 +136,7 @@ core-kept s ok (zeroed p frame z) = core-zero (s .core) ok frame z
 core-kept s ok (filled p d from w low g) = ok
 core-kept s ok (loaded p a off d low g) = ok
 core-kept s ok (wrote p a off x low-p low-a g) = ok
-core-kept s ok (granted p x to t) = ok
+core-kept s ok (mailed p x to t) = ok
 core-kept s ok (received p d low) = ok
 
 done-keeps : (s : State) (c : Call) (cells tags : List ℕ) → wellFormed s ≡ true

@@ -22,7 +22,7 @@ use Rattle.machine.specs.Roles.{Asked}
 use Rattle.machine.specs.Effects.{RegisterChange, keepRegisters, putRegister, fetchInto, collectRegisters, MailboxChange, keepMailboxes, putMailbox, collectMailboxes, MemoryChange, keepMemory, writeWord, clearFrame, sweepCells, Effect}
 use Rattle.machine.specs.Step.{Outcome, refused, fetched, registersAfter, mailboxesAfter, cellsAfter, tagsAfter, done, reasonsOn, effectOn, judged, stepOf}
 use Rattle.machine.proofs.Judging.{judged-by, step-by}
-use Rattle.machine.proofs.Deeds.{Deed, took, recored, swept, collectedAll, zeroed, filled, loaded, wrote, granted, received, deed}
+use Rattle.machine.proofs.Deeds.{Deed, took, recored, swept, collectedAll, zeroed, filled, loaded, wrote, mailed, received, deed}
 use Rattle.machine.proofs.PagesKept.{zero-clear}
 
 -- Registers and mailboxes, by what becomes of them.
@@ -74,7 +74,7 @@ clears-below s (zeroed p frame z) = lt-ltb (frame .0) (s .core .pages .f) (zero-
 clears-below s (filled p d from w low g) = refl
 clears-below s (loaded p a off d low g) = refl
 clears-below s (wrote p a off x low-p low-a g) = refl
-clears-below s (granted p x to t) = refl
+clears-below s (mailed p x to t) = refl
 clears-below s (received p d low) = refl
 
 -- An outcome with as many registers, mailboxes, cells and tags as were given.

@@ -23,7 +23,7 @@ use Rattle.machine.specs.Effects.{Effect}
 use Rattle.machine.specs.Step.{done, reasonsOn, effectOn, stepOf}
 use Rattle.machine.specs.Command.{commandOf}
 use Rattle.machine.proofs.Judging.{step-by}
-use Rattle.machine.proofs.Deeds.{Recored, splits, merges, gives, revokes, maps, unmaps, Deed, took, recored, swept, collectedAll, zeroed, filled, loaded, wrote, granted, received, deed}
+use Rattle.machine.proofs.Deeds.{Recored, splits, merges, gives, revokes, maps, unmaps, Deed, took, recored, swept, collectedAll, zeroed, filled, loaded, wrote, mailed, received, deed}
 use Rattle.machine.proofs.Commands.{command-by}
 
 pub record Same (p q : Pages) : Type 0 where
@@ -80,7 +80,7 @@ effect-same s (zeroed p frame z) = record { of-v = refl; of-f = refl }
 effect-same s (filled p d from w low g) = same (s .core .pages)
 effect-same s (loaded p a off d low g) = same (s .core .pages)
 effect-same s (wrote p a off x low-p low-a g) = same (s .core .pages)
-effect-same s (granted p x to t) = same (s .core .pages)
+effect-same s (mailed p x to t) = same (s .core .pages)
 effect-same s (received p d low) = same (s .core .pages)
 
 done-same : (s : State) (c : Call) (cells tags : List ℕ) → first (reasonsOn s c) ≡ 0 → Same (done s (effectOn s c) cells tags .answer .state .core .pages) (s .core .pages)

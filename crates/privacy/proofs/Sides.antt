@@ -23,8 +23,7 @@ use Rattle.words.specs.Words.{slot, named, registerOf, mailboxOf, wordAt, store
 use Rattle.machine.specs.State.{State}
 use Rattle.machine.specs.Roles.{Sources, stores, grants, Asked, asked, roleOf}
 use Rattle.machine.specs.Effects.{Effect}
-use Rattle.machine.proofs.Deeds.{Filling, narrows, numbers, aimedAt, Deed, took, recored, swept, collectedAll, zeroed, filled, loaded, wrote, received}
-use Rattle.machine.proofs.Deeds.{granted as granting}
+use Rattle.machine.proofs.Deeds.{Filling, narrows, numbers, aimedAt, Deed, took, recored, swept, collectedAll, zeroed, filled, loaded, wrote, mailed, received}
 use Rattle.machine.proofs.Found.{Addressing, Narrowing}
 use Rattle.machine.proofs.PagesKept.{zero-clear}
 use Rattle.histories.specs.Runs.{Machine}
@@ -45,7 +44,7 @@ fits-deed s (zeroed p frame z) = let (low, dirty) = zero-clear (s .core .pages) 
 fits-deed s (filled p d from w low g) = tt
 fits-deed s (loaded p a off d low g) = tt
 fits-deed s (wrote p a off x low-p low-a g) = tt
-fits-deed s (granting p x to t) = tt
+fits-deed s (mailed p x to t) = tt
 fits-deed s (received p d low) = tt
 
 -- No capability into the range, by the test.
@@ -136,7 +135,7 @@ module _ (house : ℕ) (r : Range) (m : Machine) (h : Housed house r m) where
   register-safe ok (filled p d from w low g) = (low, filling-good p g)
   register-safe ok (loaded p a off d low g) = (low, load-good p a off g (eqb p house) refl)
   register-safe ok (wrote p a off x low-p low-a g) = tt
-  register-safe ok (granting p x to t) = tt
+  register-safe ok (mailed p x to t) = tt
   register-safe ok (received p d low) = (low, apart-good r (eqb p house) (mailboxOf (s .mailboxes) p) (h .mailboxes p))
 
   -- The house's discretion: a call of the house's that is not struck betrays nothing.
@@ -170,7 +169,7 @@ module _ (house : ℕ) (r : Range) (m : Machine) (h : Housed house r m) where
   mailbox-safe (filled p d from w low g) q = tt
   mailbox-safe (loaded p a off d low g) q = tt
   mailbox-safe (wrote p a off x low-p low-a g) q = tt
-  mailbox-safe (granting p x to t) q = grant-apart p x q (eqb p house) refl
+  mailbox-safe (mailed p x to t) q = grant-apart p x q (eqb p house) refl
   mailbox-safe (received p d low) q = empty-apart r
 
   -- An aimed store that is granted hits a cell of the range.
@@ -230,5 +229,5 @@ module _ (house : ℕ) (r : Range) (m : Machine) (h : Housed house r m) where
   memory-safe ok (filled p d from w low g) q = tt
   memory-safe ok (loaded p a off d low g) q = tt
   memory-safe ok (wrote p a off x low-p low-a g) q = store-safe ok p a off x g low-p low-a q (eqb p house) refl
-  memory-safe ok (granting p x to t) q = tt
+  memory-safe ok (mailed p x to t) q = tt
   memory-safe ok (received p d low) q = tt

@@ -26,8 +26,7 @@ use Rattle.machine.specs.Formed.{wellFormed, mailboxesSound, sized}
 use Rattle.machine.specs.Roles.{Asked}
 use Rattle.machine.specs.Effects.{Effect}
 use Rattle.machine.specs.Step.{effectOn, registersAfter, mailboxesAfter, cellsAfter, tagsAfter, fetched}
-use Rattle.machine.proofs.Deeds.{aimedAt, Deed, took, recored, swept, collectedAll, zeroed, filled, loaded, wrote, received, deed}
-use Rattle.machine.proofs.Deeds.{granted as granting}
+use Rattle.machine.proofs.Deeds.{aimedAt, Deed, took, recored, swept, collectedAll, zeroed, filled, loaded, wrote, mailed, received, deed}
 use Rattle.machine.proofs.Found.{Addressing}
 use Rattle.histories.specs.Inv.{Inv}
 use Rattle.histories.specs.Runs.{Machine, machine, outcome, next}
@@ -160,7 +159,7 @@ module _ (house : ℕ) (r : Range) (g h : Machine) (own : Housed house r g) (rel
       own-register house (lasting r) g h p d (fetched (g .cells) (g .tags) (aimedAt s p a off) (permits (registerOf (s .registers) p a .cell) 4)) rel (eqb-true p house e) low
   alone-up (wrote p a off x low-p low-a k) e f =
       own-write house (lasting r) g h (aimedAt s p a off) (stored (s .core) (registerOf (s .registers) p x)) rel (store-alone p a off x (eqb-true p house e) f k)
-  alone-up (granting p x to t) e f = absurd (false≢true f)
+  alone-up (mailed p x to t) e f = absurd (false≢true f)
   alone-up (received p d low) e f = absurd (false≢true f)
 
 -- Alone: a struck call in one history keeps the relation.

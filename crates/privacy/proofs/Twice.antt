@@ -25,8 +25,7 @@ use Rattle.machine.specs.Roles.{Sources, fromNone, fromOne, fromTwo, Role, take
 use Rattle.machine.specs.Reasons.{Reads, reading, wordsIn, reads, reasons}
 use Rattle.machine.specs.Effects.{Effect}
 use Rattle.machine.specs.Step.{reasonsOn, effectOn, wordAfter}
-use Rattle.machine.proofs.Deeds.{aimedAt, Deed, took, recored, swept, collectedAll, zeroed, filled, loaded, wrote, received, deed, collected-as}
-use Rattle.machine.proofs.Deeds.{granted as granting}
+use Rattle.machine.proofs.Deeds.{aimedAt, Deed, took, recored, swept, collectedAll, zeroed, filled, loaded, wrote, mailed, received, deed, collected-as}
 use Rattle.machine.proofs.Found.{Addressing}
 use Rattle.histories.proofs.Showing.{came}
 use Rattle.histories.specs.Runs.{Machine, next}
@@ -132,7 +131,7 @@ module _ (house : ℕ) (t : Time) (g h : Machine) (own : (r : Range) → t ≡ l
   fetch-same (loaded p a off d low k) s =
       rel .words (baseOf (registerOf (g .state .registers) p a .cell) + off) (aimedAt (g .state) p a off) (k .place) (load-seen t refl p a off s k)
   fetch-same (wrote p a off x low-p low-a k) s = tt
-  fetch-same (granting p x to t) s = tt
+  fetch-same (mailed p x to t) s = tt
   fetch-same (received p d low) s = tt
 
   -- What the call reads is equal.

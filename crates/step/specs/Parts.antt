@@ -53,10 +53,10 @@ OnFrames f r frames cells tags frames′ cells′ tags′ c =
 abbrev pub OnRows : ℕ → Answer → List ℕ → List ℕ → Call → Type 0
 OnRows count r rows rows′ c = (m : Arrays) → m .nums .count ≡ count → Does r (withRows m rows) (withRows m rows′) c
 
--- One on the rows and the registers.
-abbrev pub OnRowsAndWords : ℕ → Answer → List ℕ → List ℕ → List ℕ → List ℕ → List ℕ → List ℕ → Call → Type 0
-OnRowsAndWords count r rows words marks rows′ words′ marks′ c =
-    (m : Arrays) → m .nums .count ≡ count → Does r (withRows (withWords m words marks) rows) (withRows (withWords m words′ marks′) rows′) c
+-- One on the rows, the registers and the small numbers.
+abbrev pub OnRowsAndWords : Numbers → Stepped → List ℕ → List ℕ → List ℕ → List ℕ → List ℕ → List ℕ → Call → Type 0
+OnRowsAndWords n r rows words marks rows′ words′ marks′ c =
+    (m : Arrays) → Does (r .answer) (withTable (withWords m words marks) n rows) (withTable (withWords m words′ marks′) (r .nums) rows′) c
 
 -- One on the rows and the small numbers.
 abbrev pub OnTable : Numbers → Stepped → List ℕ → List ℕ → Call → Type 0

@@ -74,7 +74,8 @@ pub struct Commanded {
     pub state: State,
 }
 
-fn with(nums: Numbers, answer: Answer) -> Stepped
+// What a call leaves that keeps the small numbers.
+fn on(nums: Numbers, answer: Answer) -> Stepped
     ensures { λ r. ⌜ r ≡ stepped answer nums ⌝ }
 {
     Stepped { answer, nums }
@@ -99,30 +100,23 @@ fn step(
     ensures { λ r. ⌜ leaving (r .answer) (arrays (r .nums) (now (words .exit)) (now (marks .exit)) (now (mail .exit)) (now (flags .exit)) (now (rows .exit)) (now (pages .exit)) (now (frames .exit))) (now (cells .exit)) (now (tags .exit)) ≡ ruledOn (arrays nums (now (words .entry)) (now (marks .entry)) (now (mail .entry)) (now (flags .entry)) (now (rows .entry)) (now (pages .entry)) (now (frames .entry))) call (now (cells .entry)) (now (tags .entry)) ⌝ }
 {
     match call {
-        Call::Take { party, base, reg } => {
-            let answer = take(nums.count, rows, words, marks, party, base, reg, PLAIN);
-            with(nums, answer)
-        }
+        Call::Take { party, base, reg } => take(nums, rows, words, marks, party, base, reg, PLAIN),
         Call::Split { party, base, len } => split(nums, rows, party, base, len),
         Call::Merge { party, base } => merge(nums, rows, party, base),
-        Call::Give { party, base, to } => with(nums, give(nums.count, rows, party, base, to)),
+        Call::Give { party, base, to } => on(nums, give(nums.count, rows, party, base, to)),
         Call::Revoke { party, base } => revoke(nums, rows, pages, party, base),
         Call::Sweep { party, n } => sweep(nums, frames, party, n, cells, tags),
         Call::Collect { party } => collect(nums, rows, pages, words, marks, mail, flags, party),
-        Call::Map { party, page, frame } => {
-            with(nums, map(nums.v, nums.f, pages, frames, party, page, frame))
-        }
-        Call::Unmap { party, page } => {
-            with(nums, unmap(nums.v, nums.f, pages, frames, party, page))
-        }
-        Call::Zero { party, frame } => with(nums, zero(nums.f, frames, party, frame, cells, tags)),
+        Call::Map { party, page, frame } => on(nums, map(nums, pages, frames, party, page, frame)),
+        Call::Unmap { party, page } => on(nums, unmap(nums, pages, frames, party, page)),
+        Call::Zero { party, frame } => on(nums, zero(nums.f, frames, party, frame, cells, tags)),
         Call::Load { party, a, off, d } => {
             let answer = load(words, marks, nums.v, pages, party, a, off, d, cells, tags);
-            with(nums, answer)
+            on(nums, answer)
         }
         Call::Store { party, a, off, s } => {
             let answer = store(words, marks, nums, pages, party, a, off, s, cells, tags);
-            with(nums, answer)
+            on(nums, answer)
         }
         Call::Narrow {
             party,
@@ -131,19 +125,16 @@ fn step(
             len,
             mask,
             d,
-        } => with(nums, narrow(words, marks, party, s, off, len, mask, d)),
-        Call::Number { party, d, value } => with(nums, number(words, marks, party, d, value)),
-        Call::Grant { party, s, to } => with(nums, grant(words, marks, mail, flags, party, s, to)),
-        Call::Receive { party, d } => with(nums, receive(words, marks, mail, flags, party, d)),
+        } => on(nums, narrow(words, marks, party, s, off, len, mask, d)),
+        Call::Number { party, d, value } => on(nums, number(words, marks, party, d, value)),
+        Call::Grant { party, s, to } => on(nums, grant(words, marks, mail, flags, party, s, to)),
+        Call::Receive { party, d } => on(nums, receive(words, marks, mail, flags, party, d)),
         Call::TakeMasked {
             party,
             base,
             reg,
             mask,
-        } => {
-            let answer = take(nums.count, rows, words, marks, party, base, reg, mask);
-            with(nums, answer)
-        }
+        } => take(nums, rows, words, marks, party, base, reg, mask),
     }
 }
 

@@ -1,6 +1,7 @@
 // Pages and frames: the layer's own functions, after the refusals of every manager's command.
 use crate::word_calls::refused;
 use arrays::Answer;
+use arrays::Numbers;
 use pages::Frame;
 use pages::Place;
 use pages::VirtualPage;
@@ -17,39 +18,37 @@ pub(crate) fn lookup(v: u16, pages: &[u16], cell: u32) -> Place
 
 // 08. Nothing is told but the code: 0, or the refusal.
 pub(crate) fn map(
-    v: u16,
-    f: u16,
+    nums: Numbers,
     pages: &mut [u16],
     frames: &mut [u8],
     party: u8,
     page: VirtualPage,
     frame: Frame,
 ) -> Answer
-    ensures { λ r. ⌜ OnPages v f r (now (pages .entry)) (now (frames .entry)) (now (pages .exit)) (now (frames .exit)) (Map party page frame) ⌝ }
+    ensures { λ r. ⌜ OnPages (nums .v) (nums .f) r (now (pages .entry)) (now (frames .entry)) (now (pages .exit)) (now (frames .exit)) (Map party page frame) ⌝ }
 {
     let early = manager_code(party, 0);
     if early != 0 {
         return refused(early);
     }
-    refused(pages::lent::map(v, f, pages, frames, page, frame))
+    refused(pages::lent::map(nums.v, nums.f, pages, frames, page, frame))
 }
 
 // 09.
 pub(crate) fn unmap(
-    v: u16,
-    f: u16,
+    nums: Numbers,
     pages: &mut [u16],
     frames: &mut [u8],
     party: u8,
     page: VirtualPage,
 ) -> Answer
-    ensures { λ r. ⌜ OnPages v f r (now (pages .entry)) (now (frames .entry)) (now (pages .exit)) (now (frames .exit)) (Unmap party page) ⌝ }
+    ensures { λ r. ⌜ OnPages (nums .v) (nums .f) r (now (pages .entry)) (now (frames .entry)) (now (pages .exit)) (now (frames .exit)) (Unmap party page) ⌝ }
 {
     let early = manager_code(party, 0);
     if early != 0 {
         return refused(early);
     }
-    refused(pages::lent::unmap(v, pages, frames, page))
+    refused(pages::lent::unmap(nums.v, pages, frames, page))
 }
 
 // 0A.

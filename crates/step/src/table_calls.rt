@@ -32,7 +32,7 @@ pub(crate) const PLAIN: u8 = 3;
 
 // 11, and by the mask PLAIN 01: the register gets a capability for what was taken, and the length is answered.
 pub(crate) fn take(
-    count: usize,
+    nums: Numbers,
     rows: &mut [u64],
     words: &mut [u64],
     marks: &mut [u8],
@@ -40,15 +40,17 @@ pub(crate) fn take(
     base: u16,
     reg: u8,
     mask: u8,
-) -> Answer
-    ensures { λ r. ⌜ OnRowsAndWords count r (now (rows .entry)) (now (words .entry)) (now (marks .entry)) (now (rows .exit)) (now (words .exit)) (now (marks .exit)) (TakeMasked party base reg mask) ⌝ }
+) -> Stepped
+    ensures { λ r. ⌜ OnRowsAndWords nums r (now (rows .entry)) (now (words .entry)) (now (marks .entry)) (now (rows .exit)) (now (words .exit)) (now (marks .exit)) (TakeMasked party base reg mask) ⌝ }
 {
     if !(party < 8) | !(reg < 8) {
-        return refused(4);
+        let answer = refused(4);
+        return Stepped { answer, nums };
     }
-    let taken = operations::take(rows, count, party, base);
+    let taken = operations::take(rows, nums.count, party, base);
     if taken.code != 0 {
-        return refused(taken.code);
+        let answer = refused(taken.code);
+        return Stepped { answer, nums };
     }
     let at = 8 * (party as usize) + reg as usize;
     let word = Slot {
@@ -56,11 +58,13 @@ pub(crate) fn take(
         tag: true,
     };
     put_word(words, marks, at, word);
+    let number = taken.length as u64;
     let length = Slot {
-        cell: taken.length as u64,
+        cell: number,
         tag: false,
     };
-    granted(length)
+    let answer = granted(length);
+    Stepped { answer, nums }
 }
 
 // 02.

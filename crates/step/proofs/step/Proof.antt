@@ -13,7 +13,7 @@ use Rattle.step.proofs.page_calls.map.Reads as map-reads
 use Rattle.step.proofs.page_calls.unmap.Reads as unmap-reads
 use Rattle.step.proofs.page_calls.zero.Reads as zero-reads
 use Rattle.step.proofs.revoke_calls.revoke.Reads as revoke-reads
-use Rattle.step.proofs.with.Reads as with-reads
+use Rattle.step.proofs.on.Reads as on-reads
 use Rattle.step.proofs.sweep_calls.sweep.Reads as sweep-reads
 use Rattle.step.proofs.table_calls.give.Reads as give-reads
 use Rattle.step.proofs.table_calls.merge.Reads as merge-reads
@@ -31,9 +31,6 @@ enum-known-call c = search needs
 
 take-requires : tie.Need-take-requires
 take-requires c κs = search needs
-
-with-requires : tie.Need-with-requires
-with-requires c κs = search needs
 
 enum-known-call-2 : tie.Need-enum-known-call-2
 enum-known-call-2 c = search needs
@@ -53,8 +50,8 @@ enum-known-call-4 c = search needs
 give-requires : tie.Need-give-requires
 give-requires c κs = search needs
 
-with-requires-2 : tie.Need-with-requires-2
-with-requires-2 c κs = search needs
+on-requires : tie.Need-on-requires
+on-requires c κs = search needs
 
 enum-known-call-5 : tie.Need-enum-known-call-5
 enum-known-call-5 c = search needs
@@ -80,8 +77,8 @@ enum-known-call-8 c = search needs
 map-requires : tie.Need-map-requires
 map-requires c κs = search needs
 
-with-requires-3 : tie.Need-with-requires-3
-with-requires-3 c κs = search needs
+on-requires-2 : tie.Need-on-requires-2
+on-requires-2 c κs = search needs
 
 enum-known-call-9 : tie.Need-enum-known-call-9
 enum-known-call-9 c = search needs
@@ -89,8 +86,8 @@ enum-known-call-9 c = search needs
 unmap-requires : tie.Need-unmap-requires
 unmap-requires c κs = search needs
 
-with-requires-4 : tie.Need-with-requires-4
-with-requires-4 c κs = search needs
+on-requires-3 : tie.Need-on-requires-3
+on-requires-3 c κs = search needs
 
 enum-known-call-10 : tie.Need-enum-known-call-10
 enum-known-call-10 c = search needs
@@ -98,8 +95,8 @@ enum-known-call-10 c = search needs
 zero-requires : tie.Need-zero-requires
 zero-requires c κs = search needs
 
-with-requires-5 : tie.Need-with-requires-5
-with-requires-5 c κs = search needs
+on-requires-4 : tie.Need-on-requires-4
+on-requires-4 c κs = search needs
 
 enum-known-call-11 : tie.Need-enum-known-call-11
 enum-known-call-11 c = search needs
@@ -107,8 +104,8 @@ enum-known-call-11 c = search needs
 load-requires : tie.Need-load-requires
 load-requires c κs = search needs
 
-with-requires-6 : tie.Need-with-requires-6
-with-requires-6 c κs = search needs
+on-requires-5 : tie.Need-on-requires-5
+on-requires-5 c κs = search needs
 
 enum-known-call-12 : tie.Need-enum-known-call-12
 enum-known-call-12 c = search needs
@@ -116,8 +113,8 @@ enum-known-call-12 c = search needs
 store-requires : tie.Need-store-requires
 store-requires c κs = search needs
 
-with-requires-7 : tie.Need-with-requires-7
-with-requires-7 c κs = search needs
+on-requires-6 : tie.Need-on-requires-6
+on-requires-6 c κs = search needs
 
 enum-known-call-13 : tie.Need-enum-known-call-13
 enum-known-call-13 c = search needs
@@ -125,8 +122,8 @@ enum-known-call-13 c = search needs
 narrow-requires : tie.Need-narrow-requires
 narrow-requires c κs = search needs
 
-with-requires-8 : tie.Need-with-requires-8
-with-requires-8 c κs = search needs
+on-requires-7 : tie.Need-on-requires-7
+on-requires-7 c κs = search needs
 
 enum-known-call-14 : tie.Need-enum-known-call-14
 enum-known-call-14 c = search needs
@@ -134,8 +131,8 @@ enum-known-call-14 c = search needs
 number-requires : tie.Need-number-requires
 number-requires c κs = search needs
 
-with-requires-9 : tie.Need-with-requires-9
-with-requires-9 c κs = search needs
+on-requires-8 : tie.Need-on-requires-8
+on-requires-8 c κs = search needs
 
 enum-known-call-15 : tie.Need-enum-known-call-15
 enum-known-call-15 c = search needs
@@ -143,8 +140,8 @@ enum-known-call-15 c = search needs
 grant-requires : tie.Need-grant-requires
 grant-requires c κs = search needs
 
-with-requires-10 : tie.Need-with-requires-10
-with-requires-10 c κs = search needs
+on-requires-9 : tie.Need-on-requires-9
+on-requires-9 c κs = search needs
 
 enum-known-call-16 : tie.Need-enum-known-call-16
 enum-known-call-16 c = search needs
@@ -152,17 +149,14 @@ enum-known-call-16 c = search needs
 receive-requires : tie.Need-receive-requires
 receive-requires c κs = search needs
 
-with-requires-11 : tie.Need-with-requires-11
-with-requires-11 c κs = search needs
+on-requires-10 : tie.Need-on-requires-10
+on-requires-10 c κs = search needs
 
 enum-known-call-17 : tie.Need-enum-known-call-17
 enum-known-call-17 c = search needs
 
 take-requires-2 : tie.Need-take-requires-2
 take-requires-2 c κs = search needs
-
-with-requires-12 : tie.Need-with-requires-12
-with-requires-12 c κs = search needs
 
 same-length : tie.Need-same-length
 same-length c = search needs
@@ -176,9 +170,9 @@ same-length-3 c = search needs
 returns : tie.Need-returns
 unfolding ruledOn
 returns c =
-    let a = c .before .before .before .before .before .before .before .before .before .before .before .before .before .before .before .before .before .before .before .before .before .before .before .args in
+    let a = c .before .before .before .before .before .before .before .before .before .before .before .before .before .before .before .before .before .before .before .before .before .before .args in
     let m = arrays (a .nums) (a .words .now) (a .marks .now) (a .mail .now) (a .flags .now) (a .rows .now) (a .pages .now) (a .frames .now) in
-    rw (c .with .ensures, c .before .before .before .before .before .before .before .before .before .before .before .before .call .given .1) (take-plain (stateOf m) _ _ _ (a .cells .now) (a .tags .now) _ (c .before .before .before .before .before .before .before .take .ensures m refl (c .before .before .before .before .before .before .before .before .before .before .before .before .before .before .before .before .before .before .before .before .before .before .before .pre .0) (a .cells .now) (a .tags .now)))
+    rw (c .before .before .before .before .before .before .before .before .before .before .before .call .given .1) (take-plain (stateOf m) _ _ _ (a .cells .now) (a .tags .now) _ (c .before .before .before .before .before .before .take .ensures m (c .before .before .before .before .before .before .before .before .before .before .before .before .before .before .before .before .before .before .before .before .before .before .pre .0) (a .cells .now) (a .tags .now)))
 
 same-length-4 : tie.Need-same-length-4
 same-length-4 c = search needs
@@ -208,7 +202,7 @@ unfolding ruledOn
 returns-4 c =
     let a = c .before .before .before .before .before .before .before .before .before .before .before .before .before .before .before .before .before .args in
     let m = arrays (a .nums) (a .words .now) (a .marks .now) (a .mail .now) (a .flags .now) (a .rows .now) (a .pages .now) (a .frames .now) in
-    rw (c .with2 .ensures, c .before .before .before .before .before .before .call4 .given .1) (c .before .before .before .give .ensures m refl (c .before .before .before .before .before .before .before .before .before .before .before .before .before .before .before .before .before .pre .0) (a .cells .now) (a .tags .now))
+    rw (c .on .ensures, c .before .before .before .before .before .before .call4 .given .1) (c .before .before .before .give .ensures m refl (c .before .before .before .before .before .before .before .before .before .before .before .before .before .before .before .before .before .pre .0) (a .cells .now) (a .tags .now))
 
 same-length-7 : tie.Need-same-length-7
 same-length-7 c = search needs
@@ -275,7 +269,7 @@ unfolding ruledOn
 returns-8 c =
     let a = c .before .before .before .before .before .before .before .before .before .before .before .before .before .before .before .before .before .before .before .before .args in
     let m = arrays (a .nums) (a .words .now) (a .marks .now) (a .mail .now) (a .flags .now) (a .rows .now) (a .pages .now) (a .frames .now) in
-    rw (c .with3 .ensures, c .before .before .before .before .before .before .before .before .before .call8 .given .1) (c .before .before .before .before .before .map .ensures m refl refl (c .before .before .before .before .before .before .before .before .before .before .before .before .before .before .before .before .before .before .before .before .pre .0) (a .cells .now) (a .tags .now))
+    rw (c .on2 .ensures, c .before .before .before .before .before .before .before .before .before .call8 .given .1) (c .before .before .before .before .before .map .ensures m refl refl (c .before .before .before .before .before .before .before .before .before .before .before .before .before .before .before .before .before .before .before .before .pre .0) (a .cells .now) (a .tags .now))
 
 same-length-20 : tie.Need-same-length-20
 same-length-20 c = search needs
@@ -288,7 +282,7 @@ unfolding ruledOn
 returns-9 c =
     let a = c .before .before .before .before .before .before .before .before .before .before .before .before .before .before .before .before .before .before .before .before .args in
     let m = arrays (a .nums) (a .words .now) (a .marks .now) (a .mail .now) (a .flags .now) (a .rows .now) (a .pages .now) (a .frames .now) in
-    rw (c .with4 .ensures, c .before .before .before .before .before .before .before .before .before .call9 .given .1) (c .before .before .before .before .before .unmap .ensures m refl refl (c .before .before .before .before .before .before .before .before .before .before .before .before .before .before .before .before .before .before .before .before .pre .0) (a .cells .now) (a .tags .now))
+    rw (c .on3 .ensures, c .before .before .before .before .before .before .before .before .before .call9 .given .1) (c .before .before .before .before .before .unmap .ensures m refl refl (c .before .before .before .before .before .before .before .before .before .before .before .before .before .before .before .before .before .before .before .before .pre .0) (a .cells .now) (a .tags .now))
 
 same-length-22 : tie.Need-same-length-22
 same-length-22 c = search needs
@@ -304,7 +298,7 @@ unfolding ruledOn
 returns-10 c =
     let a = c .before .before .before .before .before .before .before .before .before .before .before .before .before .before .before .before .before .before .before .before .before .before .before .args in
     let m = arrays (a .nums) (a .words .now) (a .marks .now) (a .mail .now) (a .flags .now) (a .rows .now) (a .pages .now) (a .frames .now) in
-    rw (c .with5 .ensures, c .before .before .before .before .before .before .before .before .before .before .before .before .call10 .given .1) (c .before .before .before .before .before .before .before .zero .ensures m refl (c .before .before .before .before .before .before .before .before .before .before .before .before .before .before .before .before .before .before .before .before .before .before .before .pre .1 .0) (c .before .before .before .before .before .before .before .before .before .before .before .before .before .before .before .before .before .before .before .before .before .before .before .pre .1 .1) (c .before .before .before .before .before .before .before .before .before .before .before .before .before .before .before .before .before .before .before .before .before .before .before .pre .0))
+    rw (c .on4 .ensures, c .before .before .before .before .before .before .before .before .before .before .before .before .call10 .given .1) (c .before .before .before .before .before .before .before .zero .ensures m refl (c .before .before .before .before .before .before .before .before .before .before .before .before .before .before .before .before .before .before .before .before .before .before .before .pre .1 .0) (c .before .before .before .before .before .before .before .before .before .before .before .before .before .before .before .before .before .before .before .before .before .before .before .pre .1 .1) (c .before .before .before .before .before .before .before .before .before .before .before .before .before .before .before .before .before .before .before .before .before .before .before .pre .0))
 
 same-length-25 : tie.Need-same-length-25
 same-length-25 c = search needs
@@ -326,7 +320,7 @@ unfolding ruledOn
 returns-11 c =
     let a = c .before .before .before .before .before .before .before .before .before .before .before .before .before .before .before .before .before .before .before .before .before .before .before .args in
     let m = arrays (a .nums) (a .words .now) (a .marks .now) (a .mail .now) (a .flags .now) (a .rows .now) (a .pages .now) (a .frames .now) in
-    rw (c .with6 .ensures, c .before .before .before .before .before .before .before .before .before .before .before .before .call11 .given .1) (c .before .before .before .before .before .load .ensures m refl refl (c .before .before .before .before .before .before .before .before .before .before .before .before .before .before .before .before .before .before .before .before .before .before .before .pre .0))
+    rw (c .on5 .ensures, c .before .before .before .before .before .before .before .before .before .before .before .before .call11 .given .1) (c .before .before .before .before .before .load .ensures m refl refl (c .before .before .before .before .before .before .before .before .before .before .before .before .before .before .before .before .before .before .before .before .before .before .before .pre .0))
 
 same-length-30 : tie.Need-same-length-30
 same-length-30 c = search needs
@@ -348,7 +342,7 @@ unfolding ruledOn
 returns-12 c =
     let a = c .before .before .before .before .before .before .before .before .before .before .before .before .before .before .before .before .before .before .before .before .before .before .before .args in
     let m = arrays (a .nums) (a .words .now) (a .marks .now) (a .mail .now) (a .flags .now) (a .rows .now) (a .pages .now) (a .frames .now) in
-    rw (c .with7 .ensures, c .before .before .before .before .before .before .before .before .before .before .before .before .call12 .given .1) (c .before .before .before .before .before .store .ensures m refl refl refl refl (c .before .before .before .before .before .before .before .before .before .before .before .before .before .before .before .before .before .before .before .before .before .before .before .pre .0))
+    rw (c .on6 .ensures, c .before .before .before .before .before .before .before .before .before .before .before .before .call12 .given .1) (c .before .before .before .before .before .store .ensures m refl refl refl refl (c .before .before .before .before .before .before .before .before .before .before .before .before .before .before .before .before .before .before .before .before .before .before .before .pre .0))
 
 same-length-35 : tie.Need-same-length-35
 same-length-35 c = search needs
@@ -361,7 +355,7 @@ unfolding ruledOn
 returns-13 c =
     let a = c .before .before .before .before .before .before .before .before .before .before .before .before .before .before .before .before .before .before .before .before .args in
     let m = arrays (a .nums) (a .words .now) (a .marks .now) (a .mail .now) (a .flags .now) (a .rows .now) (a .pages .now) (a .frames .now) in
-    rw (c .with8 .ensures, c .before .before .before .before .before .before .before .before .before .call13 .given .1) (c .before .before .before .before .before .narrow .ensures m (c .before .before .before .before .before .before .before .before .before .before .before .before .before .before .before .before .before .before .before .before .pre .0) (a .cells .now) (a .tags .now))
+    rw (c .on7 .ensures, c .before .before .before .before .before .before .before .before .before .call13 .given .1) (c .before .before .before .before .before .narrow .ensures m (c .before .before .before .before .before .before .before .before .before .before .before .before .before .before .before .before .before .before .before .before .pre .0) (a .cells .now) (a .tags .now))
 
 same-length-37 : tie.Need-same-length-37
 same-length-37 c = search needs
@@ -374,7 +368,7 @@ unfolding ruledOn
 returns-14 c =
     let a = c .before .before .before .before .before .before .before .before .before .before .before .before .before .before .before .before .before .before .before .before .args in
     let m = arrays (a .nums) (a .words .now) (a .marks .now) (a .mail .now) (a .flags .now) (a .rows .now) (a .pages .now) (a .frames .now) in
-    rw (c .with9 .ensures, c .before .before .before .before .before .before .before .before .before .call14 .given .1) (c .before .before .before .before .before .number .ensures m (c .before .before .before .before .before .before .before .before .before .before .before .before .before .before .before .before .before .before .before .before .pre .0) (a .cells .now) (a .tags .now))
+    rw (c .on8 .ensures, c .before .before .before .before .before .before .before .before .before .call14 .given .1) (c .before .before .before .before .before .number .ensures m (c .before .before .before .before .before .before .before .before .before .before .before .before .before .before .before .before .before .before .before .before .pre .0) (a .cells .now) (a .tags .now))
 
 same-length-39 : tie.Need-same-length-39
 same-length-39 c = search needs
@@ -393,7 +387,7 @@ unfolding ruledOn
 returns-15 c =
     let a = c .before .before .before .before .before .before .before .before .before .before .before .before .before .before .before .before .before .before .before .before .before .before .args in
     let m = arrays (a .nums) (a .words .now) (a .marks .now) (a .mail .now) (a .flags .now) (a .rows .now) (a .pages .now) (a .frames .now) in
-    rw (c .with10 .ensures, c .before .before .before .before .before .before .before .before .before .before .before .call15 .given .1) (c .before .before .before .before .before .grant .ensures m (c .before .before .before .before .before .before .before .before .before .before .before .before .before .before .before .before .before .before .before .before .before .before .pre .0) (a .cells .now) (a .tags .now))
+    rw (c .on9 .ensures, c .before .before .before .before .before .before .before .before .before .before .before .call15 .given .1) (c .before .before .before .before .before .grant .ensures m (c .before .before .before .before .before .before .before .before .before .before .before .before .before .before .before .before .before .before .before .before .before .before .pre .0) (a .cells .now) (a .tags .now))
 
 same-length-43 : tie.Need-same-length-43
 same-length-43 c = search needs
@@ -412,7 +406,7 @@ unfolding ruledOn
 returns-16 c =
     let a = c .before .before .before .before .before .before .before .before .before .before .before .before .before .before .before .before .before .before .before .before .before .before .before .before .before .before .args in
     let m = arrays (a .nums) (a .words .now) (a .marks .now) (a .mail .now) (a .flags .now) (a .rows .now) (a .pages .now) (a .frames .now) in
-    rw (c .with11 .ensures, c .before .before .before .before .before .before .before .before .before .before .before .before .before .before .before .call16 .given .1) (c .before .before .before .before .before .before .before .before .before .receive .ensures m (c .before .before .before .before .before .before .before .before .before .before .before .before .before .before .before .before .before .before .before .before .before .before .before .before .before .before .pre .0) (a .cells .now) (a .tags .now))
+    rw (c .on10 .ensures, c .before .before .before .before .before .before .before .before .before .before .before .before .before .before .before .call16 .given .1) (c .before .before .before .before .before .before .before .before .before .receive .ensures m (c .before .before .before .before .before .before .before .before .before .before .before .before .before .before .before .before .before .before .before .before .before .before .before .before .before .before .pre .0) (a .cells .now) (a .tags .now))
 
 same-length-47 : tie.Need-same-length-47
 same-length-47 c = search needs
@@ -426,9 +420,9 @@ same-length-49 c = search needs
 returns-17 : tie.Need-returns-17
 unfolding ruledOn
 returns-17 c =
-    let a = c .before .before .before .before .before .before .before .before .before .before .before .before .before .before .before .before .before .before .before .before .before .before .before .args in
+    let a = c .before .before .before .before .before .before .before .before .before .before .before .before .before .before .before .before .before .before .before .before .before .before .args in
     let m = arrays (a .nums) (a .words .now) (a .marks .now) (a .mail .now) (a .flags .now) (a .rows .now) (a .pages .now) (a .frames .now) in
-    rw (c .with12 .ensures, c .before .before .before .before .before .before .before .before .before .before .before .before .call17 .given .1) (c .before .before .before .before .before .before .before .take2 .ensures m refl (c .before .before .before .before .before .before .before .before .before .before .before .before .before .before .before .before .before .before .before .before .before .before .before .pre .0) (a .cells .now) (a .tags .now))
+    rw (c .before .before .before .before .before .before .before .before .before .before .before .call17 .given .1) (c .before .before .before .before .before .before .take2 .ensures m (c .before .before .before .before .before .before .before .before .before .before .before .before .before .before .before .before .before .before .before .before .before .before .pre .0) (a .cells .now) (a .tags .now))
 
 pub step-spec : {M : Type 1} → statement M
 step-spec =
@@ -436,14 +430,13 @@ step-spec =
     (tie.spec
     enum-known-call
     take-requires
-    with-requires
     enum-known-call-2
     split-requires
     enum-known-call-3
     merge-requires
     enum-known-call-4
     give-requires
-    with-requires-2
+    on-requires
     enum-known-call-5
     revoke-requires
     enum-known-call-6
@@ -452,34 +445,33 @@ step-spec =
     collect-requires
     enum-known-call-8
     map-requires
-    with-requires-3
+    on-requires-2
     enum-known-call-9
     unmap-requires
-    with-requires-4
+    on-requires-3
     enum-known-call-10
     zero-requires
-    with-requires-5
+    on-requires-4
     enum-known-call-11
     load-requires
-    with-requires-6
+    on-requires-5
     enum-known-call-12
     store-requires
-    with-requires-7
+    on-requires-6
     enum-known-call-13
     narrow-requires
-    with-requires-8
+    on-requires-7
     enum-known-call-14
     number-requires
-    with-requires-9
+    on-requires-8
     enum-known-call-15
     grant-requires
-    with-requires-10
+    on-requires-9
     enum-known-call-16
     receive-requires
-    with-requires-11
+    on-requires-10
     enum-known-call-17
     take-requires-2
-    with-requires-12
     same-length
     same-length-2
     same-length-3

@@ -35,7 +35,7 @@ returns-2 c =
     let a = c .before .before .before .before .before .before .before .before .before .before .before .before .args in
     let early = c .before .before .before .before .before .before .before .before .before .manager-code in
     let call = c .before .before .before .before .before .map in
-    λ m ev eh f cells tags. rw (c .refused2 .ensures) (map-left (withPages m (a .pages .now) (a .frames .now)) f (a .party) (early .result) (early .ensures) cells tags (a .v) (a .f) ev eh (c .before .before .before .before .before .before .before .before .if1 .left) (call .result) (a .page) (a .frame) (call .ensures .0) _ _ (call .ensures .1 .0) (call .ensures .1 .1))
+    λ m ev eh f cells tags. rw (c .refused2 .ensures) (map-left (withPages m (a .pages .now) (a .frames .now)) f (a .party) (early .result) (early .ensures) cells tags (a .nums .v) (a .nums .f) ev eh (c .before .before .before .before .before .before .before .before .if1 .left) (call .result) (a .page) (a .frame) (call .ensures .0) _ _ (call .ensures .1 .0) (call .ensures .1 .1))
 
 pub map-spec : {M : Type 1} → statement M
 map-spec =

@@ -1,5 +1,6 @@
 -- Refused under 4, or else what the table's own call leaves, which is the rule's table written with the register put beside it.
-use Rattle.arrays.specs.Steps.{withRows, withWords}
+use mathlib.Core.Path.{refl}
+use Rattle.arrays.specs.Steps.{withTable, withWords}
 use Rattle.step.proofs.Tabling.{take-unknown, take-down, take-done}
 use borrow.Author.Needs.{needs}
 use Rattle.step.proofs.table_calls.take.Statement.{statement}
@@ -19,7 +20,7 @@ refused-requires c κs = search needs
 returns : tie.Need-returns
 returns c =
     let a = c .before .before .before .before .before .args in
-    λ m ec f cells tags. rw (c .refused .ensures) (take-unknown (withRows (withWords m (a .words .now) (a .marks .now)) (a .rows .now)) f (a .count) ec (a .party) (a .base) (a .reg) (a .mask) cells tags (c .before .if1 .taken))
+    λ m f cells tags. rw (c .refused .ensures) (take-unknown (withTable (withWords m (a .words .now) (a .marks .now)) (a .nums) (a .rows .now)) f (a .nums .count) refl (a .party) (a .base) (a .reg) (a .mask) cells tags (c .before .if1 .taken))
 
 take-requires : tie.Need-take-requires
 take-requires c κs = search needs
@@ -33,7 +34,7 @@ same-length c = search needs
 returns-2 : tie.Need-returns-2
 returns-2 c =
     let a = c .before .before .before .before .before .before .before .before .before .before .before .args in
-    λ m ec f cells tags. rw (c .refused2 .ensures) (take-down (withRows (withWords m (a .words .now) (a .marks .now)) (a .rows .now)) f (a .count) ec (a .party) (a .base) (a .reg) (a .mask) cells tags (c .before .before .before .before .before .before .before .if1 .left) _ _ (c .before .before .before .before .before .take .ensures .0) (c .before .if2 .taken))
+    λ m f cells tags. rw (c .refused2 .ensures) (take-down (withTable (withWords m (a .words .now) (a .marks .now)) (a .nums) (a .rows .now)) f (a .nums .count) refl (a .party) (a .base) (a .reg) (a .mask) cells tags (c .before .before .before .before .before .before .before .if1 .left) _ _ (c .before .before .before .before .before .take .ensures .0) (c .before .if2 .taken))
 
 mul-at : tie.Need-mul-at
 mul-at c = search needs
@@ -50,8 +51,8 @@ capability-requires c κs = search needs
 put-word-requires : tie.Need-put-word-requires
 put-word-requires c κs = search needs
 
-cast-t23 : tie.Need-cast-t23
-cast-t23 c = search needs
+cast-number : tie.Need-cast-number
+cast-number c = search needs
 
 granted-requires : tie.Need-granted-requires
 granted-requires c κs = search needs
@@ -69,8 +70,8 @@ returns-3 : tie.Need-returns-3
 returns-3 c =
     let a = c .before .before .before .before .before .before .before .before .before .before .before .before .before .before .before .before .before .before .before .before .before .args in
     let put = c .before .before .before .before .before .before .put-word .ensures in
-    λ m ec f cells tags. rw (c .granted .ensures, put .0, put .1, c .before .before .before .before .before .before .before .before .before .capability .ensures, c .before .before .before .before .before .before .before .before .before .before .permitted .ensures)
-    (take-done (withRows (withWords m (a .words .now) (a .marks .now)) (a .rows .now)) f (a .count) ec (a .party) (a .base) (a .reg) (a .mask) cells tags (c .before .before .before .before .before .before .before .before .before .before .before .before .before .before .before .before .before .if1 .left) _ _ (c .before .before .before .before .before .before .before .before .before .before .before .before .before .before .before .take .ensures .0) _ (c .before .before .before .before .before .before .before .before .before .before .before .before .before .before .before .take .ensures .1) (c .before .before .before .before .before .before .before .before .before .before .before .if2 .left))
+    λ m f cells tags. rw (c .granted .ensures, put .0, put .1, c .before .before .before .before .before .before .before .before .before .capability .ensures, c .before .before .before .before .before .before .before .before .before .before .permitted .ensures)
+    (take-done (withTable (withWords m (a .words .now) (a .marks .now)) (a .nums) (a .rows .now)) f (a .nums .count) refl (a .party) (a .base) (a .reg) (a .mask) cells tags (c .before .before .before .before .before .before .before .before .before .before .before .before .before .before .before .before .before .if1 .left) _ _ (c .before .before .before .before .before .before .before .before .before .before .before .before .before .before .before .take .ensures .0) _ (c .before .before .before .before .before .before .before .before .before .before .before .before .before .before .before .take .ensures .1) (c .before .before .before .before .before .before .before .before .before .before .before .if2 .left))
 
 pub take-spec : {M : Type 1} → statement M
 take-spec =
@@ -87,7 +88,7 @@ take-spec =
     permitted-requires
     capability-requires
     put-word-requires
-    cast-t23
+    cast-number
     granted-requires
     same-length-2
     same-length-3
