@@ -1,6 +1,7 @@
--- Lent once. After every history, when a take, of either kind, is granted no live capability has a cell in the range that it lends; and between two
--- granted takes whose ranges share a cell there is a granted collect of a revocation that covers all of the earlier range. Right after
--- a granted take its register holds the capability of the reservation's range, the only live one with a cell in it. Assumes nothing.
+-- Lent once. After every history, when a take, of either kind, is granted no live capability has a cell in the range that it lends; and
+-- between two granted takes whose ranges share a cell there is a granted collect of a revocation that covers all of the earlier range.
+-- Right after a granted take its register holds the capability of the reservation's range, the only live one with a cell in it. Assumes
+-- nothing.
 use Prim.Native.Nat.{ℕ, _+_, _*_, _≤_}
 use mathlib.Core.Bool.{true}
 use mathlib.Core.List.{List, _∷_, _++_}

@@ -8,6 +8,7 @@ use mathlib.Core.Bool.{Bool, false, not, _&&_}
 use mathlib.Core.List.{List, [], _∷_, _++_, map}
 use mathlib.Core.Path.{_≡_}
 use lib.ListN.{getD, set, replicate}
+use lib.Bits.{bitAnd}
 use lib.Dec.{leb, eqb}
 use Rattle.capabilities.specs.declared.Range.{Range}
 use Rattle.capabilities.specs.Capability.{permitted}
@@ -138,9 +139,12 @@ inventsLength t party base =
 unfoldable pub pleadsFull : Table → ℕ → ℕ → ℕ → Tabled
 pleadsFull t party base len = pick (leb 63 (t .count)) (tabled 9 t t) (splitOf t party base len)
 
--- Document 02, 2026-01: 11 that gives all of mask, where the rule gives the permissions in 15 that are also in it.
+-- Document 02, 2026-01: 11 that gives all of mask, where the rule gives the permissions in 15 that are also in it; or never more than 01.
 abbrev pub givesAll : ℕ → ℕ
 givesAll mask = mask
+
+abbrev pub givesPlain : ℕ → ℕ
+givesPlain mask = bitAnd plainPermissions mask
 
 -- 01 that still gives 15, as document 01 had it.
 abbrev pub stillAll : ℕ
@@ -250,6 +254,7 @@ machines =
     ∷ entry (λ m. m) refusalWrites stepOf (from 2 lent) (Load 0 1 16 3)
     -- Plain permissions on take.
     ∷ entry maskBy givesAll permitted (from 2 []) (TakeMasked 0 0 0 0xFF)
+    ∷ entry maskBy givesPlain permitted (from 2 []) (TakeMasked 0 0 0 0x0F)
     ∷ entry plainBy stillAll plainPermissions (from 2 []) (Take 0 0 0) ∷ []
 
 -- All numbers of an outcome, so that outcomes with different numbers differ.
