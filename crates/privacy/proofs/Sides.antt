@@ -1,15 +1,14 @@
 -- What each granted call writes in the house's time is safe: the house's discretion, and what the others cannot reach. Assumes nothing.
-use Prim.Native.Nat.{ℕ, _+_, _*_, _/_, _%_, _<_, _≤_}
+use Prim.Native.Nat.{ℕ, _+_, _*_, _<_}
 use native.Mathlib.Omega.{arith}
 use mathlib.Core.Bool.{Bool, true, false, not, _&&_, _||_, true≢false, false≢true}
 use mathlib.Core.Path.{_≡_, refl, sym, ap, subst, _∙_}
 use borrow.Author.Tests.{eqb-true, eqb-false, eq-eqb, ne-eqb, lt-ltb}
 use lib.Dec.{eqb}
-use lib.Bits.{bitAnd, and-le-l}
 use Rattle.capabilities.specs.declared.Range.{Range}
-use Rattle.capabilities.specs.Capability.{baseOf, lengthOf, permissionsOf, narrowed}
+use Rattle.capabilities.specs.Capability.{baseOf, lengthOf, narrowed}
 use Rattle.capabilities.specs.Range.{inside}
-use Rattle.capabilities.proofs.Capabilities.{made-base, made-length}
+use Rattle.capabilities.proofs.Capabilities.{narrowed-base, narrowed-length}
 use Rattle.capabilities.proofs.Choice.{and-right}
 use Rattle.pages.specs.declared.Place.the-variants.{At}
 use Rattle.pages.specs.Mapping.{lookupOf}
@@ -28,6 +27,7 @@ use Rattle.machine.proofs.Found.{Addressing, Narrowing}
 use Rattle.machine.proofs.PagesKept.{zero-clear}
 use Rattle.histories.specs.Runs.{Machine}
 use Rattle.histories.specs.Live.{Within}
+use Rattle.histories.proofs.Findings.{less-of}
 use Rattle.histories.proofs.View.{seen, seen-once}
 use Rattle.privacy.specs.Rule.{housed, granted, lasting, into, capabilityInto, aimed, strikes, private, struck, handsOut, betrays, indiscreet}
 use Rattle.privacy.proofs.House.{into-by, Meets, meets, met, Apart, Tame, Good, apart-good, empty-apart, keep-good, Housed, RegisterSafe, MailboxSafe, MemorySafe}
@@ -54,18 +54,6 @@ test-apart r w e t = go (into r (w .cell)) refl
     go : (b : Bool) → into r (w .cell) ≡ b → into r (w .cell) ≡ false
     go true x = absurd (true≢false (sym (both (w .tag) (into r (w .cell)) t x) ∙ e))
     go false x = x
-
-mod-small : (n : ℕ) → n ≤ 65535 → n % 65536 ≡ n
-mod-small n h = omega arith
-
-mod-less : (n : ℕ) → n % 65536 < 65536
-mod-less n = omega arith
-
-short : (len n off : ℕ) → off + len ≤ n → n < 65536 → len < 65536
-short len n off h k = omega arith
-
-few : (c mask : ℕ) → bitAnd (permissionsOf c) mask < 256
-few c mask = let b : permissionsOf c < 256 = omega arith in omega (arith, and-le-l (permissionsOf c) mask)
 
 module _ (house : ℕ) (r : Range) (m : Machine) (h : Housed house r m) where
   abbrev s : State
@@ -101,13 +89,14 @@ module _ (house : ℕ) (r : Range) (m : Machine) (h : Housed house r m) where
   narrow-good : (b : Bool) (w : Slot) (off len mask : ℕ) → Narrowing w off len → Good r b w → Good r b (slot (narrowed (w .cell) off len mask) true)
   narrow-good b w off len mask k g = go b g
     where
+      short : len < 65536
+      short = omega (arith, k .ends, less-of (w .cell))
+
       at : baseOf (narrowed (w .cell) off len mask) ≡ baseOf (w .cell) + off
-      at =
-          let e : (baseOf (w .cell) + off) % 65536 ≡ baseOf (w .cell) + off = mod-small (baseOf (w .cell) + off) (k .starts) in
-          made-base ((baseOf (w .cell) + off) % 65536) len (bitAnd (permissionsOf (w .cell)) mask) (mod-less (baseOf (w .cell) + off)) (short len (lengthOf (w .cell)) off (k .ends) (mod-less (w .cell / 65536))) (few (w .cell) mask) ∙ e
+      at = narrowed-base (w .cell) off len mask short (omega (arith, k .starts))
 
       long : lengthOf (narrowed (w .cell) off len mask) ≡ len
-      long = made-length ((baseOf (w .cell) + off) % 65536) len (bitAnd (permissionsOf (w .cell)) mask) (mod-less (baseOf (w .cell) + off)) (short len (lengthOf (w .cell)) off (k .ends) (mod-less (w .cell / 65536))) (few (w .cell) mask)
+      long = narrowed-length (w .cell) off len mask short
 
       source : into r (narrowed (w .cell) off len mask) ≡ true → into r (w .cell) ≡ true
       source e = let j : Meets r (narrowed (w .cell) off len mask) = meets r (narrowed (w .cell) off len mask) e in met r (w .cell) (record { some = omega (arith, k .some, k .ends); wide = j .wide; before = omega (arith, j .before, at); past = omega (arith, j .past, at, long, k .ends) })

@@ -5,7 +5,7 @@ use mathlib.Core.Bool.{Bool, true, false, true≢false}
 use mathlib.Core.List.{[], _∷_}
 use mathlib.Core.Logic.{⊎-elim}
 use mathlib.Core.Path.{_≡_, refl, sym, ap, subst, _∙_}
-use borrow.Author.Tests.{eqb-true, eq-eqb, le-leb, leb-true}
+use borrow.Author.Tests.{eqb-true, le-leb, leb-true}
 use lib.Dec.{eqb, leb}
 use lib.ListN.{length}
 use Rattle.capabilities.specs.declared.Range.{Range}
@@ -13,7 +13,7 @@ use Rattle.capabilities.specs.Capability.{baseOf, lengthOf, capability}
 use Rattle.capabilities.specs.Range.{inside}
 use Rattle.capabilities.specs.Refusals.{first}
 use Rattle.capabilities.proofs.Capabilities.{made-base, made-length}
-use Rattle.capabilities.proofs.Choice.{pick-yes, and-left, and-right}
+use Rattle.capabilities.proofs.Choice.{and-left, and-right}
 use Rattle.pages.specs.declared.Place.the-variants.{At, Nowhere}
 use Rattle.pages.specs.Mapping.{lookupOf}
 use Rattle.pages.proofs.Formed.{Sound, sound}
@@ -26,7 +26,7 @@ use Rattle.table.proofs.After.{Replaced, take-after}
 use Rattle.table.proofs.Cells.{inside-bounds, inside-made, no-shared-cell}
 use Rattle.table.proofs.Kept.{row-live}
 use Rattle.table.proofs.Sound.{sound as tableFacts}
-use Rattle.table.proofs.Tiled.{tiled-fits, tiled-row, row-some}
+use Rattle.table.proofs.Tiled.{tiled-row, row-some}
 use Rattle.table.proofs.Truth.{both}
 use Rattle.reservations.specs.Core.{Core}
 use Rattle.reservations.specs.Revocation.{revoked, collectReasons, collectOf, coreSound}
@@ -37,7 +37,8 @@ use Rattle.machine.specs.Roles.{Asked}
 use Rattle.machine.specs.Effects.{Effect}
 use Rattle.machine.proofs.Deeds.{Deed, collected-as}
 use Rattle.histories.specs.Inv.{rowAt}
-use Rattle.histories.proofs.Findings.{Ends, ends}
+use Rattle.histories.proofs.Carrying.{row-fits}
+use Rattle.histories.proofs.Findings.{Ends, ends, take-length}
 use Rattle.histories.proofs.Between.{deed-carried}
 use Rattle.histories.proofs.Layer.{released-shows, none-shown}
 use Rattle.histories.proofs.Table.{Around, Carried, collect-kept}
@@ -67,9 +68,6 @@ module _ (k : Core) (ok : coreSound k ≡ true) where
   abbrev size : ℕ
   size = 16 * k .pages .v
 
-  pub row-fits : (i : ℕ) → i < length (live t) → rowAt t i .base + rowAt t i .length < 65536
-  row-fits i h = omega (arith, core-facts k ok .fits, tiled-fits size (live t) 0 i (tableFacts size t (core-facts k ok .rows) .tiled) h)
-
   pub row-long : (i : ℕ) → i < length (live t) → 0 < rowAt t i .length
   row-long i h = row-some (rowAt t i) (tiled-row size (live t) 0 i (tableFacts size t (core-facts k ok .rows) .tiled) h)
 
@@ -87,10 +85,6 @@ module _ (k : Core) (ok : coreSound k ≡ true) where
     pub named : rowOf t (findOf t p base) ≡ rowAt t row
     pub replaced : Replaced t (takeOf t p base .table) p base row 1 (takenRow (rowAt t row) ∷ [])
 
-  take-length : (p base : ℕ) → takeOf t p base .code ≡ 0 → takeOf t p base .length ≡ rowOf t (findOf t p base) .length
-  unfolding takeOf
-  take-length p base z = pick-yes (eqb (first (takeReasons t p base)) 0) (rowOf t (findOf t p base) .length) 0 (eq-eqb (first (takeReasons t p base)) 0 z)
-
   pub takes : (p base : ℕ) → first (takeReasons t p base) ≡ 0 → Takes p base
   takes p base z =
       let code : takeOf t p base .code ≡ 0 = unfold takeOf in z in
@@ -102,17 +96,17 @@ module _ (k : Core) (ok : coreSound k ≡ true) where
         used = h;
         isopen = o;
         begins = eqb-true (rowAt t i .base) base (and-left (eqb (rowAt t i .base) base) (held (rowAt t i) p) (r .named));
-        long = take-length p base code ∙ ap (λ x. x .length) row;
+        long = take-length t p base code ∙ ap (λ x. x .length) row;
         named = row;
         replaced = r;
       }
 
   module _ (p base : ℕ) (w : Takes p base) where
     low : base < 65536
-    low = omega (arith, row-fits (w .row) (w .used), w .begins)
+    low = omega (arith, row-fits k ok (w .row) (w .used), w .begins)
 
     short : takeOf t p base .length < 65536
-    short = omega (arith, row-fits (w .row) (w .used), w .long)
+    short = omega (arith, row-fits k ok (w .row) (w .used), w .long)
 
     abbrev lentBy : ℕ → ℕ
     lentBy permissions = capability base (takeOf t p base .length) permissions
