@@ -4,7 +4,7 @@
  * The functions of the library (section "The library") are total: they answer for all numbers,
  * bytes and lengths, and a refused call leaves every byte as it was. The inline functions after
  * them put pointers and lengths in their places; they are tested, not proved. "The document" is
- * document 01 with request 2026-01, whose numbers the commands and refusals bear.
+ * document 01 with requests 2026-01 and 2026-04, whose numbers the commands and refusals bear.
  *
  * What a caller owes, here as with all C: pointers are valid and aligned for the lengths that go
  * with them, and what a function writes overlaps nothing else that it is handed. Nothing is kept
@@ -27,7 +27,7 @@ extern "C" {
 
 /* ---- Sizes ---- */
 
-#define CETOMUHI_VERSION 2         /* of this boundary; cetomuhi_version() is the library's */
+#define CETOMUHI_VERSION 3         /* of this boundary; cetomuhi_version() is the library's */
 #define CETOMUHI_PAGES 256         /* V is 1 to 256 */
 #define CETOMUHI_FRAMES 128        /* F is 1 to 128 */
 #define CETOMUHI_PAGE_CELLS 16     /* cells of a page and of a frame */
@@ -133,7 +133,8 @@ typedef struct cetomuhi_state {
     uint64_t words[CETOMUHI_WORDS];     /* register d of party p at 8 p + d */
     uint64_t mail[CETOMUHI_PARTIES];    /* the mailbox of party p at p */
     uint64_t rows[CETOMUHI_ROWS];       /* reservations in rising base: base in bits 0 to 15, length
-                                           16 to 31, state 32 to 39, holder 40 to 47, the rest 0 */
+                                           16 to 31, state 32 to 39, holder 40 to 47, taker 48 to
+                                           55, the rest 0; an unused one is 0 */
     uint16_t pages[CETOMUHI_PAGES];     /* 0 Unmapped, 1 Freed, 2 + n Mapped to frame n */
     uint16_t numbers[CETOMUHI_NUMBERS]; /* V, F, the count of rows, the sweep place, base and length
                                            of the range being revoked (0 and 0 if none is) */
@@ -433,6 +434,11 @@ static inline size_t cetomuhi_machine_commands(cetomuhi_machine *machine, const 
  * Each answers for every state and number; past the end of an array all is 0. */
 
 enum cetomuhi_reservation_state { CETOMUHI_OPEN = 0, CETOMUHI_TAKEN = 1, CETOMUHI_REVOKING = 2 };
+/* A taker that is no party. */
+enum cetomuhi_taker {
+    CETOMUHI_TAKER_SEVERAL = 8, /* a merge joined Taken ones of different takers */
+    CETOMUHI_TAKER_NONE = 9     /* the reservation is Open */
+};
 enum cetomuhi_page_state {
     CETOMUHI_PAGE_UNMAPPED = 0,
     CETOMUHI_PAGE_FREED = 1,
@@ -456,6 +462,8 @@ typedef struct cetomuhi_reservation {
     uint16_t length;
     uint8_t state; /* an enum cetomuhi_reservation_state */
     uint8_t holder;
+    uint8_t taker; /* the party that took it, or an enum cetomuhi_taker; of a Revoking one 0 says
+                      that party 0 took it, or that it was Open */
 } cetomuhi_reservation;
 
 typedef struct cetomuhi_page {
@@ -499,7 +507,7 @@ static inline cetomuhi_reservation cetomuhi_reservation_at(const cetomuhi_state 
     const uint64_t code = row < CETOMUHI_ROWS ? state->rows[row] : 0;
     const cetomuhi_reservation reservation = {
         (uint16_t)(code & 0xFFFF), (uint16_t)(code >> 16 & 0xFFFF), (uint8_t)(code >> 32 & 0xFF),
-        (uint8_t)(code >> 40 & 0xFF)};
+        (uint8_t)(code >> 40 & 0xFF), (uint8_t)(code >> 48 & 0xFF)};
     return reservation;
 }
 

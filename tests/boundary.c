@@ -167,16 +167,23 @@ static void test_start(void) {
         CHECK(cetomuhi_frame_count(&state) == starts[i].f);
         CHECK(cetomuhi_row_count(&state) == 1);
         CHECK(all.base == 0 && all.length == CETOMUHI_PAGE_CELLS * starts[i].v);
-        CHECK(all.state == CETOMUHI_OPEN && all.holder == 0);
+        CHECK(all.state == CETOMUHI_OPEN && all.holder == 0 && all.taker == CETOMUHI_TAKER_NONE);
+        CHECK(state.rows[0] == ((UINT64_C(9) << 48) + 1048576 * starts[i].v));
+        CHECK(state.rows[1] == 0 && state.rows[63] == 0);
     }
 }
 
 static void test_sizes(void) {
     CHECK(cetomuhi_matches());
-    CHECK(cetomuhi_version() == 2);
+    CHECK(cetomuhi_version() == 3);
     for (uint64_t which = 10; which < 300; which++)
         CHECK(cetomuhi_size(which) == 0);
     CHECK(cetomuhi_size(UINT64_MAX) == 0);
+}
+
+/* The number of a row of 64 cells from 0 on. */
+static uint64_t whole_row(uint64_t state, uint64_t holder, uint64_t taker) {
+    return 64 << 16 | state << 32 | holder << 40 | taker << 48;
 }
 
 /* One number changed in a fresh state, so that it is no longer well formed. */
@@ -197,9 +204,14 @@ static void test_well_formed(void) {
     SPOILT(marks[63], 2)
     SPOILT(mail[7], 1)
     SPOILT(flags[0], 255)
-    SPOILT(rows[0], 65 << 16)
-    SPOILT(rows[0], UINT64_C(8) << 40 | 64 << 16)
-    SPOILT(rows[0], UINT64_C(1) << 48 | 64 << 16)
+    SPOILT(rows[0], whole_row(CETOMUHI_OPEN, 0, CETOMUHI_TAKER_NONE) + (1 << 16))
+    SPOILT(rows[0], whole_row(CETOMUHI_OPEN, 8, CETOMUHI_TAKER_NONE))
+    SPOILT(rows[0], whole_row(CETOMUHI_OPEN, 0, 0))
+    SPOILT(rows[0], whole_row(CETOMUHI_TAKEN, 1, 1))
+    SPOILT(rows[0], whole_row(CETOMUHI_TAKEN, 0, CETOMUHI_TAKER_NONE))
+    SPOILT(rows[0], whole_row(3, 0, 0))
+    SPOILT(rows[0], whole_row(CETOMUHI_OPEN, 0, CETOMUHI_TAKER_NONE + 0x100))
+    SPOILT(rows[1], UINT64_C(9) << 48)
     SPOILT(rows[63], 1)
     SPOILT(pages[0], 2)
     SPOILT(pages[4], 1)
@@ -210,6 +222,39 @@ static void test_well_formed(void) {
     state.words[63] = UINT64_MAX;
     state.marks[0] = 1;
     CHECK(cetomuhi_state_well_formed(&state));
+}
+
+/* A machine with another taker in a row. If it is none that fits, a command is refused under 1 and
+ * every byte kept; if it is, the same command is refused for its party. */
+static void retake(const cetomuhi_machine *machine, size_t row, uint64_t taker, bool fits) {
+    static cetomuhi_machine changed;
+    static cetomuhi_machine before;
+    changed = *machine;
+    changed.state.rows[row] &= ~(UINT64_C(0xFF) << 48);
+    changed.state.rows[row] |= taker << 48;
+    before = changed;
+    CHECK(cetomuhi_reservation_at(&changed.state, row).taker == taker);
+    CHECK(cetomuhi_machine_well_formed(&changed) == fits);
+    const cetomuhi_answer answer = cetomuhi_machine_call(&changed, cetomuhi_collect(8));
+    CHECK(answer.code == (fits ? CETOMUHI_REFUSED_ABOVE_SEVEN : CETOMUHI_REFUSED_ILL_FORMED));
+    CHECK(memcmp(&changed, &before, sizeof before) == 0);
+}
+
+/* Every taker in an Open, a Taken, a Revoking and an unused row. */
+static void test_takers(void) {
+    static cetomuhi_machine m;
+    CHECK(cetomuhi_machine_start(&m, 4, FRAMES) == 0);
+    CHECK(cetomuhi_machine_call(&m, cetomuhi_split(0, 0, 16)).code == 0);
+    CHECK(cetomuhi_machine_call(&m, cetomuhi_split(0, 16, 16)).code == 0);
+    CHECK(cetomuhi_machine_call(&m, cetomuhi_take(0, 16, 0)).code == 0);
+    CHECK(cetomuhi_machine_call(&m, cetomuhi_revoke(0, 32)).code == 0);
+    for (uint64_t taker = 0; taker < 256; taker++) {
+        retake(&m, 0, taker, taker == CETOMUHI_TAKER_NONE);
+        retake(&m, 1, taker, taker <= CETOMUHI_TAKER_SEVERAL);
+        retake(&m, 2, taker, taker <= CETOMUHI_TAKER_SEVERAL);
+        retake(&m, 3, taker, taker == 0);
+        retake(&m, CETOMUHI_ROWS - 1, taker, taker == 0);
+    }
 }
 
 /* ---- Calls to bytes and back ---- */
@@ -320,6 +365,7 @@ int main(void) {
     test_sizes();
     test_start();
     test_well_formed();
+    test_takers();
     test_wrong_lengths();
     test_room();
     test_places();

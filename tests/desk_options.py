@@ -267,7 +267,10 @@ CAPABILITY = (
     r"|load capability(, store capability)?|store capability), tag 1"
 )
 SAID = {
-    "reservations": r"Open, held by party [0-7]|Taken|Revoking",
+    "reservations": (
+        r"Open, held by party [0-7]|Taken by (party [0-7]|several parties)"
+        r"|Revoking, taken by (party [1-7]|party 0 or by nobody|several parties)"
+    ),
     "revocation": r"sweep place \d+ of \d+",
     "pages": r"Unmapped|Freed|Mapped to frames? \d+( to \d+)?",
     "frames": r"Dirty|Free|Mapped",
@@ -293,8 +296,8 @@ def split_tables(output):
 # again; cell 0 is taken with mask 0F, narrowed to permissions 5 and to none, and granted; cell 1 is
 # taken, which gives permissions 3.
 SUMMED = """\
-    reservations  cell 0              Taken
-                  cell 1              Taken
+    reservations  cell 0              Taken by party 0
+                  cell 1              Taken by party 0
                   cells 2 to 4095     Open, held by party 0
     pages         0 to 3              Mapped to frames 4 to 7
                   4                   Mapped to frame 2
@@ -311,6 +314,38 @@ SUMMED = """\
                   party 0 register 7  base 0, length 1, load, store, load capability, store capability, tag 1
     mailboxes     party 7             base 0, length 1, load, load capability, tag 1
 """
+
+# By hand, from request 2026-04: commands after a start with V 6 and F 1, and a row that the table
+# then has.
+TAKERS = [
+    ("02 00 0000 0010", "16 to 95: Open, held by party 0"),
+    ("02 00 0010 0010", "32 to 95: Open, held by party 0"),
+    ("02 00 0020 0010", "48 to 95: Open, held by party 0"),
+    ("02 00 0030 0010", "64 to 95: Open, held by party 0"),
+    ("04 00 0000 03", "0 to 15: Open, held by party 3"),
+    ("01 03 0000 00", "0 to 15: Taken by party 3"),
+    ("04 00 0010 03", "16 to 31: Open, held by party 3"),
+    ("11 03 0010 01 00", "16 to 31: Taken by party 3"),
+    ("04 00 0020 05", "32 to 47: Open, held by party 5"),
+    ("11 05 0020 00 0F", "32 to 47: Taken by party 5"),
+    ("01 00 0030 00", "48 to 63: Taken by party 0"),
+    ("03 00 0000", "0 to 31: Taken by party 3"),
+    ("03 00 0000", "0 to 47: Taken by several parties"),
+    ("05 00 0000", "0 to 47: Revoking, taken by several parties"),
+    ("06 00 0010", "0 to 47: Revoking, taken by several parties"),
+    ("07 00", "0 to 47: Open, held by party 0"),
+    ("05 00 0030", "48 to 63: Revoking, taken by party 0 or by nobody"),
+    ("06 00 0010", "48 to 63: Revoking, taken by party 0 or by nobody"),
+    ("07 00", "48 to 63: Open, held by party 0"),
+    ("05 00 0040", "64 to 95: Revoking, taken by party 0 or by nobody"),
+    ("06 00 0010", "64 to 95: Revoking, taken by party 0 or by nobody"),
+    ("07 00", "64 to 95: Open, held by party 0"),
+    ("03 00 0000", "0 to 63: Open, held by party 0"),
+    ("03 00 0000", "0 to 95: Open, held by party 0"),
+    ("04 00 0000 07", "0 to 95: Open, held by party 7"),
+    ("01 07 0000 07", "0 to 95: Taken by party 7"),
+    ("05 00 0000", "0 to 95: Revoking, taken by party 7"),
+]
 
 
 class State(Case):
@@ -340,16 +375,17 @@ class State(Case):
             sorted(n for said in shown for n in spanned(SHOWN, said)),
             [n for thing in mapped for n in spanned(RANGE, thing)],
         )
-        revoked = [thing for thing, said in found["reservations"] if said == "Revoking"]
+        rows = found["reservations"]
+        revoked = [thing for thing, said in rows if said.startswith("Revoking")]
         self.assertEqual([thing for thing, _ in found.get("revocation", [])], revoked)
 
     # sessions/document.state was written by hand from document 01, before the tables were first
     # printed: its commands and lines are those of "One session in full", the take by command 11 with
     # mask 0F as request 2026-01 says, and what each command changes is the sentence for it under
-    # "Commands". The sums: V 2 is cells 0 to 31 and F 1 is 16 cells of memory; mask 0F gives
-    # permissions 15, which are all four; 64425558016 is 15 x 2^32 + 16 x 2^16, the number that is
-    # left of it when the collect clears its tag; the stores change lent memory alone, so that the
-    # state is as before.
+    # "Commands", with the taker that request 2026-04 adds. The sums: V 2 is cells 0 to 31 and F 1
+    # is 16 cells of memory; mask 0F gives permissions 15, which are all four; 64425558016 is
+    # 15 x 2^32 + 16 x 2^16, the number that is left of it when the collect clears its tag; the
+    # stores change lent memory alone, so that the state is as before.
     def test_document(self):
         document = ROOT / "sessions/document.hex"
         expected = document.with_suffix(".state").read_text()
@@ -395,6 +431,17 @@ class State(Case):
         path = self.session("0100 80\n" + "\n".join(commands))
         lines = "0 0 0\n" * 16 + "0 1 0\n" * 2 + "0 0 0\n" * 3
         self.prints(lines + "\n" + SUMMED, path, "--state=end")
+
+    def test_takers(self):
+        path = self.session("0006 01\n" + "\n".join(command for command, _ in TAKERS))
+        status, output, error = desk(path, "--state")
+        self.assertEqual((status, error), (0, ""))
+        lines, tables = split_tables(output)
+        self.assertEqual((len(lines), len(tables)), (1 + len(TAKERS), 1 + len(TAKERS)))
+        for (command, expected), table in zip(TAKERS, tables[1:]):
+            rows = [f"{thing}: {said}" for thing, said in self.tables(table)["reservations"]]
+            self.assertIn(f"cells {expected}", rows, command)
+            self.agrees(table, 6, 1)
 
 
 if __name__ == "__main__":

@@ -2,7 +2,8 @@
 """Shows that the checklist's sessions catch its faults, and those of command 11 its own.
 
 Puts one fault after another into a copy of the plain implementation in bench/ and runs sessions/
-over it. Each fault must make the sessions that are named with it print something else.
+over it. Each fault must make the sessions that are named with it print something else. No line
+shows a taker, so that none of these faults is about one: bench/tests/rules.rs looks at takers.
 """
 
 import pathlib

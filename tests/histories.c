@@ -1,6 +1,6 @@
 /* Tests of calls through the inline functions of cetomuhi.h: document 01's session, what the two
- * takes give, every refusal with every byte kept, random histories in which a run equals single
- * commands, showing a state.
+ * takes give, who took a reservation, every refusal with every byte kept, random histories in which
+ * a run equals single commands, showing a state.
  *
  *   histories [ROUNDS]    ROUNDS random histories, 200 if not given */
 #include "check.h"
@@ -102,6 +102,77 @@ static void test_takes(void) {
     }
     CHECK(taken(&m, cetomuhi_take(0, 0, 5)) == (CETOMUHI_MAY_LOAD | CETOMUHI_MAY_STORE));
     use(&m, CETOMUHI_MAY_LOAD | CETOMUHI_MAY_STORE);
+}
+
+/* ---- Who took a reservation ---- */
+
+/* The takers of all reservations in turn, a digit each. */
+static void takers(const cetomuhi_machine *m, const char *digits) {
+    CHECK(cetomuhi_row_count(&m->state) == strlen(digits));
+    for (size_t row = 0; digits[row]; row++)
+        CHECK(cetomuhi_reservation_at(&m->state, row).taker == digits[row] - '0');
+    CHECK(cetomuhi_reservation_at(&m->state, strlen(digits)).taker == 0);
+}
+
+/* Five Open reservations of a page each; parties 3, 3, 5 and 0 take the first four. */
+static void take_four(cetomuhi_machine *m) {
+    CHECK(cetomuhi_machine_start(m, 5, 1) == 0);
+    takers(m, "9");
+    for (uint64_t base = 0; base < 64; base += 16)
+        grant(m, cetomuhi_split(0, base, 16));
+    grant(m, cetomuhi_give(0, 0, 3));
+    grant(m, cetomuhi_give(0, 16, 3));
+    grant(m, cetomuhi_give(0, 32, 5));
+    takers(m, "99999");
+    expect(m, cetomuhi_take(3, 0, 0), 0, 16);
+    takers(m, "39999");
+    expect(m, cetomuhi_take_masked(3, 16, 1, 0), 0, 16);
+    expect(m, cetomuhi_take_masked(5, 32, 0, CETOMUHI_ALL_PERMISSIONS), 0, 16);
+    expect(m, cetomuhi_take(0, 48, 0), 0, 16);
+    takers(m, "33509");
+}
+
+/* A common taker stays, different ones are several; a collect leaves none. */
+static void test_joined_takers(void) {
+    static cetomuhi_machine m;
+    take_four(&m);
+    refuse(&m, cetomuhi_merge(0, 48), CETOMUHI_REFUSED_WRONG_RESERVATION);
+    takers(&m, "33509");
+    grant(&m, cetomuhi_merge(0, 0));
+    takers(&m, "3509");
+    grant(&m, cetomuhi_merge(0, 32));
+    takers(&m, "389");
+    grant(&m, cetomuhi_merge(0, 0));
+    takers(&m, "89");
+    grant(&m, cetomuhi_revoke(0, 0));
+    takers(&m, "89");
+    grant(&m, cetomuhi_sweep(0, 16));
+    grant(&m, cetomuhi_collect(0));
+    takers(&m, "99");
+    grant(&m, cetomuhi_merge(0, 0));
+    takers(&m, "9");
+}
+
+static void test_revoked_takers(void) {
+    static cetomuhi_machine m;
+    take_four(&m);
+    grant(&m, cetomuhi_revoke(0, 32));
+    takers(&m, "33509");
+    grant(&m, cetomuhi_merge(0, 0));
+    takers(&m, "3509");
+    grant(&m, cetomuhi_sweep(0, 16));
+    grant(&m, cetomuhi_collect(0));
+    takers(&m, "3909");
+    grant(&m, cetomuhi_revoke(0, 64));
+    takers(&m, "3900");
+    CHECK(cetomuhi_reservation_at(&m.state, 3).state == CETOMUHI_REVOKING);
+    grant(&m, cetomuhi_sweep(0, 16));
+    grant(&m, cetomuhi_collect(0));
+    takers(&m, "3909");
+    grant(&m, cetomuhi_give(0, 32, 7));
+    takers(&m, "3909");
+    expect(&m, cetomuhi_take(7, 32, 7), 0, 16);
+    takers(&m, "3709");
 }
 
 /* ---- Every refusal ---- */
@@ -256,6 +327,7 @@ static void test_refusals_and_showing(void) {
     const cetomuhi_capability sent = cetomuhi_capability_of(cetomuhi_mailbox_at(&m.state, 2).cell);
     const cetomuhi_revocation running = cetomuhi_revocation_of(&m.state);
     CHECK(row.base == 0 && row.length == 16 && row.state == CETOMUHI_REVOKING && row.holder == 0);
+    CHECK(row.taker == 1 && cetomuhi_reservation_at(&m.state, 1).taker == CETOMUHI_TAKER_NONE);
     CHECK(cetomuhi_reservation_at(&m.state, 1).base == 16);
     CHECK(cetomuhi_reservation_at(&m.state, 64).length == 0);
     CHECK(running.base == 0 && running.length == 16 && running.place == 10);
@@ -408,6 +480,8 @@ int main(int count, char **words) {
     const long rounds = count > 1 ? atol(words[1]) : 200;
     test_session();
     test_takes();
+    test_joined_takers();
+    test_revoked_takers();
     test_refusals_and_showing();
     test_words();
     for (long i = 0; i < rounds; i++)

@@ -47,6 +47,19 @@ static int cells(size_t base, size_t length)
 
 /* ---- The tables ---- */
 
+/* Who took a reservation that is not Open. A revoke of an Open one makes its taker 0, so that a
+ * Revoking one with taker 0 is one that party 0 took, or that nobody did. */
+static void show_taker(cetomuhi_reservation it)
+{
+    printf(it.state == CETOMUHI_TAKEN ? " by " : ", taken by ");
+    if (it.taker == CETOMUHI_TAKER_SEVERAL)
+        printf("several parties");
+    else
+        printf("party %u", it.taker);
+    if (it.state == CETOMUHI_REVOKING && it.taker == 0)
+        printf(" or by nobody");
+}
+
 static void show_reservations(const cetomuhi_state *state)
 {
     const char *word = "reservations";
@@ -57,6 +70,8 @@ static void show_reservations(const cetomuhi_state *state)
         printf("%s", cetomuhi_reservation_word(it.state));
         if (it.state == CETOMUHI_OPEN)
             printf(", held by party %u", it.holder);
+        else
+            show_taker(it);
         putchar('\n');
     }
 }

@@ -25,7 +25,8 @@ pub fn written(state: &State) -> cetomuhi::State {
     }
     for (number, row) in arrays.rows.iter_mut().zip(state.table.rows()) {
         let (base, length) = (u64::from(row.base), u64::from(row.length));
-        *number = base | length << 16 | (row.standing as u64) << 32 | u64::from(row.holder) << 40;
+        let (holder, taker) = (u64::from(row.holder), u64::from(row.taker));
+        *number = base | length << 16 | (row.standing as u64) << 32 | holder << 40 | taker << 48;
     }
     for (number, page) in arrays.pages.iter_mut().zip(state.pages.pages()) {
         *number = match *page {
@@ -166,8 +167,8 @@ fn rows<const N: usize>(numbers: &[u64]) -> Option<[Reservation; N]> {
             _ => return None,
         };
         let (base, length) = (*number as u16, (number >> 16) as u16);
-        let holder = u8::try_from(number >> 40).ok()?;
-        Some(Reservation { base, length, standing, holder })
+        let (holder, taker) = ((number >> 40) as u8, u8::try_from(number >> 48).ok()?);
+        Some(Reservation { base, length, standing, holder, taker })
     });
     rows.collect::<Option<Vec<Reservation>>>()?.try_into().ok()
 }

@@ -3,6 +3,7 @@
 use crate::generate::{Author, Random};
 use crate::lent::{written, Lent};
 use crate::operands;
+use crate::plain::table::{NOBODY, ROWS, SEVERAL};
 use crate::plain::{read, Memory, State};
 
 /// Well-formed states of several sizes with their memory, from generated calls.
@@ -27,13 +28,15 @@ fn sound_state(random: &mut Random) -> Lent {
     Lent::of(&written(&state), &cells, &tags)
 }
 
-/// A sound one, one with a few entries changed, one with an array of another length, or noise.
+/// A sound one, one with a few entries changed, one with an array of another length, one with other
+/// takers, or noise.
 pub fn state(random: &mut Random, sound: &[Lent]) -> Lent {
     let mut lent = random.pick(sound).clone();
-    match random.below(8) {
+    match random.below(9) {
         0 => noise(random, &mut lent),
         1 | 2 => (0..1 + random.below(3)).for_each(|_| change(random, &mut lent)),
         3 => resize(random, &mut lent),
+        4 => retake(random, &mut lent),
         _ => {}
     }
     lent
@@ -90,6 +93,29 @@ fn cut<T: Copy + Default>(array: &mut Box<[T]>, length: usize) {
     *array = entries.into();
 }
 
+/// Gives a sound state's Taken and Revoking rows any takers that they may have, which no history
+/// need have given them; often one row, used or not, a taker that it may not have.
+fn retake(random: &mut Random, lent: &mut Lent) {
+    let is_open = |row: u64| row >> 32 & 255 == 0;
+    for row in lent.rows.iter_mut().filter(|row| !is_open(**row)) {
+        *row = with_taker(*row, random.below(1 + usize::from(SEVERAL)) as u8);
+    }
+    if random.one_in(2) {
+        let used = usize::from(lent.numbers[2]);
+        let row = &mut lent.rows[random.below((used + 1).min(ROWS))];
+        *row = other_taker(random, *row);
+    }
+}
+
+/// The row with a taker about the ends of those that fit.
+fn other_taker(random: &mut Random, row: u64) -> u64 {
+    with_taker(row, *random.pick(&[0, 1, 7, SEVERAL, NOBODY, 10, 255]))
+}
+
+fn with_taker(row: u64, taker: u8) -> u64 {
+    row & !(255 << 48) | u64::from(taker) << 48
+}
+
 /// One entry of one array becomes another number, small or any.
 fn change(random: &mut Random, lent: &mut Lent) {
     let which = random.below(10);
@@ -119,14 +145,15 @@ fn change(random: &mut Random, lent: &mut Lent) {
     }
 }
 
-/// A row with another holder, state, length or base, or another bit.
+/// A row with another taker, holder, state, length or base, or another bit.
 fn other_row(random: &mut Random, row: u64) -> u64 {
     let below = |random: &mut Random, limit, place| (random.below(limit) as u64) << place;
-    match random.below(5) {
-        0 => row & !(255 << 40) | below(random, 10, 40),
-        1 => row & !(255 << 32) | below(random, 4, 32),
-        2 => row & !(0xFFFF << 16) | below(random, 40, 16),
-        3 => row & !0xFFFF | below(random, 40, 0),
+    match random.below(6) {
+        0 => other_taker(random, row),
+        1 => row & !(255 << 40) | below(random, 10, 40),
+        2 => row & !(255 << 32) | below(random, 4, 32),
+        3 => row & !(0xFFFF << 16) | below(random, 40, 16),
+        4 => row & !0xFFFF | below(random, 40, 0),
         _ => row ^ 1 << random.below(64),
     }
 }
@@ -199,4 +226,47 @@ pub fn call_numbers(random: &mut Random) -> Box<[u64]> {
         _ => 0,
     };
     (0..count).map(number).collect()
+}
+
+#[cfg(test)]
+mod tests {
+    use super::*;
+    use crate::plain::table::{Reservation, Standing};
+
+    /// The states that are well formed, and those that takers alone make ill formed.
+    fn sorted(random: &mut Random) -> (Vec<State>, usize) {
+        let sound = sound_states(random, 100);
+        let (mut formed, mut ill_taken) = (Vec::new(), 0);
+        for _ in 0..4_000 {
+            let Some(state) = state(random, &sound).plain() else { continue };
+            if state.is_well_formed() {
+                formed.push(state);
+            } else {
+                ill_taken += usize::from(refitted(state).is_well_formed());
+            }
+        }
+        (formed, ill_taken)
+    }
+
+    /// The state with takers that fit.
+    fn refitted(mut state: State) -> State {
+        for index in 0..state.table.rows().len() {
+            let row = state.table.row(index);
+            row.taker = if row.standing == Standing::Open { NOBODY } else { 0 };
+        }
+        state
+    }
+
+    #[test]
+    fn odd_states_have_takers_of_all_sorts() {
+        let (formed, ill_taken) = sorted(&mut Random::new(5));
+        assert!(formed.len() > 2_000 && ill_taken > 100, "{} {ill_taken}", formed.len());
+        let rows = || formed.iter().flat_map(|state| state.table.rows().iter().copied());
+        for standing in [Standing::Taken, Standing::Revoking] {
+            for taker in 0..=SEVERAL {
+                let is_such = |row: Reservation| (row.standing, row.taker) == (standing, taker);
+                assert!(rows().any(is_such), "{standing:?}, taker {taker}");
+            }
+        }
+    }
 }

@@ -1,6 +1,6 @@
 //! Counts of what sessions do, found by the plain implementation.
 
-use crate::plain::table::ROWS;
+use crate::plain::table::{Standing, ROWS};
 use crate::plain::{capability as cap, read, Action, Answer, Call, Memory, State, INPUT_LIMIT};
 use std::fmt;
 
@@ -20,6 +20,10 @@ pub struct Tally {
     pub stored_ahead: u64,
     /// Tags that sweeps cleared.
     pub swept: u64,
+    /// Merges of Taken reservations with equal and with different takers; revokes of Open ones.
+    pub joined_alike: u64,
+    pub joined_unlike: u64,
+    pub revoked_open: u64,
     /// Sessions in which the table is full at some time, and in which all mailboxes are.
     pub full_tables: u64,
     pub full_mailboxes: u64,
@@ -50,12 +54,14 @@ impl Tally {
                 break;
             };
             let dying = dying_store(&state, call);
+            let taker = taker_change(&state, call);
             let of_a_capability = loads_a_capability(&state, &tags, call);
             let is_sweep = matches!(call.action, Action::Sweep { .. });
             let before = if is_sweep { count(&tags) } else { 0 };
             let mut memory = Memory { cells: &mut cells, tags: &mut tags };
             let answer = state.step(&mut memory, call);
             self.add_answer(input[0], answer, dying);
+            self.add_taker_change(taker.filter(|_| answer.code == 0));
             let is_loaded = of_a_capability && answer.code == 0;
             self.loaded += u64::from(is_loaded && answer.tag);
             self.loaded_untagged += u64::from(is_loaded && !answer.tag);
@@ -77,6 +83,15 @@ impl Tally {
         match dying {
             Some(Side::Behind) => self.stored_behind += 1,
             Some(Side::Ahead) => self.stored_ahead += 1,
+            None => {}
+        }
+    }
+
+    fn add_taker_change(&mut self, change: Option<TakerChange>) {
+        match change {
+            Some(TakerChange::JoinsAlike) => self.joined_alike += 1,
+            Some(TakerChange::JoinsUnlike) => self.joined_unlike += 1,
+            Some(TakerChange::RevokesOpen) => self.revoked_open += 1,
             None => {}
         }
     }
@@ -103,6 +118,28 @@ fn dying_store(state: &State, call: Call) -> Option<Side> {
     }
     let place = addressed(state, call.party, a, off)?;
     Some(if place < running.place { Side::Behind } else { Side::Ahead })
+}
+
+/// How a taker comes about other than by a take and a collect.
+enum TakerChange {
+    JoinsAlike,
+    JoinsUnlike,
+    RevokesOpen,
+}
+
+/// What the call would do to takers, if it is granted.
+fn taker_change(state: &State, call: Call) -> Option<TakerChange> {
+    let (Action::Merge { base } | Action::Revoke { base }) = call.action else { return None };
+    let mut rows = state.table.rows().iter().skip_while(|row| row.base != base);
+    let row = rows.next()?;
+    match (call.action, row.standing) {
+        (Action::Revoke { .. }, Standing::Open) => Some(TakerChange::RevokesOpen),
+        (Action::Merge { .. }, Standing::Taken) => match rows.next()?.taker == row.taker {
+            true => Some(TakerChange::JoinsAlike),
+            false => Some(TakerChange::JoinsUnlike),
+        },
+        _ => None,
+    }
 }
 
 /// Whether the call is a load of a tagged cell.
@@ -138,6 +175,11 @@ impl fmt::Display for Tally {
             out,
             "dying capabilities stored: {} behind the sweep place, {} ahead; tags swept {}",
             self.stored_behind, self.stored_ahead, self.swept
+        )?;
+        writeln!(
+            out,
+            "Taken ones merged: {} with equal takers, {} with different ones; Open ones revoked {}",
+            self.joined_alike, self.joined_unlike, self.revoked_open
         )?;
         writeln!(
             out,

@@ -1,9 +1,10 @@
-//! Document 01's session, its edges marked K, the refusals that no session can show, and what the two
-//! takes give.
+//! Document 01's session, its edges marked K, the refusals that no session can show, what the two
+//! takes give, and who took a reservation.
 
 use cetomuhi_bench::hex;
 use cetomuhi_bench::plain::state::{Memory, Revocation};
-use cetomuhi_bench::plain::{session, session_checked, Action, Call, State};
+use cetomuhi_bench::plain::table::{Reservation, Standing, NOBODY, SEVERAL};
+use cetomuhi_bench::plain::{read, session, session_checked, Action, Call, State};
 
 /// The codes that a session of hexadecimal commands answers, the start's first.
 fn codes(text: &str) -> Vec<u8> {
@@ -247,4 +248,146 @@ fn a_revocation_agrees_with_the_table() {
     assert!(state.is_well_formed());
     state.pages.release(running.range);
     assert!(!state.is_well_formed());
+}
+
+/// The state after hexadecimal commands from a fresh start, with zeroed memory. All are granted, and
+/// the state is well formed after each.
+fn after(v: u16, text: &str) -> State {
+    let mut state = State::start(v, 1).unwrap();
+    let (mut cells, mut tags) = ([0; 16], [0; 16]);
+    let mut memory = Memory { cells: &mut cells, tags: &mut tags };
+    let bytes = hex::bytes(text).unwrap();
+    let mut rest = &bytes[..];
+    while let Some((call, used)) = read(rest) {
+        assert_eq!(state.call(&mut memory, call).code, 0, "{text}: {call:?}");
+        rest = &rest[used..];
+    }
+    assert!(rest.is_empty() && state.is_well_formed(), "{text}");
+    state
+}
+
+fn takers(v: u16, text: &str) -> Vec<u8> {
+    after(v, text).table.rows().iter().map(|row| row.taker).collect()
+}
+
+#[test]
+fn an_open_reservation_has_no_taker() {
+    assert_eq!((NOBODY, SEVERAL), (9, 8));
+    assert_eq!(takers(4, ""), [9]);
+    assert_eq!(takers(4, "02 00 0000 0010"), [9, 9]);
+    assert_eq!(takers(4, "02 00 0000 0010 03 00 0000"), [9]);
+    assert_eq!(takers(4, "02 00 0000 0010 04 00 0010 03"), [9, 9]);
+}
+
+#[test]
+fn a_take_writes_down_the_caller() {
+    for party in 0..8 {
+        let given = format!("02 00 0000 0010 04 00 0010 {party:02X}");
+        assert_eq!(takers(4, &format!("{given} 01 {party:02X} 0010 00")), [9, party]);
+        assert_eq!(takers(4, &format!("{given} 11 {party:02X} 0010 00 0F")), [9, party]);
+    }
+}
+
+/// Cells 0 to 63 in four parts, taken by these parties, the later ones by mask.
+fn four_taken(parties: [u8; 4]) -> String {
+    let mut text = String::from("02 00 0000 0010 02 00 0010 0010 02 00 0020 0010");
+    for (base, party) in ["0000", "0010", "0020", "0030"].into_iter().zip(parties) {
+        let (command, mask) = if base > "0010" { ("11", "03") } else { ("01", "") };
+        text += &format!(" 04 00 {base} {party:02X} {command} {party:02X} {base} 00 {mask}");
+    }
+    text
+}
+
+#[test]
+fn a_merge_keeps_a_common_taker_and_joins_others_to_several() {
+    let merged = |parties, merges| takers(4, &format!("{} {merges}", four_taken(parties)));
+    assert_eq!(merged([3, 3, 5, 0], ""), [3, 3, 5, 0]);
+    assert_eq!(merged([3, 3, 5, 0], "03 00 0000"), [3, 5, 0]);
+    assert_eq!(merged([3, 3, 5, 0], "03 00 0000 03 00 0000"), [8, 0]);
+    assert_eq!(merged([3, 3, 5, 0], "03 00 0010"), [3, 8, 0]);
+    assert_eq!(merged([3, 3, 5, 0], "03 00 0010 03 00 0000"), [8, 0]);
+    assert_eq!(merged([3, 3, 5, 0], "03 00 0010 03 00 0010"), [3, 8]);
+    assert_eq!(merged([0, 0, 0, 0], "03 00 0000 03 00 0020 03 00 0000"), [0]);
+    assert_eq!(merged([1, 2, 4, 7], "03 00 0000 03 00 0020"), [8, 8]);
+    assert_eq!(merged([1, 2, 4, 7], "03 00 0000 03 00 0020 03 00 0000"), [8]);
+}
+
+#[test]
+fn a_revoke_keeps_the_taker_and_a_collect_takes_it_away() {
+    let revoke = "05 00 0010";
+    let collect = format!("{revoke} 06 00 0010 07 00");
+    let four = four_taken([3, 6, 5, 0]);
+    assert_eq!(takers(4, &format!("{four} {revoke}")), [3, 6, 5, 0]);
+    assert_eq!(takers(4, &format!("{four} {collect}")), [3, 9, 5, 0]);
+    assert_eq!(takers(4, &format!("{four} 03 00 0010 {revoke}")), [3, 8, 0]);
+    assert_eq!(takers(4, &format!("{four} 03 00 0010 {collect}")), [3, 9, 0]);
+    assert_eq!(takers(4, "02 00 0000 0010 05 00 0010"), [9, 0]);
+    assert_eq!(takers(4, &format!("02 00 0000 0010 {collect}")), [9, 9]);
+}
+
+/// Whether the state is well formed with another taker in a row, and refused under 1 if not.
+fn may_have(state: &State, index: usize, taker: u8) -> bool {
+    let mut state = state.clone();
+    state.table.row(index).taker = taker;
+    let before = state.clone();
+    let (mut cells, mut tags) = ([0; 16], [0; 16]);
+    let mut memory = Memory { cells: &mut cells, tags: &mut tags };
+    let call = Call { party: 8, action: Action::Collect };
+    let code = state.call(&mut memory, call).code;
+    assert_eq!((code, state == before), (if state.is_well_formed() { 4 } else { 1 }, true));
+    code != 1
+}
+
+#[test]
+fn a_taker_fits_the_standing() {
+    let state = after(4, &format!("{} 05 00 0020 03 00 0000", four_taken([1, 2, 3, 4])));
+    let open = after(4, "02 00 0000 0010");
+    let standings = state.table.rows().iter().map(|row| row.standing);
+    assert!(standings.eq([Standing::Taken, Standing::Revoking, Standing::Taken]));
+    for taker in 0..=255 {
+        for index in 0..3 {
+            assert_eq!(may_have(&state, index, taker), taker <= 8, "row {index}, {taker}");
+        }
+        assert_eq!(
+            (may_have(&open, 0, taker), may_have(&open, 1, taker)),
+            (taker == 9, taker == 9)
+        );
+        assert_eq!(
+            (may_have(&open, 2, taker), may_have(&open, 63, taker)),
+            (taker == 0, taker == 0)
+        );
+    }
+}
+
+/// The rows without their takers.
+fn without_takers(state: &State) -> Vec<Reservation> {
+    state.table.rows().iter().map(|row| Reservation { taker: 0, ..*row }).collect()
+}
+
+/// No answer, and nothing else in the state, depends on who took what.
+#[test]
+fn takers_decide_nothing_but_takers() {
+    let (mut cells, mut tags) = ([0; 16], [0; 16]);
+    let mut memory = Memory { cells: &mut cells, tags: &mut tags };
+    let states = [[0, 0, 0, 0], [3, 3, 5, 5]].map(|parties| after(4, &four_taken(parties)));
+    let actions = |base| {
+        let (reg, mask) = (7, 15);
+        [
+            Action::Take { base, reg },
+            Action::Split { base, len: 1 },
+            Action::Merge { base },
+            Action::Give { base, to: 1 },
+            Action::Revoke { base },
+            Action::TakeMasked { base, reg, mask },
+        ]
+    };
+    for action in [0, 16, 32, 48].into_iter().flat_map(actions) {
+        for party in [0, 3, 5] {
+            let [a, b] = states.clone().map(|mut state| {
+                let answer = state.call(&mut memory, Call { party, action });
+                (answer, without_takers(&state), state.pages, state.revocation)
+            });
+            assert_eq!(a, b, "party {party}: {action:?}");
+        }
+    }
 }

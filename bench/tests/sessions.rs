@@ -42,6 +42,19 @@ fn the_proved_sessions_print_the_stored_lines() {
     }
 }
 
+/// The arrays that a stored session leaves by the plain rules.
+#[cfg(feature = "proved")]
+fn left_by_the_plain_rules(input: &[u8]) -> cetomuhi::State {
+    use cetomuhi_bench::plain::{Memory, State};
+    let v = u16::from_be_bytes([input[0], input[1]]);
+    let mut state = State::start(v, input[2]).expect("no stored session has a refused start");
+    let lent = state.pages.lent_cells();
+    let (mut cells, mut tags) = (vec![0; lent], vec![0; lent]);
+    let mut memory = Memory { cells: &mut cells, tags: &mut tags };
+    state.commands(&mut memory, input, 3, &mut vec![0; 4 * input.len()]);
+    cetomuhi_bench::lent::written(&state)
+}
+
 /// The same commands on a machine of the crate, one by one and in one run.
 #[cfg(feature = "proved")]
 #[test]
@@ -62,6 +75,7 @@ fn the_library_answers_as_stored() {
         }
         assert_eq!(printed.as_bytes(), lines, "{name}");
         assert!(single == machine && machine.is_well_formed(), "{name}");
+        assert!(*machine.state() == left_by_the_plain_rules(&input), "{name}");
     }
 }
 

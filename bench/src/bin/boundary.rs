@@ -4,6 +4,7 @@
 
 use cetomuhi::{Machine, State, ANSWER_NUMBERS};
 use cetomuhi_bench::generate::Author;
+use cetomuhi_bench::lent::written;
 use cetomuhi_bench::plain::{self, Memory};
 use cetomuhi_bench::timing::fastest;
 use std::hint::black_box;
@@ -95,7 +96,7 @@ fn start(v: u16, f: u8) -> Machine {
     Machine::start(v.into(), f.into()).expect("V and F are in range")
 }
 
-/// How many commands the input has. Both machines must answer them alike.
+/// How many commands the input has. Both machines must answer them alike and leave the same.
 fn agree(v: u16, f: u8, input: &[u8]) -> usize {
     let most = ANSWER_NUMBERS * input.len();
     let (mut expected, mut found) = (vec![0; most], vec![0; most]);
@@ -105,6 +106,8 @@ fn agree(v: u16, f: u8, input: &[u8]) -> usize {
     let mut state = State::start(v.into(), f.into()).expect("V and F are in range");
     let (mut cells, mut tags) = (vec![0; plain.cells.len()], vec![0; plain.tags.len()]);
     state.commands_into(&mut cells, &mut tags, input, &mut 0, &mut found);
-    assert!(expected == found && cells == plain.cells, "the two differ: run load");
+    let same_memory = cells == plain.cells && tags == plain.tags;
+    let same_state = state == written(&plain.state);
+    assert!(expected == found && same_memory && same_state, "the two differ: run load");
     done
 }

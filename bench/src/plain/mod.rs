@@ -1,4 +1,5 @@
-//! The reservation machine of document 01, with request 2026-01, as an ordinary Rust program.
+//! The reservation machine of document 01, with requests 2026-01 and 2026-04, as an ordinary Rust
+//! program.
 //!
 //! One `State`, changed in place. Each call first looks for its reasons to be turned down, in the
 //! order of their numbers, and then writes what it changes.

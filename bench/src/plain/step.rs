@@ -4,7 +4,7 @@ use super::call::{read, Action, Call};
 use super::capability::{self as cap, Range};
 use super::pages::{FrameUse, CELLS_A_PAGE};
 use super::state::{Memory, Revocation, Slot, State};
-use super::table::Standing;
+use super::table::{Standing, NOBODY};
 
 /// Why a call is turned down, by document 01's numbers.
 #[derive(Clone, Copy, Debug, PartialEq, Eq)]
@@ -181,6 +181,7 @@ impl State {
         let row = self.table.row(index);
         row.standing = Standing::Taken;
         row.holder = 0;
+        row.taker = party;
         let length = row.length;
         let cell = cap::make(base, length, permissions);
         *self.register(party, reg) = Slot { cell, tag: true };
@@ -216,6 +217,9 @@ impl State {
         refuse_if(!range.is_whole_pages(), Refusal::NotWholePages)?;
         refuse_if(self.revocation.is_some(), Refusal::RevocationOrder)?;
         self.pages.free(range)?;
+        if row.standing == Standing::Open {
+            row.taker = 0;
+        }
         row.standing = Standing::Revoking;
         self.revocation = Some(Revocation { range, place: 0 });
         Ok(Answer::GRANTED)
@@ -251,7 +255,9 @@ impl State {
         }
         self.pages.release(range);
         let index = self.table.held(0, range.base)?;
-        self.table.row(index).standing = Standing::Open;
+        let row = self.table.row(index);
+        row.standing = Standing::Open;
+        row.taker = NOBODY;
         self.revocation = None;
         Ok(Answer::GRANTED)
     }

@@ -5,6 +5,11 @@ use super::step::Refusal;
 
 pub const ROWS: usize = 64;
 
+/// The taker of a reservation joined from ones that different parties took.
+pub const SEVERAL: u8 = 8;
+/// The taker of an Open reservation.
+pub const NOBODY: u8 = 9;
+
 #[derive(Clone, Copy, Debug, Default, PartialEq, Eq)]
 pub enum Standing {
     #[default]
@@ -19,6 +24,8 @@ pub struct Reservation {
     pub length: u16,
     pub standing: Standing,
     pub holder: u8,
+    /// The party that took it, SEVERAL or NOBODY; 0 of one that was revoked when Open.
+    pub taker: u8,
 }
 
 impl Reservation {
@@ -30,6 +37,28 @@ impl Reservation {
         self.holder == next.holder
             && self.standing == next.standing
             && self.standing != Standing::Revoking
+    }
+
+    /// The taker of the two joined.
+    fn joined_taker(self, next: Reservation) -> u8 {
+        if self.taker == next.taker {
+            self.taker
+        } else {
+            SEVERAL
+        }
+    }
+
+    /// All 0. Joined numbers take fewer tests than one a field.
+    fn is_unused(self) -> bool {
+        self.base | self.length == 0 && self.standing as u8 | self.holder | self.taker == 0
+    }
+
+    /// Whether holder and taker are such as its standing wants.
+    fn has_fitting_parties(self) -> bool {
+        match self.standing {
+            Standing::Open => self.holder <= 7 && self.taker == NOBODY,
+            Standing::Taken | Standing::Revoking => self.holder == 0 && self.taker <= SEVERAL,
+        }
     }
 }
 
@@ -44,6 +73,7 @@ impl Table {
     pub fn fresh(length: u16) -> Table {
         let mut rows = [Reservation::default(); ROWS];
         rows[0].length = length;
+        rows[0].taker = NOBODY;
         Table { rows, count: 1 }
     }
 
@@ -100,6 +130,7 @@ impl Table {
             Some(&next) if self.rows[index].joins(next) => next,
             _ => return Err(Refusal::WrongStanding),
         };
+        self.rows[index].taker = self.rows[index].joined_taker(next);
         self.rows[index].length += next.length;
         self.rows.copy_within(index + 2..self.count, index + 1);
         self.count -= 1;
@@ -107,19 +138,16 @@ impl Table {
         Ok(())
     }
 
-    /// The rows tile the cells from 0 to `end`, holders fit their standing, the rest is 0.
+    /// The rows tile the cells from 0 to `end`, holder and taker fit the standing, the rest is 0.
     pub fn is_well_formed(&self, end: u16) -> bool {
         let mut next = 0u32;
         for row in self.rows() {
-            if u32::from(row.base) != next || row.length == 0 || row.holder > 7 {
-                return false;
-            }
-            if row.standing != Standing::Open && row.holder != 0 {
+            if u32::from(row.base) != next || row.length == 0 || !row.has_fitting_parties() {
                 return false;
             }
             next += u32::from(row.length);
         }
         let unused = &self.rows[self.count..];
-        next == u32::from(end) && unused.iter().all(|row| *row == Reservation::default())
+        next == u32::from(end) && unused.iter().all(|row| row.is_unused())
     }
 }

@@ -1,5 +1,5 @@
 -- The arrays that a start's state is written as. Assumes nothing.
-use Prim.Native.Nat.{ℕ, _*_, _<_}
+use Prim.Native.Nat.{ℕ, _+_, _*_, _<_}
 use native.Mathlib.Omega.{arith}
 use mathlib.Core.Bool.{Bool, true, false, _&&_}
 use mathlib.Core.List.{List, [], _∷_, map}
@@ -14,7 +14,7 @@ use Rattle.pages.specs.Layer.{inRange, blank, freshOf}
 use Rattle.pages.specs.Numbers.{pageCode, frameCode}
 use Rattle.table.specs.Table.{Table}
 use Rattle.table.specs.declared.ReservationState.the-variants.{Open}
-use Rattle.table.specs.Rows.{table, reservation, live}
+use Rattle.table.specs.Rows.{table, reservation, noTaker, live}
 use Rattle.table.specs.Rows as rows
 use Rattle.table.specs.Find.{seek, revokingOf, rowOf}
 use Rattle.table.specs.Tiling.{freshTable}
@@ -32,6 +32,10 @@ begun v f count rows =
     arrays (record { v = v; f = f; count = count; place = 0; base = 0; length = 0 })
     (replicate 64 0) (replicate 64 0) (replicate 8 0) (replicate 8 0) rows (replicate 256 0) (replicate 128 0)
 
+-- The number of a fresh start's one reservation: 16 V cells from 0 on, Open, held by party 0, with taker 9.
+abbrev pub firstNumber : ℕ → ℕ
+firstNumber v = 1048576 * v + 2533274790395904
+
 -- A state with this layer and this table, and nothing else.
 abbrev bare : Pages → Table → State
 bare p t = record { core = core p t 0; registers = replicate 64 empty; mailboxes = replicate 8 empty }
@@ -40,18 +44,18 @@ written-zero : arraysOf (bare (blank 0 0) (table (replicate 64 rows.blank) 0)) �
 unfolding arraysOf numbersOf revoked revokingOf rowOf seek live rowCode pageCode frameCode
 written-zero = refl
 
-written-one : (v f n : ℕ) → arraysOf (bare (blank v f) (table (reservation 0 n Open 0 ∷ replicate 63 rows.blank) 1)) ≡ begun v f 1 (set (replicate 64 0) 0 (65536 * n))
+written-one : (v f n : ℕ) → arraysOf (bare (blank v f) (table (reservation 0 n Open 0 noTaker ∷ replicate 63 rows.blank) 1)) ≡ begun v f 1 (set (replicate 64 0) 0 (65536 * n + 2533274790395904))
 unfolding arraysOf numbersOf revoked revokingOf rowOf seek live rowCode pageCode frameCode
 written-one v f n = ap (λ (x : ℕ). begun v f 1 (x ∷ replicate 63 0)) (omega arith)
 
-pub fresh-in : (v f : ℕ) → inRange v f ≡ true → arraysOf (fresh v f) ≡ begun v f 1 (set (replicate 64 0) 0 (1048576 * v))
+pub fresh-in : (v f : ℕ) → inRange v f ≡ true → arraysOf (fresh v f) ≡ begun v f 1 (set (replicate 64 0) 0 (firstNumber v))
 unfolding fresh freshCore freshOf freshTable
 fresh-in v f e =
     let some : 0 < v = ltb-true 0 v (and-left (ltb 0 v) (leb v 256) (and-left (ltb 0 v && leb v 256) (ltb 0 f && leb f 128) e)) in
     let cells : pick (inRange v f) (16 * v) 0 ≡ 16 * v = pick-yes (inRange v f) (16 * v) 0 e in
     ap (λ (p : Pages). arraysOf (bare p (freshTable (pick (inRange v f) (16 * v) 0)))) (pick-yes (inRange v f) (blank v f) (blank 0 0) e)
     ∙ ap (λ (n : ℕ). arraysOf (bare (blank v f) (freshTable n))) cells
-    ∙ ap (λ (t : Table). arraysOf (bare (blank v f) t)) (pick-no (eqb (16 * v) 0) (table (replicate 64 rows.blank) 0) (table (reservation 0 (16 * v) Open 0 ∷ replicate 63 rows.blank) 1) (ne-eqb (16 * v) 0 (λ z. omega arith)))
+    ∙ ap (λ (t : Table). arraysOf (bare (blank v f) t)) (pick-no (eqb (16 * v) 0) (table (replicate 64 rows.blank) 0) (table (reservation 0 (16 * v) Open 0 noTaker ∷ replicate 63 rows.blank) 1) (ne-eqb (16 * v) 0 (λ z. omega arith)))
     ∙ written-one v f (16 * v) ∙ ap (λ (n : ℕ). begun v f 1 (set (replicate 64 0) 0 n)) (omega arith)
 
 pub fresh-out : (v f : ℕ) → inRange v f ≡ false → arraysOf (fresh v f) ≡ begun 0 0 0 (replicate 64 0)

@@ -13,7 +13,7 @@ use Rattle.machine.specs.Formed.{fresh, startOf}
 use Rattle.arrays.specs.declared.Arrays.{Arrays}
 use Rattle.arrays.specs.declared.Numbers.{Numbers}
 use Rattle.arrays.specs.Reading.{arrays, arraysOf}
-use Rattle.arrays.proofs.Starting.{begun, fresh-in, fresh-out}
+use Rattle.arrays.proofs.Starting.{begun, fresh-in, fresh-out, firstNumber}
 use Rattle.formed.specs.Test.{sized}
 use Rattle.formed.specs.Fresh.{Start, zeros, starting, startIn}
 
@@ -34,7 +34,7 @@ module _ (v f : ℕ) (a : Arrays) where
 
   -- The first row is that of all cells.
   abbrev with-first : Arrays → Arrays
-  with-first b = arrays (b .nums) (b .words) (b .marks) (b .mail) (b .flags) (set (b .rows) 0 (1048576 * v)) (b .pages) (b .frames)
+  with-first b = arrays (b .nums) (b .words) (b .marks) (b .mail) (b .flags) (set (b .rows) 0 (firstNumber v)) (b .pages) (b .frames)
 
   module _ (e : sized a ≡ true) where
     abbrev slots : Bool
@@ -79,5 +79,5 @@ module _ (v f : ℕ) (a : Arrays) where
     start-granted r k kk n nn b d =
         ap (λ (x : ℕ). starting x (with-first b)) kk
         ∙ ap (λ (x : Arrays). starting 0 (with-first x)) (d ∙ ap (λ (x : Numbers). zeros (with-numbers x)) nn)
-        ∙ ap (starting 0) (zeros-are _ _ ∙ ap (λ (x : ℕ). begun v f 1 (set (replicate x 0) 0 (1048576 * v))) of-rows ∙ sym (fresh-in v f r))
+        ∙ ap (starting 0) (zeros-are _ _ ∙ ap (λ (x : ℕ). begun v f 1 (set (replicate x 0) 0 (firstNumber v))) of-rows ∙ sym (fresh-in v f r))
         ∙ ap (λ (x : ℕ). starting x (arraysOf (fresh v f))) (sym (pick-yes (inRange v f) 0 1 r)) ∙ started

@@ -84,6 +84,6 @@ pub fn start_in(
     if !in_range(v, f) {
         return handed(1, 0, 0, 0);
     }
-    rows[0] = 1048576 * v;
+    rows[0] = 1048576 * v + 2533274790395904;
     handed(0, v as u16, f as u16, 1)
 }

@@ -152,13 +152,13 @@ pub run-lent : (calls : List Call) (m : Machine) (r : Reservation) → Around (m
 run-lent calls m r a = run-until (λ n. Around (n .state .core .table) r) r (λ n c b. step-lent n c r b) calls m a
 
 abbrev lentAs : Range → Reservation
-lentAs r = reservation (r .base) (r .length) Taken 0
+lentAs r = reservation (r .base) (r .length) Taken 0 0
 
 lent-around : (m : Machine) (take : Call) (p base : ℕ) → Lends m take p base → Around (next m take .state .core .table) (lentAs (lentRange m take base))
 lent-around m take p base k =
     let t = m .state .core .table in
     let u = next m take .state .core .table in
-    let (used, row) = row-first t u p base (k .row) 1 (takenRow (rowAt t (k .row))) [] (k .now) in
+    let (used, row) = row-first t u p base (k .row) 1 (takenRow (rowAt t (k .row)) p) [] (k .now) in
     subst (λ r. Around u (lentAs r)) (sym (k .range))
     (record {
       row = k .row;

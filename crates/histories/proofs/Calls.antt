@@ -100,14 +100,14 @@ module _ (s : State) (cells tags : List ℕ) (inv : Inv (machine s cells tags)) 
     register-change p r w k = record { registers = put-each (Sound t) (s .registers) (8 * p + r) w k (inv .registers); mailboxes = inv .mailboxes; memory = inv .memory }
 
     -- 01 take.
-    take-change : (p base reg x i : ℕ) (u : Table) (n : ℕ) → x ≤ 15 → isOpen (rowAt t i .state) ≡ true → Replaced t u p base i 1 (takenRow (rowAt t i) ∷ []) → n ≡ rowAt t i .length
+    take-change : (p base reg x i : ℕ) (u : Table) (n : ℕ) → x ≤ 15 → isOpen (rowAt t i .state) ≡ true → Replaced t u p base i 1 (takenRow (rowAt t i) p ∷ []) → n ≡ rowAt t i .length
         → Inv (machine (record { core = core (c .pages) u (c .place); registers = set (s .registers) (8 * p + reg) (slot (capability base n x) true); mailboxes = s .mailboxes }) cells tags)
     take-change p base reg x i u n few o r e =
         let k = take-carried t u p base i o r in
         let h : i < length (live t) = omega (arith, r .within) in
-        let d = dies-same c (core (c .pages) u (c .place)) (dyings-one t u i (takenRow (rowAt t i) ∷ []) h (r .now) (open-still (rowAt t i .state) o) (open-no-dying (takenRow (rowAt t i)) refl)) in
+        let d = dies-same c (core (c .pages) u (c .place)) (dyings-one t u i (takenRow (rowAt t i) p ∷ []) h (r .now) (open-still (rowAt t i .state) o) (open-no-dying (takenRow (rowAt t i) p) refl)) in
         let j = table-change u k d in
-        let (used, row) = row-first t u p base i 1 (takenRow (rowAt t i)) [] r in
+        let (used, row) = row-first t u p base i 1 (takenRow (rowAt t i) p) [] r in
         let start : rowAt t i .base ≡ base = eqb-true (rowAt t i .base) base (and-left (eqb (rowAt t i .base) base) (held (rowAt t i) p) (r .named)) in
         let fits = row-fits c ok i h in
         let some = row-long i h in

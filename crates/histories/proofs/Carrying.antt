@@ -4,6 +4,7 @@ use native.Mathlib.Omega.{arith}
 use mathlib.Core.Bool.{true}
 use mathlib.Core.Path.{_≡_, ap, subst, _∙_}
 use lib.ListN.{length}
+use Rattle.table.specs.declared.Found.the-variants.{At}
 use Rattle.table.specs.Table.{Table}
 use Rattle.table.specs.Find.{rowOf, findOf}
 use Rattle.table.specs.Operations.{takeOf, splitReasons, splitOf, mergeOf, giveOf}
@@ -43,13 +44,17 @@ module _ (c : Core) (ok : coreSound c ≡ true) where
   pub take-kept : (p base : ℕ) → takeOf t p base .code ≡ 0 → Carried t (takeOf t p base .table)
   take-kept p base z = let (i, o, r) = take-after size t (facts .rows) p base z in take-carried t (takeOf t p base .table) p base i o r
 
+  -- What a granted split cuts off is part of what it has found.
+  pub split-short : (p base len i : ℕ) → splitOf t p base len .code ≡ 0 → findOf t p base ≡ At i → i < length (live t) → len ≤ rowAt t i .length
+  split-short p base len i z found h =
+      subst (λ r. len ≤ r .length) (ap (rowOf t) found ∙ row-live t i h)
+      (split-fits (rowOf t (findOf t p base)) len (split-clear t (findOf t p base) len (unfold splitOf splitReasons in z) .fits))
+
   pub split-kept : (p base len : ℕ) → splitOf t p base len .code ≡ 0 → Carried t (splitOf t p base len .table)
   split-kept p base len z =
       let (i, o, r) = split-after size t (facts .rows) p base len z in
       let h : i < length (live t) = omega (arith, r .within) in
-      let fits = split-fits (rowOf t (findOf t p base)) len (split-clear t (findOf t p base) len (unfold splitOf splitReasons in z) .fits) in
-      let row : rowOf t (findOf t p base) ≡ rowAt t i = ap (rowOf t) (r .found) ∙ row-live t i h in
-      split-carried t (splitOf t p base len .table) p base i len (row-fits i h) o r (subst (λ x. len ≤ x .length) row fits)
+      split-carried t (splitOf t p base len .table) p base i len (row-fits i h) o r (split-short p base len i z (r .found) h)
 
   pub merge-kept : (p base : ℕ) → mergeOf t p base .code ≡ 0 → Carried t (mergeOf t p base .table)
   merge-kept p base z =

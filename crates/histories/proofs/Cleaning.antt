@@ -122,7 +122,7 @@ module _ (s : State) (ok : coreSound (s .core) ≡ true) (n : ℕ) (low : n < 25
 
 -- The page as a reservation would have its cells.
 abbrev cellsOf : ℕ → Reservation
-cellsOf n = reservation (16 * n) 16 Taken 0
+cellsOf n = reservation (16 * n) 16 Taken 0 0
 
 collect-freed : (m : Machine) (call : Call) (p n : ℕ) → IsCollect call p → Went m call → n < 256 → pageAt (m .state .core .pages) n ≡ Freed
     → (pageAt (next m call .state .core .pages) n ≡ Freed) ⊎ Ending m call (cellsOf n)

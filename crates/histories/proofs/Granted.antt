@@ -16,6 +16,7 @@ use Rattle.calls.specs.declared.Call.{Call}
 use Rattle.machine.specs.Formed.{wellFormed, mailboxesSound, sized}
 use Rattle.machine.specs.Step.{Outcome, done, reasonsOn, effectOn, ruled, judged, stepOf}
 use Rattle.histories.specs.Runs.{Machine, machine, outcome, next, Granted}
+use Rattle.machine.proofs.Keeps.{facts}
 
 -- What an outcome hands on.
 abbrev pub handed : Outcome → Machine
@@ -48,8 +49,7 @@ module _ (m : Machine) (c : Call) (w : Went m c) where
   went-next = ap (λ o. handed o) (w .now)
 
   pub went-core : coreSound (m .state .core) ≡ true
-  unfolding wellFormed
-  went-core = and-left (coreSound (m .state .core)) (mailboxesSound (m .state)) (and-left (coreSound (m .state .core) && mailboxesSound (m .state)) (sized (m .state)) (w .formed))
+  went-core = facts (m .state) (w .formed) .core
 
   pub went-cells : length (m .cells) ≡ 16 * m .state .core .pages .f
   went-cells = served (m .state .core .pages) (length (m .cells)) (length (m .tags)) (w .serve) .0

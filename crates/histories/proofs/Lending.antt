@@ -42,7 +42,7 @@ pub record Lends (m : Machine) (take : Call) (p base : ℕ) : Type 0 where
   pub used : row < length (live (m .state .core .table))
   pub isopen : isOpen (rowAt (m .state .core .table) row .state) ≡ true
   pub range : lentRange m take base ≡ rangeOf (rowAt (m .state .core .table) row)
-  pub now : Replaced (m .state .core .table) (next m take .state .core .table) p base row 1 (takenRow (rowAt (m .state .core .table) row) ∷ [])
+  pub now : Replaced (m .state .core .table) (next m take .state .core .table) p base row 1 (takenRow (rowAt (m .state .core .table) row) p ∷ [])
 
 -- A granted take, of either kind.
 module _ (m : Machine) (take : Call) (p base reg permissions : ℕ) (is : IsTake take p base reg permissions) (w : Went m take) where

@@ -14,9 +14,12 @@ pub mod Confining
 pub mod Lending
 pub mod Survivors
 pub mod Forming
+pub mod Forgetting
 pub mod Leading
 pub mod Naming
 pub mod Between
+pub mod TakersKept
+pub mod Takers
 pub mod Later
 pub mod Losing
 pub mod RestoringTakes
@@ -27,3 +30,4 @@ pub mod Frames
 pub mod Examples
 pub mod Cleaning
 pub mod RestoringExamples
+pub mod TakersExamples

@@ -31,7 +31,7 @@ use Rattle.words.specs.WordReasons.{unnamed}
 use Rattle.machine.specs.Effects.{effect}
 use Rattle.machine.specs.Reasons.{reasons}
 use Rattle.machine.specs.Step.{reasonsOn}
-use Rattle.histories.specs.Runs.{Machine, Granted, next}
+use Rattle.histories.specs.Runs.{Machine, Granted, next, run}
 use Rattle.histories.specs.Inv.{rowAt}
 use Rattle.histories.specs.Forming.{Standing}
 use Rattle.histories.specs.Losing.{AlwaysTiled, MergesLeadBack}
@@ -40,7 +40,10 @@ use Rattle.histories.proofs.Granted.{Went, went, went-core}
 use Rattle.histories.proofs.Leading.{Leads, leads-none, leads-more}
 use Rattle.histories.proofs.Naming.{find-row, holder-named}
 use Rattle.histories.proofs.Between.{done-table}
-use Rattle.histories.proofs.Forming.{always-formed, standing-facts, standing-code, standing-next}
+use Rattle.histories.proofs.Forming.{always-formed, standing-facts, standing-code, standing-next, standing-run}
+use Rattle.table.proofs.Numbers.{same-row}
+use Rattle.table.proofs.Takers.{takers-row, open-taker}
+use Rattle.machine.proofs.Keeps.{facts}
 
 standing-tiled : (m : Machine) (v f : ℕ) → Standing m v f → tiles 0 (16 * v) (live (m .state .core .table)) ≡ true
 standing-tiled m v f k =
@@ -137,21 +140,23 @@ uniform-next m s p w a =
     )
 
 -- One reservation that tiles all cells.
-whole : (upto : ℕ) (s : ReservationState) (p : ℕ) (l : List Reservation) → length l ≡ 1 → tiles 0 upto l ≡ true → getD l 0 blank .state ≡ s → getD l 0 blank .holder ≡ p → l ≡ reservation 0 upto s p ∷ []
+whole : (upto : ℕ) (s : ReservationState) (p : ℕ) (l : List Reservation) → length l ≡ 1 → tiles 0 upto l ≡ true → getD l 0 blank .state ≡ s → getD l 0 blank .holder ≡ p → l ≡ reservation 0 upto s p (getD l 0 blank .taker) ∷ []
 whole upto s p [] n e o h = absurd (omega arith)
 whole upto s p (r ∷ []) n e o h =
     let b = tiles-begin 0 upto r [] e in
     let size : r .length ≡ upto = sym (zero-add (r .length)) ∙ tiles-none (0 + r .length) upto (b .rest) in
-    ap (λ x. x ∷ [])
-    (ap (λ x. reservation x (r .length) (r .state) (r .holder)) (b .base)
-    ∙ ap (λ x. reservation 0 x (r .state) (r .holder)) size
-    ∙ ap (λ x. reservation 0 upto x (r .holder)) o
-    ∙ ap (reservation 0 upto s) h)
+    ap (λ x. x ∷ []) (same-row r (reservation 0 upto s p (r .taker)) (b .base) size o h refl)
 whole upto s p (r ∷ (x ∷ l)) n e o h = absurd (omega arith)
 
--- One reservation of all cells is left.
+-- One reservation of all cells is left, with whatever taker it has.
+abbrev pub WholeTable : ℕ → ReservationState → ℕ → Table → Type 0
+WholeTable v s p t = live t ≡ reservation 0 (16 * v) s p (rowAt t 0 .taker) ∷ []
+
 abbrev pub Whole : ℕ → ReservationState → ℕ → Machine → Type 0
-Whole v s p m = live (m .state .core .table) ≡ reservation 0 (16 * v) s p ∷ []
+Whole v s p m = WholeTable v s p (m .state .core .table)
+
+pub whole-table : (v : ℕ) (s : ReservationState) (p taker : ℕ) (t : Table) → live t ≡ reservation 0 (16 * v) s p taker ∷ [] → WholeTable v s p t
+whole-table v s p taker t e = e ∙ ap (λ k. reservation 0 (16 * v) s p k ∷ []) (sym (ap (λ l. getD l 0 blank .taker) e))
 
 -- Merges lead back from reservations that are all Open, or all Taken.
 lead-back : (n : ℕ) (m : Machine) (s : ReservationState) (p v f : ℕ) → alike s s ≡ true → Standing m v f → Uniform m s p → length (live (m .state .core .table)) ≡ suc n → Leads (Whole v s p) m (replicate n (Merge p 0))
@@ -175,4 +180,15 @@ is-open Revoking e = absurd (false≢true e)
 pub merges-lead-back : MergesLeadBack
 merges-lead-back m r p a =
     let l = merged-back m Open p (r .v) (r .f) refl (always-formed m r) (record { state = λ i h. is-open _ (a .isopen i h); holder = a .holds }) in
-    record { times = length (live (m .state .core .table)) - 1; granted = l .granted; one = l .reaches }
+    let calls = replicate (length (live (m .state .core .table)) - 1) (Merge p 0) in
+    let n = run m calls in
+    let t = n .state .core .table in
+    let row = ap (λ x. getD x 0 blank) (l .reaches) in
+    let few : 0 < length (live t) = rw (l .reaches) (omega arith) in
+    let fit = takers-row (live t) 0 (facts (n .state) (standing-run calls m (r .v) (r .f) (always-formed m r) .formed) .takers) few in
+    let none = open-taker (rowAt t 0) (ap (λ x. isOpen (x .state)) row) fit in
+    record {
+      times = length (live (m .state .core .table)) - 1;
+      granted = l .granted;
+      one = l .reaches ∙ ap (λ k. reservation 0 (16 * r .v) Open p k ∷ []) none;
+    }

@@ -22,7 +22,7 @@ use Rattle.table.specs.declared.Reservation.{Reservation}
 use Rattle.table.specs.declared.ReservationState.the-variants.{Open, Taken, Revoking}
 use Rattle.table.specs.Table.{Table}
 use Rattle.table.specs.Find.{findOf, rowOf}
-use Rattle.table.specs.Rows.{isRevoking, blank, live, rangeOf, reservation}
+use Rattle.table.specs.Rows.{isRevoking, blank, live, rangeOf, reservation, noTaker}
 use Rattle.table.specs.Tiling.{revokings, weight}
 use Rattle.table.proofs.Cells.{inside-made}
 use Rattle.table.proofs.Dying.{dyings, none, revoking-none, dyings-length}
@@ -31,7 +31,7 @@ use Rattle.table.proofs.Sound.{sound}
 use Rattle.table.proofs.Tiled.{revokings-append, revokings-first}
 use Rattle.sweep.specs.Sweep.{passed}
 use Rattle.reservations.specs.Core.{Core}
-use Rattle.reservations.specs.Revocation.{core, running, wholePages, revokeReasons, revokeReasonsAt, revokeOf, revokingRow, collectReasons, collectedRow, collectOf, coreSound}
+use Rattle.reservations.specs.Revocation.{core, running, wholePages, revokeReasons, revokeReasonsAt, revokeOf, revokingRow, collectReasons, collectedRow, collectOf, coreSound, revokingTaker}
 use Rattle.reservations.proofs.CoreAfter.{revoke-after}
 use Rattle.reservations.proofs.CoreKept.{core-facts}
 use Rattle.calls.specs.declared.Call.the-variants.{Revoke, Sweep, Collect}
@@ -50,7 +50,7 @@ use Rattle.histories.proofs.Survivors.{collect-core, collect-ends}
 use Rattle.histories.proofs.Forming.{standing-core, standing-facts, standing-code, standing-next}
 use Rattle.histories.proofs.Leading.{Leads, leads-none, leads-more, leads-to}
 use Rattle.histories.proofs.Naming.{find-row}
-use Rattle.histories.proofs.Losing.{Whole}
+use Rattle.histories.proofs.Losing.{Whole, whole-table}
 use Rattle.histories.proofs.RestoringPages.{Bare}
 
 -- A revocation runs if a reservation is Revoking.
@@ -178,7 +178,7 @@ module _ (m : Machine) (v f : ℕ) (k : Standing m v f) (bare : Bare v m) where
   t = m .state .core .table
 
   abbrev r₀ : Reservation
-  r₀ = reservation 0 (16 * v) Taken 0
+  r₀ = reservation 0 (16 * v) Taken 0 (rowAt t 0 .taker)
 
   single : 0 < length (live t)
   single = rw (bare .one) (omega arith)
@@ -229,7 +229,8 @@ module _ (m : Machine) (v f : ℕ) (k : Standing m v f) (bare : Bare v m) where
   one-revoking =
       let (i, r) = revoke-after c₀ (standing-core m v f k) 0 0 (unfold revokeOf in revoke-clear) in
       let n : i ≡ 0 = omega (arith, r .within, ap length (bare .one)) in
-      ap (λ x. live (x .table)) revoked-core ∙ r .now ∙ ap (λ j. take j (live t) ++ revokingRow (rowAt t j) ∷ drop (j + 1) (live t)) n ∙ ap (λ l. take 0 l ++ revokingRow (getD l 0 blank) ∷ drop 1 l) (bare .one)
+      whole-table v Revoking 0 (revokingTaker r₀) (n₂ .state .core .table)
+      (ap (λ x. live (x .table)) revoked-core ∙ r .now ∙ ap (λ j. take j (live t) ++ revokingRow (rowAt t j) ∷ drop (j + 1) (live t)) n ∙ ap (λ l. take 0 l ++ revokingRow (getD l 0 blank) ∷ drop 1 l) (bare .one))
 
   runs : running (n₂ .state .core) ≡ true
   unfolding dyings
@@ -240,7 +241,7 @@ module _ (m : Machine) (v f : ℕ) (k : Standing m v f) (bare : Bare v m) where
   restored n e =
       let t₂ = n₂ .state .core .table in
       let i : e .row ≡ 0 = omega (arith, e .used, ap length one-revoking) in
-      let one : Whole v Open 0 n =
+      let one : live (n .state .core .table) ≡ reservation 0 (16 * v) Open 0 noTaker ∷ [] =
       e .rows ∙ ap (λ j. take j (live t₂) ++ collectedRow (rowAt t₂ j) ∷ drop (j + 1) (live t₂)) i ∙ ap (λ l. take 0 l ++ collectedRow (getD l 0 blank) ∷ drop 1 l) one-revoking in
       let range : rangeOf (rowAt t₂ (e .row)) ≡ rangeOf r₀ = ap (λ j. rangeOf (rowAt t₂ j)) i ∙ ap (λ l. rangeOf (getD l 0 blank)) one-revoking in
       record {

@@ -45,9 +45,9 @@ told l m = (map (λ a. a .code) l, live (m .state .core .table), pageAt (m .stat
 
 pub back :
     map (λ m. told (answers m (restoring m)) (run m (restoring m))) (swept ∷ cut ∷ shared ∷ [])
-    ≡ (replicate 8 0, reservation 0 32 Open 0 ∷ [], Unmapped, Unmapped)
-    ∷ (replicate 8 0, reservation 0 32 Open 0 ∷ [], Unmapped, Unmapped)
-    ∷ (replicate 9 0, reservation 0 32 Open 0 ∷ [], Unmapped, Unmapped)
+    ≡ (replicate 8 0, reservation 0 32 Open 0 9 ∷ [], Unmapped, Unmapped)
+    ∷ (replicate 8 0, reservation 0 32 Open 0 9 ∷ [], Unmapped, Unmapped)
+    ∷ (replicate 9 0, reservation 0 32 Open 0 9 ∷ [], Unmapped, Unmapped)
     ∷ []
 unfolding told swept cut shared start eachBelow ending finishing taking merging unmapping revoking _andThen_ restoring outcome next run answers begun computing
 back = refl

@@ -2,7 +2,7 @@
 use Prim.Native.Nat.{ℕ, suc, _<_, _≤_}
 use native.Mathlib.Omega.{arith}
 use mathlib.Core.Bool.{Bool, true, false}
-use mathlib.Core.Path.{_≡_, refl, ap, _∙_}
+use mathlib.Core.Path.{_≡_, refl, ap, _∙_, subst, sym}
 use borrow.Author.Tests.{eqb-true, eqb-false, lt-leb}
 use lib.Dec.{eqb}
 use lib.ListN.{length}
@@ -33,7 +33,7 @@ use Rattle.histories.proofs.Granted.{Went, went, went-next}
 use Rattle.histories.proofs.Layer.{unmap-done}
 use Rattle.histories.proofs.Forming.{standing-facts, standing-code, standing-next}
 use Rattle.histories.proofs.Leading.{Leads, leads-to, each-leads}
-use Rattle.histories.proofs.Losing.{Whole}
+use Rattle.histories.proofs.Losing.{WholeTable, Whole}
 
 -- The states of pages after an unmap.
 soiled-page : (s : Pages) (x : PageState) (j : ℕ) → pageAt (soiled s x) j ≡ pageAt s j
@@ -105,7 +105,7 @@ module _ (s₀ : Pages) (v f n : ℕ) (m : Machine) (q : UnmappedFrom s₀ v f (
     unmap-goes m v f (q .standing) n low shown,
     record {
       standing = standing-next m v f (Unmap 0 (page n)) (q .standing);
-      one = ap live (unmap-table m v f (q .standing) n low shown) ∙ q .one;
+      one = subst (WholeTable v Taken 0) (sym (unmap-table m v f (q .standing) n low shown)) (q .one);
       within = omega (arith, q .within);
       below = λ p b. ap (λ x. pageAt x p) now ∙ unmapped-kept s n p (λ z. omega arith) ∙ q .below p (omega arith);
       above = λ p a b. ap (λ x. isMapped (pageAt x p)) now ∙ go p a b (eqb p n) refl;

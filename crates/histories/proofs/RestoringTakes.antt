@@ -86,11 +86,11 @@ module _ (m : Machine) (v f : ℕ) (k : Standing m v f) (i : ℕ) (h : i < lengt
   take-goes : Granted m (Take (r .holder) (r .base) 0)
   take-goes = standing-code m v f (Take (r .holder) (r .base) 0) k ∙ no-reason
 
-  take-rows : Replaced t (next m (Take (r .holder) (r .base) 0) .state .core .table) (r .holder) (r .base) i 1 (takenRow r ∷ [])
+  take-rows : Replaced t (next m (Take (r .holder) (r .base) 0) .state .core .table) (r .holder) (r .base) i 1 (takenRow r (r .holder) ∷ [])
   take-rows =
       let l = lends m (Take (r .holder) (r .base) 0) (r .holder) (r .base) 0 plainPermissions refl (went m (Take (r .holder) (r .base) 0) take-goes) in
       let n : l .row ≡ i = number (sym (l .now .found) ∙ found) in
-      subst (λ j. Replaced t (next m (Take (r .holder) (r .base) 0) .state .core .table) (r .holder) (r .base) j 1 (takenRow (rowAt t j) ∷ [])) n (l .now)
+      subst (λ j. Replaced t (next m (Take (r .holder) (r .base) 0) .state .core .table) (r .holder) (r .base) j 1 (takenRow (rowAt t j) (r .holder) ∷ [])) n (l .now)
     where
       number : {a b : ℕ} → At a ≡ At b → a ≡ b
       number e = cc
@@ -133,7 +133,7 @@ module _ (t₀ : Table) (v f n : ℕ) (m : Machine) (q : TakenFrom t₀ v f (suc
   abbrev u : Table
   u = next m (takeAt t₀ n) .state .core .table
 
-  taken-rows : Replaced t₁ u (r₀ .holder) (r₀ .base) n 1 (takenRow r₀ ∷ []) → TakenFrom t₀ v f n (next m (takeAt t₀ n))
+  taken-rows : Replaced t₁ u (r₀ .holder) (r₀ .base) n 1 (takenRow r₀ (r₀ .holder) ∷ []) → TakenFrom t₀ v f n (next m (takeAt t₀ n))
   taken-rows k =
       record {
         standing = standing-next m v f (takeAt t₀ n) (q .standing);
@@ -144,7 +144,7 @@ module _ (t₀ : Table) (v f n : ℕ) (m : Machine) (q : TakenFrom t₀ v f (suc
       }
     where
       new : List Reservation
-      new = takenRow r₀ ∷ []
+      new = takenRow r₀ (r₀ .holder) ∷ []
 
       size : length (live u) ≡ n + (1 + (length (live t₁) - (n + 1)))
       size = long t₁ u new n 1 (k .within) (k .now)
@@ -162,7 +162,7 @@ module _ (t₀ : Table) (v f n : ℕ) (m : Machine) (q : TakenFrom t₀ v f (suc
   taken e =
       let k : isOpen (rowAt t₁ n .state) ≡ true = ap (λ r. isOpen (r .state)) same ∙ e in (
         subst (λ r. Granted m (Take (r .holder) (r .base) 0)) same (take-goes m v f (q .standing) n low k),
-        taken-rows (subst (λ r. Replaced t₁ (next m (Take (r .holder) (r .base) 0) .state .core .table) (r .holder) (r .base) n 1 (takenRow r ∷ [])) same (take-rows m v f (q .standing) n low k)),
+        taken-rows (subst (λ r. Replaced t₁ (next m (Take (r .holder) (r .base) 0) .state .core .table) (r .holder) (r .base) n 1 (takenRow r (r .holder) ∷ [])) same (take-rows m v f (q .standing) n low k)),
       )
 
 pub taking-leads : (m : Machine) (v f : ℕ) → Standing m v f → revokings (live (m .state .core .table)) ≡ 0 → Leads (λ n. Uniform n Taken 0) m (taking m)

@@ -115,16 +115,30 @@ module _ (t u : Table) (new : List Reservation) (i k : ℕ) (h : i + k ≤ lengt
         upto = omega (arith, ap (λ r. r .base) e, ap (λ r. r .length) e);
       }
 
-  opened : (j n v : ℕ) → rowAt u n ≡ rowAt t j → j < length l → isOpen (rowAt u n .state) ≡ true → inside (rangeOf (rowAt u n)) v ≡ true → Opened t v
-  opened j n v e b o c =
-      record { row = j; used = b; isopen = sym (ap (λ r. isOpen (r .state)) e) ∙ o; hit = sym (ap (λ r. inside (rangeOf r) v) e) ∙ c }
+  -- Every row of u is an old one outside of those that were replaced, or a new one.
+  pub rows-after : (P : Reservation → Type 0) → ((j : ℕ) → j < length l → (j < i + k → j < i) → P (rowAt t j)) → ((j : ℕ) → j < length new → P (getD new j blank))
+      → (j : ℕ) → j < length (live u) → P (rowAt u j)
+  rows-after P old fresh j b = go (ltb j i) refl (ltb j (i + length new)) refl
+    where
+      go : (x : Bool) → ltb j i ≡ x → (y : Bool) → ltb j (i + length new) ≡ y → P (rowAt u j)
+      go true e y f = let q : j < i = ltb-true j i e in subst P (sym (low-row j q)) (old j (omega arith) (λ z. q))
+      go false e true f =
+          let p : i ≤ j = ltb-false j i e in
+          let q : j < i + length new = ltb-true j (i + length new) f in
+          let n : i + (j - i) ≡ j = omega arith in
+          subst P (sym (mid-row (j - i) (omega arith)) ∙ ap (λ m. rowAt u m) n) (fresh (j - i) (omega arith))
+      go false e false f =
+          let p : i + length new ≤ j = ltb-false j (i + length new) f in
+          let m : ℕ = j - (i + length new) in
+          let n : i + (length new + m) ≡ j = omega arith in
+          subst P (sym (high-row m) ∙ ap (λ x. rowAt u x) n) (old (i + k + m) (omega (arith, long)) (λ z. absurd (omega arith)))
 
   -- Save where P fails of a lent row, or Q holds of an Open row's cell.
   pub carried-but : (P : Reservation → Type 0) (Q : ℕ → Type 0)
       → ((j : ℕ) → j < k → isOpen (getD l (i + j) blank .state) ≡ false → P (getD l (i + j) blank) → Fits new (getD l (i + j) blank))
       → ((j v : ℕ) → j < length new → isOpen (getD new j blank .state) ≡ true → inside (rangeOf (getD new j blank)) v ≡ true → Was l i k v ⊎ Q v)
       → CarriedBut P Q t u
-  carried-but P Q fits was = record { kept = λ j b o x. keep j b o x (ltb j i) refl (ltb j (i + k)) refl; came = λ j v b o c. back j v b o c (ltb j i) refl (ltb j (i + length new)) refl }
+  carried-but P Q fits was = record { kept = λ j b o x. keep j b o x (ltb j i) refl (ltb j (i + k)) refl; came = λ j v. back v j }
     where
       keep : (j : ℕ) → j < length l → isOpen (rowAt t j .state) ≡ false → P (rowAt t j) → (x : Bool) → ltb j i ≡ x → (y : Bool) → ltb j (i + k) ≡ y → Around u (rowAt t j)
       keep j b o z true e y f = let q : j < i = ltb-true j i e in around j j (low-row j q) (omega (arith, long)) o
@@ -146,19 +160,10 @@ module _ (t u : Table) (new : List Reservation) (i k : ℕ) (h : i + k ≤ lengt
           let n : i + k + (j - (i + k)) ≡ j = omega arith in
           around j (i + (length new + (j - (i + k)))) (high-row (j - (i + k)) ∙ ap (λ m. getD l m blank) n) (omega (arith, long)) o
 
-      back : (j v : ℕ) → j < length (live u) → isOpen (rowAt u j .state) ≡ true → inside (rangeOf (rowAt u j)) v ≡ true → (x : Bool) → ltb j i ≡ x → (y : Bool) → ltb j (i + length new) ≡ y → Opened t v ⊎ Q v
-      back j v b o c true e y f = let q : j < i = ltb-true j i e in inl (opened j j v (low-row j q) (omega arith) o c)
-      back j v b o c false e true f =
-          let p : i ≤ j = ltb-false j i e in
-          let q : j < i + length new = ltb-true j (i + length new) f in
-          let n : i + (j - i) ≡ j = omega arith in
-          let row : rowAt u j ≡ getD new (j - i) blank = ap (λ m. rowAt u m) (sym n) ∙ mid-row (j - i) (omega arith) in
-          ⊎-elim (λ g. inl (record { row = i + g .row; used = omega (arith, g .used); isopen = g .isopen; hit = g .hit })) inr (was (j - i) v (omega arith) (sym (ap (λ r. isOpen (r .state)) row) ∙ o) (sym (ap (λ r. inside (rangeOf r) v) row) ∙ c))
-      back j v b o c false e false f =
-          let p : i + length new ≤ j = ltb-false j (i + length new) f in
-          let m : ℕ = j - (i + length new) in
-          let n : i + (length new + m) ≡ j = omega arith in
-          inl (opened (i + k + m) j v (ap (λ x. rowAt u x) (sym n) ∙ high-row m) (omega (arith, long)) o c)
+      back : (v j : ℕ) → j < length (live u) → isOpen (rowAt u j .state) ≡ true → inside (rangeOf (rowAt u j)) v ≡ true → Opened t v ⊎ Q v
+      back v =
+          rows-after (λ r. isOpen (r .state) ≡ true → inside (rangeOf r) v ≡ true → Opened t v ⊎ Q v) (λ j b far o c. inl (record { row = j; used = b; isopen = o; hit = c }))
+          (λ j b o c. ⊎-elim (λ g. inl (record { row = i + g .row; used = omega (arith, g .used); isopen = g .isopen; hit = g .hit })) inr (was j v b o c))
 
   pub carried : ((j : ℕ) → j < k → isOpen (getD l (i + j) blank .state) ≡ false → Fits new (getD l (i + j) blank))
       → ((j v : ℕ) → j < length new → isOpen (getD new j blank .state) ≡ true → inside (rangeOf (getD new j blank)) v ≡ true → Was l i k v)
@@ -181,6 +186,26 @@ was-it l i v o e =
 pub inside-wider : (a b : Range) (v : ℕ) → a .base ≤ b .base → b .base + b .length ≤ a .base + a .length → inside b v ≡ true → inside a v ≡ true
 inside-wider a b v p q e = let k = inside-bounds b v e in inside-made a v (omega (arith, k .0)) (omega (arith, k .1))
 
+-- The cells of a reservation's parts are its own, and those of two neighbours joined are theirs.
+pub lower-inside : (r : Reservation) (len v : ℕ) → len ≤ r .length → inside (rangeOf (lowerPart r len)) v ≡ true → inside (rangeOf r) v ≡ true
+lower-inside r len v h = inside-wider (rangeOf r) (rangeOf (lowerPart r len)) v (omega arith) (omega arith)
+
+pub upper-inside : (r : Reservation) (len v : ℕ) → len ≤ r .length → r .base + r .length < 65536 → inside (rangeOf (upperPart r len)) v ≡ true → inside (rangeOf r) v ≡ true
+upper-inside r len v h fits =
+    let n : (r .base + len) % 65536 ≡ r .base + len = omega arith in
+    inside-wider (rangeOf r) (rangeOf (upperPart r len)) v (omega arith) (omega arith)
+
+pub joined-inside : (r s : Reservation) (v : ℕ) → s .base ≡ r .base + r .length → r .length + s .length < 65536 → inside (rangeOf (joined r s)) v ≡ true
+    → (inside (rangeOf r) v ≡ true) ⊎ (inside (rangeOf s) v ≡ true)
+joined-inside r s v seam fits e = go (ltb v (r .base + r .length)) refl
+  where
+    whole : (r .length + s .length) % 65536 ≡ r .length + s .length
+    whole = omega arith
+
+    go : (x : Bool) → ltb v (r .base + r .length) ≡ x → (inside (rangeOf r) v ≡ true) ⊎ (inside (rangeOf s) v ≡ true)
+    go true x = inl (inside-made (rangeOf r) v (inside-bounds (rangeOf (joined r s)) v e .0) (ltb-true v (r .base + r .length) x))
+    go false x = inr (inside-made (rangeOf s) v (omega (arith, ltb-false v (r .base + r .length) x)) (omega (arith, inside-bounds (rangeOf (joined r s)) v e .1, whole)))
+
 module _ (t u : Table) (party base i : ℕ) where
   abbrev l₀ : List Reservation
   l₀ = live t
@@ -188,11 +213,11 @@ module _ (t u : Table) (party base i : ℕ) where
   abbrev r₀ : Reservation
   r₀ = getD (live t) i blank
 
-  pub take-carried : isOpen (r₀ .state) ≡ true → Replaced t u party base i 1 (takenRow r₀ ∷ []) → Carried t u
+  pub take-carried : isOpen (r₀ .state) ≡ true → Replaced t u party base i 1 (takenRow r₀ party ∷ []) → Carried t u
   take-carried o k =
-      carried t u (takenRow r₀ ∷ []) i 1 (k .within) (k .now) (λ j b e. absurd (only l₀ i j b o e)) back
+      carried t u (takenRow r₀ party ∷ []) i 1 (k .within) (k .now) (λ j b e. absurd (only l₀ i j b o e)) back
     where
-      back : (j v : ℕ) → j < 1 → isOpen (getD (takenRow r₀ ∷ []) j blank .state) ≡ true → inside (rangeOf (getD (takenRow r₀ ∷ []) j blank)) v ≡ true → Was l₀ i 1 v
+      back : (j v : ℕ) → j < 1 → isOpen (getD (takenRow r₀ party ∷ []) j blank .state) ≡ true → inside (rangeOf (getD (takenRow r₀ party ∷ []) j blank)) v ≡ true → Was l₀ i 1 v
       back zero v b e c = absurd (false≢true e)
       back (suc j) v b e c = absurd (omega arith)
 
@@ -222,10 +247,8 @@ module _ (t u : Table) (party base i : ℕ) where
     where
       back : (j v : ℕ) → j < 2 → isOpen (getD (lowerPart r₀ len ∷ upperPart r₀ len ∷ []) j blank .state) ≡ true
           → inside (rangeOf (getD (lowerPart r₀ len ∷ upperPart r₀ len ∷ []) j blank)) v ≡ true → Was l₀ i 1 v
-      back zero v b e c = was-it l₀ i v o (inside-wider (rangeOf r₀) (rangeOf (lowerPart r₀ len)) v (omega arith) (omega arith) c)
-      back (suc zero) v b e c =
-          let n : (r₀ .base + len) % 65536 ≡ r₀ .base + len = omega arith in
-          was-it l₀ i v o (inside-wider (rangeOf r₀) (rangeOf (upperPart r₀ len)) v (omega arith) (omega arith) c)
+      back zero v b e c = was-it l₀ i v o (lower-inside r₀ len v small c)
+      back (suc zero) v b e c = was-it l₀ i v o (upper-inside r₀ len v small fits c)
       back (suc (suc j)) v b e c = absurd (omega arith)
 
 alike-lent : (a b : ReservationState) → alike a b ≡ true → (isOpen a ≡ isOpen b)
@@ -260,28 +283,11 @@ module _ (t u : Table) (party base i : ℕ) where
       keep (suc (suc j)) b e = absurd (omega arith)
 
       back : (j v : ℕ) → j < 1 → isOpen (getD (joined one two ∷ []) j blank .state) ≡ true → inside (rangeOf (getD (joined one two ∷ []) j blank)) v ≡ true → Was (live t) i 2 v
-      back zero v b e c = go (ltb v (one .base + one .length)) refl
-        where
-          n : i ≡ i + 0
-          n = omega arith
-
-          go : (x : Bool) → ltb v (one .base + one .length) ≡ x → Was (live t) i 2 v
-          go true x =
-              let d = inside-bounds (rangeOf (joined one two)) v c in
-              record {
-                row = 0;
-                used = omega arith;
-                isopen = ap (λ m. isOpen (getD (live t) m blank .state)) (sym n) ∙ e;
-                hit = ap (λ m. inside (rangeOf (getD (live t) m blank)) v) (sym n) ∙ inside-made (rangeOf one) v (omega (arith, d .0)) (ltb-true v (one .base + one .length) x);
-              }
-          go false x =
-              let d = inside-bounds (rangeOf (joined one two)) v c in
-              record {
-                row = 1;
-                used = omega arith;
-                isopen = sym (alike-lent (one .state) (two .state) same) ∙ e;
-                hit = inside-made (rangeOf two) v (omega (arith, seam, ltb-false v (one .base + one .length) x)) (omega (arith, d .1, whole, seam));
-              }
+      back zero v b e c =
+          let n : i ≡ i + 0 = omega arith in
+          ⊎-elim
+          (λ x. record { row = 0; used = omega arith; isopen = ap (λ m. isOpen (getD (live t) m blank .state)) (sym n) ∙ e; hit = ap (λ m. inside (rangeOf (getD (live t) m blank)) v) (sym n) ∙ x })
+          (λ x. record { row = 1; used = omega arith; isopen = sym (alike-lent (one .state) (two .state) same) ∙ e; hit = x }) (joined-inside one two v seam fits c)
       back (suc j) v b e c = absurd (omega arith)
 
 -- What dies is said by the Revoking reservations alone.

@@ -10,3 +10,5 @@ pub mod Cleaning
 pub mod Forming
 pub mod Losing
 pub mod Restoring
+pub mod Forgetting
+pub mod Takers

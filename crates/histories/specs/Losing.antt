@@ -6,7 +6,7 @@ use mathlib.Core.List.{List, [], _∷_}
 use mathlib.Core.Path.{_≡_}
 use lib.ListN.{length, replicate}
 use Rattle.table.specs.declared.ReservationState.the-variants.{Open}
-use Rattle.table.specs.Rows.{isOpen, live, reservation}
+use Rattle.table.specs.Rows.{isOpen, live, reservation, noTaker}
 use Rattle.table.specs.Tiling.{tiles}
 use Rattle.calls.specs.declared.Call.{Call}
 use Rattle.calls.specs.declared.Call.the-variants.{Merge}
@@ -30,7 +30,7 @@ pub data AllGranted : Machine → List Call → Type 0 where
 pub record Back (m : Machine) (p v : ℕ) : Type 0 where
   pub times : ℕ
   pub granted : AllGranted m (replicate times (Merge p 0))
-  pub one : live (run m (replicate times (Merge p 0)) .state .core .table) ≡ reservation 0 (16 * v) Open p ∷ []
+  pub one : live (run m (replicate times (Merge p 0)) .state .core .table) ≡ reservation 0 (16 * v) Open p noTaker ∷ []
 
 abbrev pub MergesLeadBack : Type 0
 MergesLeadBack = (m : Machine) (r : Reached m) (p : ℕ) → Alone m p → Back m p (r .v)

@@ -12,7 +12,7 @@ use Rattle.pages.specs.Entries.{isMapped}
 use Rattle.pages.specs.Layer.{pageAt}
 use Rattle.table.specs.declared.ReservationState.the-variants.{Open}
 use Rattle.table.specs.Table.{Table}
-use Rattle.table.specs.Rows.{isOpen, live, reservation}
+use Rattle.table.specs.Rows.{isOpen, live, reservation, noTaker}
 use Rattle.reservations.specs.Revocation.{running}
 use Rattle.calls.specs.declared.Call.{Call}
 use Rattle.calls.specs.declared.Call.the-variants.{Take, Merge, Revoke, Sweep, Collect, Unmap}
@@ -73,7 +73,7 @@ restoring = finishing andThen taking andThen merging andThen unmapping andThen r
 
 -- One Open reservation of 16 V cells, held by party 0; every page Unmapped; and no revocation runs.
 pub record Restored (m : Machine) (v : ℕ) : Type 0 where
-  pub one : live (m .state .core .table) ≡ reservation 0 (16 * v) Open 0 ∷ []
+  pub one : live (m .state .core .table) ≡ reservation 0 (16 * v) Open 0 noTaker ∷ []
   pub pages : (p : ℕ) → p < v → pageAt (m .state .core .pages) p ≡ Unmapped
   pub quiet : running (m .state .core) ≡ false
 

@@ -12,6 +12,9 @@ use Rattle.capabilities.specs.Refusals.{first}
 use Rattle.capabilities.proofs.Choice.{and-left, and-right}
 use Rattle.pages.specs.Layer.{inRange, serves}
 use Rattle.pages.proofs.Formed as layer
+use Rattle.table.specs.Rows.{live}
+use Rattle.table.specs.Tiling.{takersSound}
+use Rattle.table.proofs.TakersKept.{take-takers, give-takers, split-takers, merge-takers}
 use Rattle.table.proofs.Sound as table
 use Rattle.table.proofs.Truth.{both}
 use Rattle.reservations.specs.Core.{Core}
@@ -19,11 +22,12 @@ use Rattle.reservations.specs.Revocation.{dying, coreSound}
 use Rattle.reservations.proofs.CoreKept.{core-facts, core-take, core-split, core-merge, core-give}
 use Rattle.reservations.proofs.Revocations.{core-revoke, core-collect, core-sweep}
 use Rattle.reservations.proofs.Starts.{core-fresh}
+use Rattle.reservations.proofs.Takers.{revoke-takers, collect-takers, fresh-takers}
 use Rattle.calls.specs.declared.Call.{Call}
 use Rattle.words.specs.declared.Slot.{Slot}
 use Rattle.words.specs.Words.{empty, collectedMailbox}
 use Rattle.machine.specs.State.{State}
-use Rattle.machine.specs.Formed.{mailboxSound, mailboxesSound, sized, wellFormed, fresh, startOf}
+use Rattle.machine.specs.Formed.{mailboxSound, mailboxesSound, sized, formedBare, wellFormed, fresh, startOf}
 use Rattle.machine.specs.Roles.{Asked}
 use Rattle.machine.specs.Effects.{MailboxChange, keepMailboxes, putMailbox, collectMailboxes, Effect}
 use Rattle.machine.specs.Step.{mailboxesAfter, done, reasonsOn, effectOn, judged, stepOf}
@@ -39,26 +43,32 @@ pub record Facts (s : State) : Type 0 where
   pub mailboxes : each mailboxSound 0 (s .mailboxes) ≡ true
   pub of-registers : length (s .registers) ≡ 64
   pub of-mailboxes : length (s .mailboxes) ≡ 8
+  pub takers : takersSound (live (s .core .table)) ≡ true
 
 pub facts : (s : State) → wellFormed s ≡ true → Facts s
-unfolding wellFormed mailboxesSound
+unfolding wellFormed formedBare mailboxesSound
 facts s e =
     let boxes = each mailboxSound 0 (s .mailboxes) in
-    let front = and-left (coreSound (s .core) && boxes) (sized s) e in
-    let back = and-right (coreSound (s .core) && boxes) (sized s) e in
+    let takers = takersSound (live (s .core .table)) in
+    let bare = and-left ((coreSound (s .core) && boxes) && sized s) takers e in
+    let front = and-left (coreSound (s .core) && boxes) (sized s) bare in
+    let back = and-right (coreSound (s .core) && boxes) (sized s) bare in
     record {
       core = and-left (coreSound (s .core)) boxes front;
       mailboxes = and-right (coreSound (s .core)) boxes front;
       of-registers = eqb-true (length (s .registers)) 64 (and-left (eqb (length (s .registers)) 64) (eqb (length (s .mailboxes)) 8) back);
       of-mailboxes = eqb-true (length (s .mailboxes)) 8 (and-right (eqb (length (s .registers)) 64) (eqb (length (s .mailboxes)) 8) back);
+      takers = and-right ((coreSound (s .core) && boxes) && sized s) takers e;
     }
 
 pub formed : (s : State) → Facts s → wellFormed s ≡ true
-unfolding wellFormed mailboxesSound
+unfolding wellFormed formedBare mailboxesSound
 formed s f =
-    both (coreSound (s .core) && each mailboxSound 0 (s .mailboxes)) (sized s)
-    (both (coreSound (s .core)) (each mailboxSound 0 (s .mailboxes)) (f .core) (f .mailboxes))
-    (both (eqb (length (s .registers)) 64) (eqb (length (s .mailboxes)) 8) (eq-eqb (length (s .registers)) 64 (f .of-registers)) (eq-eqb (length (s .mailboxes)) 8 (f .of-mailboxes)))
+    let boxes = each mailboxSound 0 (s .mailboxes) in
+    both ((coreSound (s .core) && boxes) && sized s) (takersSound (live (s .core .table)))
+    (both (coreSound (s .core) && boxes) (sized s) (both (coreSound (s .core)) boxes (f .core) (f .mailboxes))
+    (both (eqb (length (s .registers)) 64) (eqb (length (s .mailboxes)) 8) (eq-eqb (length (s .registers)) 64 (f .of-registers)) (eq-eqb (length (s .mailboxes)) 8 (f .of-mailboxes))))
+    (f .takers)
 
 -- The lengths of all arrays of a well-formed state, and so, by `step-keeps` below, of the state after every step.
 pub record Arrays (s : State) : Type 0 where
@@ -139,6 +149,28 @@ core-kept s ok (wrote p a off x low-p low-a g) = ok
 core-kept s ok (mailed p x to t) = ok
 core-kept s ok (received p d low) = ok
 
+-- Takers that fit go on to fit.
+recored-takers : (c k : Core) → coreSound c ≡ true → takersSound (live (c .table)) ≡ true → Recored c k → takersSound (live (k .table)) ≡ true
+recored-takers c k ok fit (splits p base len z) = split-takers _ (c .table) (core-facts c ok .rows) fit p base len
+recored-takers c k ok fit (merges p base z) = merge-takers _ (c .table) (core-facts c ok .rows) fit p base
+recored-takers c k ok fit (gives p base to low z) = give-takers _ (c .table) (core-facts c ok .rows) fit p base to
+recored-takers c k ok fit (revokes p base z) = revoke-takers c ok fit p base
+recored-takers c k ok fit (maps page frame z) = fit
+recored-takers c k ok fit (unmaps page z) = fit
+
+takers-kept : (s : State) → coreSound (s .core) ≡ true → takersSound (live (s .core .table)) ≡ true → {a : Asked} {e : Effect} → Deed s a e
+    → takersSound (live (e .core .table)) ≡ true
+takers-kept s ok fit (took p base reg permissions low-p low-reg few z) = take-takers _ (s .core .table) (core-facts (s .core) ok .rows) fit p base (omega arith)
+takers-kept s ok fit (recored p k r) = recored-takers (s .core) k ok fit r
+takers-kept s ok fit (swept p n runs) = fit
+takers-kept s ok fit (collectedAll p z) = collect-takers (s .core) ok fit
+takers-kept s ok fit (zeroed p frame z) = fit
+takers-kept s ok fit (filled p d from w low g) = fit
+takers-kept s ok fit (loaded p a off d low g) = fit
+takers-kept s ok fit (wrote p a off x low-p low-a g) = fit
+takers-kept s ok fit (mailed p x to t) = fit
+takers-kept s ok fit (received p d low) = fit
+
 done-keeps : (s : State) (c : Call) (cells tags : List ℕ) → wellFormed s ≡ true
     → serves (s .core .pages) (length cells) (length tags) ≡ true → first (reasonsOn s c) ≡ 0
     → wellFormed (done s (effectOn s c) cells tags .answer .state) ≡ true
@@ -153,6 +185,7 @@ done-keeps s c cells tags w m e =
       mailboxes = mailboxes-kept (x .mailboxes) s (puts-sound s d) (f .mailboxes);
       of-registers = length-registers (x .registers) s cells tags ∙ f .of-registers;
       of-mailboxes = length-mailboxes (x .mailboxes) s ∙ f .of-mailboxes;
+      takers = takers-kept s (f .core) (f .takers) d;
     })
 
 -- Every call, granted or refused, keeps the state well formed.
@@ -166,7 +199,7 @@ module _ (s : State) (c : Call) (cells tags : List ℕ) (w : wellFormed s ≡ tr
 
 fresh-formed : (v f : ℕ) → inRange v f ≡ true → wellFormed (fresh v f) ≡ true
 unfolding fresh
-fresh-formed v f e = formed (fresh v f) (record { core = core-fresh v f e; mailboxes = unfold each in refl; of-registers = refl; of-mailboxes = refl })
+fresh-formed v f e = formed (fresh v f) (record { core = core-fresh v f e; mailboxes = unfold each in refl; of-registers = refl; of-mailboxes = refl; takers = fresh-takers v f e })
 
 -- A granted start is well formed.
 pub start-formed : (v f : ℕ) → startOf v f .code ≡ 0 → wellFormed (startOf v f .state) ≡ true

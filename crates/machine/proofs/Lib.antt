@@ -9,6 +9,7 @@ pub mod Lists
 pub mod PagesKept
 pub mod Lengths
 pub mod Keeps
+pub mod Forgetting
 pub mod Commands
 pub mod Unchanged
 pub mod Computing

@@ -15,9 +15,10 @@ use Rattle.capabilities.proofs.Choice.{and-left, and-right}
 use Rattle.capabilities.proofs.Refusals.{first-clear}
 use Rattle.pages.specs.Mapping.{unmapReasons, unmapOf}
 use Rattle.sweep.specs.Sweep.{sweepOf}
-use Rattle.table.specs.Operations.{takeReasons, takeOf, splitReasons, splitOf}
+use Rattle.table.specs.Operations.{takeReasons, takeOf, splitReasons, splitOf, mergeReasons, mergeOf}
+use Rattle.reservations.specs.Revocation.{revokeReasons, revokeOf, collectReasons, collectOf}
 use Rattle.calls.specs.declared.Call.{Call}
-use Rattle.calls.specs.declared.Call.the-variants.{Take, Split, Unmap}
+use Rattle.calls.specs.declared.Call.the-variants.{Take, Split, Merge, Revoke, Collect, Unmap}
 use Rattle.calls.specs.Commands.{page, commandOf, operandsOf}
 use Rattle.calls.specs.Commands.{byteOf as kindOf}
 use Rattle.calls.proofs.Table.{listed}
@@ -28,7 +29,8 @@ use Rattle.machine.specs.Roles.{plainPermissions}
 use Rattle.machine.specs.Reasons.{reasons}
 use Rattle.machine.specs.Effects.{effect}
 use Rattle.machine.specs.Step.{Outcome, refused, registersAfter, mailboxesAfter, cellsAfter, tagsAfter, wordAfter, done, effectOn, withCore}
-use Rattle.machine.specs.WrongMachines.{Obeys, instead, sweepBy, takeBy, maskBy, plainBy, splitBy, unmapBy, storeBy, collectBy}
+use Rattle.machine.specs.WrongMachines.{Obeys, instead, sweepBy, takeBy, maskBy, plainBy, splitBy, mergeBy, revokeBy, endBy, unmapBy, storeBy, collectBy}
+use Rattle.machine.proofs.Found.{after-five}
 use Rattle.machine.proofs.Judging.{Granted, pick-by, step-by}
 
 abbrev Made : Type 0
@@ -87,12 +89,21 @@ module _ (s : State) (cells tags : List ℕ) where
   unfolding splitOf reasons
   split-clear p base len g = first-clear 4 (unnamed p) (splitReasons (s .core .table) p base len) (λ z. omega arith) (g .clear) .1
 
+  merge-clear : (p base : ℕ) → Granted s (Merge p base) cells tags → mergeOf (s .core .table) p base .code ≡ 0
+  unfolding mergeOf reasons
+  merge-clear p base g = first-clear 4 (unnamed p) (mergeReasons (s .core .table) p base) (λ z. omega arith) (g .clear) .1
+
+  revoke-clear : (p base : ℕ) → Granted s (Revoke p base) cells tags → revokeOf (s .core) p base .code ≡ 0
+  unfolding revokeOf reasons
+  revoke-clear p base g = after-five (unnamed p) (notManager p) (revokeReasons (s .core) p base) (g .clear)
+
+  collect-clear : (p : ℕ) → Granted s (Collect p) cells tags → collectOf (s .core) .code ≡ 0
+  unfolding collectOf reasons
+  collect-clear p g = after-five (unnamed p) (notManager p) (collectReasons (s .core)) (g .clear)
+
   unmap-clear : (p n : ℕ) → Granted s (Unmap p (page n)) cells tags → unmapOf (s .core .pages) (page n) .code ≡ 0
   unfolding unmapOf reasons
-  unmap-clear p n g =
-      let rest = unmapReasons (s .core .pages) (page n) in
-      first-clear 5 (notManager p) rest (λ z. omega arith)
-      (first-clear 4 (unnamed p) (reason 5 (notManager p) ∷ rest) (λ z. omega arith) (g .clear) .1) .1
+  unmap-clear p n g = after-five (unnamed p) (notManager p) (unmapReasons (s .core .pages) (page n)) (g .clear)
 
 pub take-obeys : Obeys (takeBy takeOf)
 unfolding takeBy done effect registersAfter mailboxesAfter cellsAfter tagsAfter wordAfter withCore
@@ -101,6 +112,18 @@ take-obeys = obeys-by 0x01 _ (λ s x cells tags g. rw (take-clear s cells tags (
 pub split-obeys : Obeys (splitBy splitOf)
 unfolding splitBy done effect registersAfter mailboxesAfter cellsAfter tagsAfter wordAfter withCore
 split-obeys = obeys-by 0x02 _ (λ s x cells tags g. rw (split-clear s cells tags (x 0) (x 1) (x 2) g))
+
+pub merge-obeys : Obeys (mergeBy mergeOf)
+unfolding mergeBy done effect registersAfter mailboxesAfter cellsAfter tagsAfter wordAfter withCore
+merge-obeys = obeys-by 0x03 _ (λ s x cells tags g. rw (merge-clear s cells tags (x 0) (x 1) g))
+
+pub revoke-obeys : Obeys (revokeBy revokeOf)
+unfolding revokeBy done effect registersAfter mailboxesAfter cellsAfter tagsAfter wordAfter withCore
+revoke-obeys = obeys-by 0x05 _ (λ s x cells tags g. rw (revoke-clear s cells tags (x 0) (x 1) g))
+
+pub end-obeys : Obeys (endBy collectOf)
+unfolding endBy done effect registersAfter mailboxesAfter cellsAfter tagsAfter wordAfter withCore
+end-obeys = obeys-by 0x07 _ (λ s x cells tags g. rw (collect-clear s cells tags (x 0) g))
 
 pub unmap-obeys : Obeys (unmapBy unmapOf)
 unfolding unmapBy done effect registersAfter mailboxesAfter cellsAfter tagsAfter wordAfter withCore

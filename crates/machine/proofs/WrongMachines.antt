@@ -8,14 +8,21 @@ use borrow.Author.Tests.{eq-eqb}
 use Rattle.capabilities.proofs.Choice.{and-left, and-right, both}
 use Rattle.pages.specs.Numbers.{pageCode, frameCode}
 use Rattle.table.specs.Numbers.{rowCode}
+use Rattle.calls.specs.declared.Call.the-variants.{Take}
 use Rattle.machine.specs.Step.{Outcome, stepOf}
+use Rattle.machine.specs.Forgetting.{startBare}
 use Rattle.machine.specs.Edges.{same, all}
-use Rattle.machine.specs.WrongMachines.{Wrong, Rule, Obeys, instead, sweepBy, takeBy, maskBy, plainBy, splitBy, unmapBy, storeBy, collectBy, clearsAll, inventsLeft, inventsLength, pleadsFull, turnsDown, answersAlike, keepsState, releases, tagged, tellsTags, refusalWrites, after, from, lent, splits, machines, numbers, leaves, differs, shown, NoneObeys}
+use Rattle.machine.specs.WrongMachines.{Wrong, Rule, Obeys, instead, sweepBy, takeBy, maskBy, plainBy, splitBy, mergeBy, revokeBy, endBy, unmapBy, storeBy, collectBy, clearsAll, inventsLeft, inventsLength, pleadsFull, takesForNobody, takesForManager, keepsLower, saysSeveral, joinsOwn, revokesForNobody, collectsNoTaker, turnsDown, answersAlike, keepsState, releases, tagged, tellsTags, refusalWrites, after, from, lent, splits, neighbours, machines, numbers, leaves, differs, shown, startRefused, NoneObeys}
 use Rattle.machine.proofs.Computing.{computing}
 
 pub all-shown : all shown machines ≡ true
-unfolding all shown machines differs numbers same instead sweepBy takeBy maskBy plainBy splitBy unmapBy storeBy collectBy clearsAll inventsLeft inventsLength pleadsFull turnsDown answersAlike keepsState releases tagged tellsTags refusalWrites after from lent splits pageCode frameCode rowCode computing
+unfolding all shown machines differs numbers same instead sweepBy takeBy maskBy plainBy splitBy mergeBy revokeBy endBy unmapBy storeBy collectBy clearsAll inventsLeft inventsLength pleadsFull takesForNobody takesForManager keepsLower saysSeveral joinsOwn revokesForNobody collectsNoTaker turnsDown answersAlike keepsState releases tagged tellsTags refusalWrites after from lent splits neighbours pageCode frameCode rowCode computing
 all-shown = refl
+
+-- A fresh table with taker 0: a take that the rule grants from a start is refused under 1.
+pub taker-0-refused : startRefused (Take 0 0 0) ≡ true
+unfolding startRefused startBare computing
+taker-0-refused = refl
 
 -- A list is the same as itself.
 same-self : (l : List ℕ) → same l l ≡ true

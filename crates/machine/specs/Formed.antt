@@ -1,11 +1,13 @@
 -- Document 01, 'Things and their sizes': "A state is well formed if the four lines above hold, V and F are in range,
--- and all unused entries are 0." Registers are in none of those lines. Assumes nothing.
+-- and all unused entries are 0." Registers are in none of those lines. Document 02, 2026-04, asks for takers. Assumes nothing.
 use Prim.Native.Nat.{ℕ}
 use mathlib.Core.Bool.{Bool, _&&_, _||_}
 use lib.ListN.{length, replicate}
 use lib.Dec.{eqb}
 use Rattle.capabilities.specs.Lists.{pick, each}
 use Rattle.pages.specs.Layer.{inRange}
+use Rattle.table.specs.Rows.{live}
+use Rattle.table.specs.Tiling.{takersSound}
 use Rattle.reservations.specs.Revocation.{freshCore, coreSound}
 use Rattle.words.specs.declared.Slot.{Slot}
 use Rattle.words.specs.Words.{empty}
@@ -23,8 +25,13 @@ mailboxesSound s = each mailboxSound 0 (s .mailboxes)
 abbrev pub sized : State → Bool
 sized s = eqb (length (s .registers)) 64 && eqb (length (s .mailboxes)) 8
 
+-- Document 01's lines, which ask for no taker.
+unfoldable pub formedBare : State → Bool
+formedBare s = (coreSound (s .core) && mailboxesSound s) && sized s
+
+-- "A state is not well formed if an Open one's taker isn't 9 or a Taken or Revoking one's is above 8."
 unfoldable pub wellFormed : State → Bool
-wellFormed s = (coreSound (s .core) && mailboxesSound s) && sized s
+wellFormed s = formedBare s && takersSound (live (s .core .table))
 
 abbrev pub answered : ℕ → Slot → State → Answered
 answered code word s = record { code = code; number = word .cell; tag = word .tag; state = s }

@@ -5,6 +5,7 @@ pub mod Roles
 pub mod Reasons
 pub mod Effects
 pub mod Step
+pub mod Forgetting
 pub mod Command
 pub mod Edges
 pub mod WrongMachines

@@ -1,6 +1,5 @@
 -- Document 01, 'The strength of each promise', 3, and 'Missteps that look sound': the wrong machines, as one list, with those of document
--- 02's requests. Each is the rule
--- with one thing changed, has the type of the rule that it replaces, and stands with a state, lent memory and a call for which it
+-- 02's requests. Each is the rule with one thing changed, has the type of the rule that it replaces, and stands with a state, lent memory and a call for which it
 -- leaves something else than the rule. Since every contract is an equation with the rule for every input, no such program can be
 -- proved. Assumes nothing.
 use Prim.Native.Nat.{ℕ, zero, suc, _+_, _-_, _*_}
@@ -22,12 +21,15 @@ use Rattle.pages.specs.Numbers.{pageCode, frameCode}
 use Rattle.sweep.specs.Sweep.{Passed, swept, passing, sweepOf}
 use Rattle.table.specs.Table.{Table, Tabled}
 use Rattle.table.specs.Table.{Taken as Took}
-use Rattle.table.specs.Operations.{tabled, takeOf, splitOf}
+use Rattle.table.specs.declared.Found.{Found}
+use Rattle.table.specs.Rows.{noTaker, severalTakers, reservation}
+use Rattle.table.specs.Find.{findOf, nextOf, revokingOf, rowOf, withRow}
+use Rattle.table.specs.Operations.{tabled, takeOf, splitOf, mergeOf}
 use Rattle.table.specs.Numbers.{numbersOf as rowNumbers}
-use Rattle.reservations.specs.Core.{Core}
-use Rattle.reservations.specs.Revocation.{core, revoked}
+use Rattle.reservations.specs.Core.{Core, Cored}
+use Rattle.reservations.specs.Revocation.{core, revoked, revokeOf, collectOf}
 use Rattle.calls.specs.declared.Call.{Call}
-use Rattle.calls.specs.declared.Call.the-variants.{Take, Split, Revoke, Sweep, Collect, Map, Unmap, Zero, Load, Store, Number, Grant, TakeMasked}
+use Rattle.calls.specs.declared.Call.the-variants.{Take, Split, Merge, Give, Revoke, Sweep, Collect, Map, Unmap, Zero, Load, Store, Number, Grant, TakeMasked}
 use Rattle.calls.specs.Commands.{page, frame, operandsOf}
 use Rattle.calls.specs.Commands.{byteOf as kindOf}
 use Rattle.words.specs.declared.Slot.{Slot}
@@ -39,6 +41,7 @@ use Rattle.machine.specs.Roles.{plainPermissions}
 use Rattle.machine.specs.Reasons.{reads, addressed}
 use Rattle.machine.specs.Effects.{withTable, withPages, taking}
 use Rattle.machine.specs.Step.{Outcome, left, refused, done, withCore, stepOf}
+use Rattle.machine.specs.Forgetting.{startBare}
 use Rattle.machine.specs.Edges.{same}
 
 -- What a step is: the type of the rule `stepOf`.
@@ -88,6 +91,28 @@ splitBy split =
     (λ s c cells tags o.
     let t = split (s .core .table) (operand c 0) (operand c 1) (operand c 2) in
     left (answered (t .code) empty (withCore s (withTable (s .core) (t .table)))) cells tags)
+
+unfoldable pub mergeBy : (Table → ℕ → ℕ → Tabled) → Rule
+mergeBy merge =
+    instead 0x03
+    (λ s c cells tags o.
+    let t = merge (s .core .table) (operand c 0) (operand c 1) in
+    left (answered (t .code) empty (withCore s (withTable (s .core) (t .table)))) cells tags)
+
+-- With another core left by a revoke or a collect, of the type of `revokeOf` or `collectOf`.
+unfoldable pub revokeBy : (Core → ℕ → ℕ → Cored) → Rule
+revokeBy revoke =
+    instead 0x05
+    (λ s c cells tags o.
+    let r = revoke (s .core) (operand c 0) (operand c 1) in
+    left (answered (r .code) empty (withCore s (r .core))) cells tags)
+
+unfoldable pub endBy : (Core → Cored) → Rule
+endBy end =
+    instead 0x07
+    (λ s c cells tags o.
+    let r = end (s .core) in
+    left (answered (r .code) empty (withCore (o .answer .state) (r .core))) cells tags)
 
 unfoldable pub unmapBy : (Pages → VirtualPage → Paged) → Rule
 unmapBy unmap =
@@ -149,6 +174,54 @@ givesPlain mask = bitAnd plainPermissions mask
 -- 01 that still gives 15, as document 01 had it.
 abbrev pub stillAll : ℕ
 stillAll = 15
+
+-- Document 02, 2026-04. A table with another taker in one row.
+abbrev pub withTaker : Table → Found → ℕ → Table
+withTaker t f taker =
+    let r = rowOf t f in
+    withRow t f (reservation (r .base) (r .length) (r .state) (r .holder) taker)
+
+-- A take that writes nobody down, or always the manager.
+abbrev pub takesFor : (ℕ → ℕ) → Table → ℕ → ℕ → Took
+takesFor taker t party base =
+    let took = takeOf t party base in
+    record { code = took .code; length = took .length; table = withTaker (took .table) (findOf t party base) (taker party) }
+
+unfoldable pub takesForNobody : Table → ℕ → ℕ → Took
+takesForNobody = takesFor (λ party. noTaker)
+
+unfoldable pub takesForManager : Table → ℕ → ℕ → Took
+takesForManager = takesFor (λ party. 0)
+
+-- A merge that keeps the lower one's taker, or says several of every two.
+abbrev pub mergesFor : (ℕ → ℕ) → Table → ℕ → ℕ → Tabled
+mergesFor taker t party base =
+    let f = findOf t party base in
+    let m = mergeOf t party base in
+    record { code = m .code; table = withTaker (m .table) f (taker (rowOf t f .taker)) }
+
+unfoldable pub keepsLower : Table → ℕ → ℕ → Tabled
+keepsLower = mergesFor (λ lower. lower)
+
+unfoldable pub saysSeveral : Table → ℕ → ℕ → Tabled
+saysSeveral = mergesFor (λ lower. severalTakers)
+
+-- A merge that joins only what one party took, so that its answer goes by a taker.
+unfoldable pub joinsOwn : Table → ℕ → ℕ → Tabled
+joinsOwn t party base =
+    let f = findOf t party base in
+    pick (eqb (rowOf t f .taker) (rowOf t (nextOf t f) .taker)) (mergeOf t party base) (tabled 7 t t)
+
+-- A revoke and a collect that leave the taker as it was: 9 in the one that was Open, the party's in the one that is.
+abbrev pub leavesIn : Core → Found → Cored → Cored
+leavesIn c f r =
+    record { code = r .code; core = core (r .core .pages) (withTaker (r .core .table) f (rowOf (c .table) f .taker)) (r .core .place) }
+
+unfoldable pub revokesForNobody : Core → ℕ → ℕ → Cored
+revokesForNobody c party base = leavesIn c (findOf (c .table) party base) (revokeOf c party base)
+
+unfoldable pub collectsNoTaker : Core → Cored
+collectsNoTaker c = leavesIn c (revokingOf (c .table)) (collectOf c)
 
 -- "A machine that turns down every call": those that the rule refuses as the rule does, the others under 19.
 unfoldable pub turnsDown : Rule
@@ -234,6 +307,10 @@ unfoldable pub splits : ℕ → ℕ → List Call
 splits base zero = []
 splits base (suc n) = Split 0 base 1 ∷ splits (base + 1) n
 
+-- Party 0 takes cells 0 to 15, and a party, given them, 16 to 31.
+unfoldable pub neighbours : ℕ → List Call
+neighbours party = Split 0 0 16 ∷ Give 0 16 party ∷ Take 0 0 0 ∷ Take party 16 1 ∷ []
+
 unfoldable pub machines : List Wrong
 machines =
     -- The six that must be unprovable.
@@ -255,7 +332,15 @@ machines =
     -- Plain permissions on take.
     ∷ entry maskBy givesAll permitted (from 2 []) (TakeMasked 0 0 0 0xFF)
     ∷ entry maskBy givesPlain permitted (from 2 []) (TakeMasked 0 0 0 0x0F)
-    ∷ entry plainBy stillAll plainPermissions (from 2 []) (Take 0 0 0) ∷ []
+    ∷ entry plainBy stillAll plainPermissions (from 2 []) (Take 0 0 0)
+    -- Who took it, written down.
+    ∷ entry takeBy takesForNobody takeOf (from 2 []) (Take 0 0 0)
+    ∷ entry takeBy takesForManager takeOf (from 2 (Give 0 0 3 ∷ [])) (Take 3 0 0)
+    ∷ entry mergeBy keepsLower mergeOf (from 2 (neighbours 3)) (Merge 0 0)
+    ∷ entry mergeBy saysSeveral mergeOf (from 2 (neighbours 0)) (Merge 0 0)
+    ∷ entry mergeBy joinsOwn mergeOf (from 2 (neighbours 3)) (Merge 0 0)
+    ∷ entry revokeBy revokesForNobody revokeOf (from 2 []) (Revoke 0 0)
+    ∷ entry endBy collectsNoTaker collectOf (from 2 (revoking 16)) (Collect 0) ∷ []
 
 -- All numbers of an outcome, so that outcomes with different numbers differ.
 unfoldable pub numbers : Outcome → List ℕ
@@ -280,6 +365,10 @@ differs m w = not (same (numbers (leaves m w)) (numbers (leaves stepOf w)))
 -- never does is proved in `Shapes`).
 unfoldable pub shown : Wrong → Bool
 shown w = differs (w .wrong) w && not (differs (w .right) w)
+
+-- A start whose table has taker 0 is no start: its state is not well formed, and every call on it is refused.
+unfoldable pub startRefused : Call → Bool
+startRefused c = eqb (stepOf (startBare 2 1 .state) c (replicate 16 0) (replicate 16 0) .answer .code) 1
 
 -- None of the wrong machines obeys the rule.
 unfoldable pub NoneObeys : List Wrong → Type 0

@@ -91,7 +91,7 @@ module _ (m : Machine) (take : Call) (house base reg permissions : ℕ) (is : Is
   taken-housed : Housed house r (after m (taking (m .state .core) house base reg permissions))
   unfolding after registersAfter mailboxesAfter cellsAfter tagsAfter mailboxOf
   taken-housed =
-      let row = row-first (m .state .core .table) (takeOf (m .state .core .table) house base .table) house base (w .row) 1 (takenRow (rowAt (m .state .core .table) (w .row))) [] (w .replaced) in
+      let row = row-first (m .state .core .table) (takeOf (m .state .core .table) house base .table) house base (w .row) 1 (takenRow (rowAt (m .state .core .table) (w .row)) house) [] (w .replaced) in
       record {
         some = row-long (m .state .core) ok (w .row) (w .used);
         around =

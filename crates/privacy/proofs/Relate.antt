@@ -57,6 +57,7 @@ alike house t g h r =
       registers = r .others;
       mailboxes = λ p n. ap (λ l. mailboxOf l p) (r .mail);
       cells = λ v n. see v n (lookupOf (g .state .core .pages) v) refl;
+      takers = ap (λ k. map (λ row. row .taker) (k .table .rows)) (r .core);
     }
   where
     at-once : (v : ℕ) (x : Place) → lookupOf (g .state .core .pages) v ≡ x → sightAt x (g .cells) (g .tags) ≡ sightAt x (h .cells) (h .tags) → sight g v ≡ sight h v

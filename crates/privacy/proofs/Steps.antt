@@ -40,12 +40,12 @@ use Rattle.privacy.proofs.Relate.{Rel}
 use Rattle.privacy.proofs.Sides.{fits-deed, register-safe, quiet, mailbox-safe, memory-safe, aimed-inside, store-once}
 use Rattle.privacy.proofs.Tables.{around-after}
 use Rattle.privacy.proofs.Words.{put-own}
+use Rattle.machine.proofs.Keeps.{facts}
 
 -- What a granted call found.
 module _ (m : Machine) (c : Call) (k : Granted m c) where
   pub granted-core : coreSound (m .state .core) ≡ true
-  unfolding wellFormed
-  granted-core = and-left (coreSound (m .state .core)) (mailboxesSound (m .state)) (and-left (coreSound (m .state .core) && mailboxesSound (m .state)) (sized (m .state)) (k .formed))
+  granted-core = facts (m .state) (k .formed) .core
 
   pub granted-layer : Sound (m .state .core .pages)
   granted-layer = sound (m .state .core .pages) (core-facts (m .state .core) granted-core .layer)

@@ -46,7 +46,7 @@ use Rattle.privacy.specs.Rule.{contains, collecting, into}
 use Rattle.privacy.proofs.House.{Apart, into-cell}
 
 abbrev pub Surrounds : Table → Range → Type 0
-Surrounds t r = Around t (reservation (r .base) (r .length) Taken 0)
+Surrounds t r = Around t (reservation (r .base) (r .length) Taken 0 0)
 
 around-more : (t u : Table) (r : Range) → Carried t u → Surrounds t r → Surrounds u r
 around-more t u r k a = let b : Around u (rowAt t (a .row)) = k .kept (a .row) (a .used) (a .lent) in record { row = b .row; used = b .used; lent = b .lent; from = omega (arith, b .from, a .from); upto = omega (arith, b .upto, a .upto) }
@@ -83,7 +83,7 @@ module _ (k : Core) (ok : coreSound k ≡ true) where
     pub begins : rowAt t row .base ≡ base
     pub long : takeOf t p base .length ≡ rowAt t row .length
     pub named : rowOf t (findOf t p base) ≡ rowAt t row
-    pub replaced : Replaced t (takeOf t p base .table) p base row 1 (takenRow (rowAt t row) ∷ [])
+    pub replaced : Replaced t (takeOf t p base .table) p base row 1 (takenRow (rowAt t row) p ∷ [])
 
   pub takes : (p base : ℕ) → first (takeReasons t p base) ≡ 0 → Takes p base
   takes p base z =

@@ -20,7 +20,7 @@ use Rattle.reservations.specs.Revocation.{revoked, coreSound}
 use Rattle.calls.specs.declared.Call.{Call}
 use Rattle.words.specs.declared.Slot.{Slot}
 use Rattle.words.specs.Words.{empty, registerOf}
-use Rattle.machine.specs.Formed.{wellFormed, mailboxesSound, mailboxSound}
+use Rattle.machine.specs.Formed.{wellFormed, mailboxesSound, mailboxSound, formedBare}
 use Rattle.machine.specs.Roles.{Sources, fromNone, fromOne, fromTwo, Role, takes, collects, fills, stores, grants, plain, Asked, roleOf, callerOf, sourcesOf}
 use Rattle.machine.specs.Reasons.{Reads, reading, wordsIn, reads, reasons}
 use Rattle.machine.specs.Effects.{Effect}
@@ -37,6 +37,8 @@ use Rattle.privacy.proofs.Relate.{Rel, FetchSame, answer-same, effect-r
 use Rattle.privacy.proofs.Sides.{fits-deed, outside}
 use Rattle.privacy.proofs.Steps.{granted-core, granted-layer, granted-cells, granted-tags, granted-next, refused-test, Ok}
 use Rattle.privacy.proofs.Tables.{collect-hides}
+use Rattle.table.specs.Rows.{live}
+use Rattle.table.specs.Tiling.{takersSound}
 
 -- A call reads equal registers if those of its caller are equal.
 words-same : (l m : List Slot) (p : ℕ) (from : Sources) → ((d : ℕ) → registerOf l p d ≡ registerOf m p d) → wordsIn l p from ≡ wordsIn m p from
@@ -47,10 +49,11 @@ words-same l m p (fromTwo a s) e = ap (λ w. reading w (registerOf l p s)) (e a)
 -- The code, by what it depends on.
 unfoldable codeBy : Core → List Slot → ℕ → ℕ → ℕ → Reads → Call → ℕ
 codeBy k mail registers cells tags r c =
-    pick ((coreSound k && each mailboxSound 0 mail) && (eqb registers 64 && eqb (length mail) 8)) (pick (serves (k .pages) cells tags) (first (reasons k mail r c)) 2) 1
+    pick (((coreSound k && each mailboxSound 0 mail) && (eqb registers 64 && eqb (length mail) 8)) && takersSound (live (k .table)))
+    (pick (serves (k .pages) cells tags) (first (reasons k mail r c)) 2) 1
 
 code-by : (m : Machine) (c : Call) → codeOf m c ≡ codeBy (m .state .core) (m .state .mailboxes) (length (m .state .registers)) (length (m .cells)) (length (m .tags)) (reads (m .state .registers) c) c
-unfolding codeOf codeBy wellFormed mailboxesSound
+unfolding codeOf codeBy wellFormed formedBare mailboxesSound
 code-by m c = refl
 
 -- Whether the time ends depends on the code and the core.

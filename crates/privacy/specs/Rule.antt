@@ -2,7 +2,7 @@
 -- of call (machine, Roles). Assumes nothing.
 use Prim.Native.Nat.{ℕ, _+_}
 use mathlib.Core.Bool.{Bool, true, false, not, _&&_, _||_}
-use mathlib.Core.List.{List, [], _∷_}
+use mathlib.Core.List.{List, [], _∷_, map}
 use mathlib.Core.Path.{_≡_}
 use lib.Dec.{eqb, ltb, leb}
 use Rattle.capabilities.specs.declared.Range.{Range}
@@ -180,9 +180,14 @@ unfoldable pub hidden : Time → ℕ → Bool
 hidden (lasting r) v = inside r v
 hidden over v = false
 
+-- Document 02, 2026-04: who took each of the table's reservations.
+abbrev pub takersIn : Machine → List ℕ
+takersIn m = map (λ r. r .taker) (m .state .core .table .rows)
+
 -- "Compared after both lists are: .. the registers and mailbox of each other party; which cells outside the range lie in
--- Mapped pages, with number and tag; and, if the collect came, the same inside the range."
+-- Mapped pages, with number and tag; and, if the collect came, the same inside the range." By document 02, "takers are equal too".
 pub record Alike (house : ℕ) (t : Time) (g h : Machine) : Type 0 where
   pub registers : (p r : ℕ) → (p ≡ house → ⊥) → registerOf (g .state .registers) p r ≡ registerOf (h .state .registers) p r
   pub mailboxes : (p : ℕ) → (p ≡ house → ⊥) → mailboxOf (g .state .mailboxes) p ≡ mailboxOf (h .state .mailboxes) p
   pub cells : (v : ℕ) → hidden t v ≡ false → sight g v ≡ sight h v
+  pub takers : takersIn g ≡ takersIn h

@@ -3,3 +3,5 @@ pub mod Revocations
 pub mod Starts
 pub mod Refused
 pub mod CoreAfter
+pub mod Takers
+pub mod Forgetting

@@ -14,7 +14,7 @@ use Rattle.pages.specs.Layer.{inRange, blank as blankPages, freshOf}
 use Rattle.pages.proofs.Kept.{fresh-formed}
 use Rattle.table.specs.declared.Reservation.{Reservation}
 use Rattle.table.specs.declared.ReservationState.the-variants.{Open}
-use Rattle.table.specs.Rows.{blank, live, reservation, table}
+use Rattle.table.specs.Rows.{blank, live, reservation, table, noTaker}
 use Rattle.table.specs.Tiling.{tiles, allBlank, revokings, tableSound, freshTable}
 use Rattle.table.proofs.Tiled.{tiles-made, row-open}
 use Rattle.table.proofs.Sound.{made-sound, live-made}
@@ -22,15 +22,15 @@ use Rattle.table.proofs.Dying.{dyings}
 use Rattle.reservations.specs.Revocation.{freshCore, coreSound}
 use Rattle.reservations.proofs.CoreKept.{core-made, dyingSound, dying-sound}
 
-abbrev whole : ℕ → Reservation
-whole cells = reservation 0 cells Open 0
+abbrev pub whole : ℕ → Reservation
+whole cells = reservation 0 cells Open 0 noTaker
 
-fresh-is : (cells : ℕ) → 0 < cells → freshTable cells ≡ table (whole cells ∷ replicate 63 blank) 1
+pub fresh-is : (cells : ℕ) → 0 < cells → freshTable cells ≡ table (whole cells ∷ replicate 63 blank) 1
 unfolding freshTable
 fresh-is cells h = pick-no (eqb cells 0) (table (replicate 64 blank) 0) (table (whole cells ∷ replicate 63 blank) 1) (ne-eqb cells 0 (λ z. omega arith))
 
 whole-tiles : (cells : ℕ) → 0 < cells → tiles 0 cells (whole cells ∷ []) ≡ true
-whole-tiles cells h = tiles-made 0 cells (whole cells) [] refl (row-open 0 cells 0 refl h) (unfold tiles in eq-eqb (0 + cells) cells (zero-add cells))
+whole-tiles cells h = tiles-made 0 cells (whole cells) [] refl (row-open 0 cells 0 noTaker refl h) (unfold tiles in eq-eqb (0 + cells) cells (zero-add cells))
 
 pub table-fresh : (cells : ℕ) → 0 < cells → tableSound cells (freshTable cells) ≡ true
 table-fresh cells h =

@@ -16,13 +16,17 @@ use Rattle.table.specs.declared.Reservation.{Reservation}
 use Rattle.table.specs.declared.ReservationState.the-variants.{Open, Revoking}
 use Rattle.table.specs.Table.{Table}
 use Rattle.table.specs.declared.Found.{Found}
-use Rattle.table.specs.Rows.{isRevoking, reservation, rangeOf}
+use Rattle.table.specs.Rows.{isOpen, isRevoking, noTaker, reservation, rangeOf, forgetTable}
 use Rattle.table.specs.Find.{missing, findOf, revokingOf, rowOf, withRow}
 use Rattle.table.specs.Tiling.{tableSound, freshTable}
 use Rattle.reservations.specs.Core.{Core, Cored}
 
 abbrev pub core : Pages → Table → ℕ → Core
 core pages table place = record { pages = pages; table = table; place = place }
+
+-- A core without takers.
+abbrev pub forgetCore : Core → Core
+forgetCore c = core (c .pages) (forgetTable (c .table)) (c .place)
 
 -- "A fresh start, given V and F, has one Open reservation held by party 0"; all is 0 for V or F out of range.
 unfoldable pub freshCore : ℕ → ℕ → Core
@@ -59,8 +63,12 @@ revokeReasonsAt c f =
 unfoldable pub revokeReasons : Core → ℕ → ℕ → List Reason
 revokeReasons c party base = revokeReasonsAt c (findOf (c .table) party base)
 
+-- Document 02, 2026-04: the taker of a Taken one stays; "revoking an Open one sets 0".
+abbrev pub revokingTaker : Reservation → ℕ
+revokingTaker r = pick (isOpen (r .state)) 0 (r .taker)
+
 abbrev pub revokingRow : Reservation → Reservation
-revokingRow r = reservation (r .base) (r .length) Revoking 0
+revokingRow r = reservation (r .base) (r .length) Revoking 0 (revokingTaker r)
 
 -- "Becomes Revoking, its Unmapped pages Freed, sweep place 0."
 unfoldable pub revokeAt : Core → Found → Core
@@ -76,7 +84,7 @@ unfoldable pub collectReasons : Core → List Reason
 collectReasons c = reason 11 (not (running c) || not (leb (16 * c .pages .f) (c .place))) ∷ []
 
 abbrev pub collectedRow : Reservation → Reservation
-collectedRow r = reservation (r .base) (r .length) Open 0
+collectedRow r = reservation (r .base) (r .length) Open 0 noTaker
 
 -- "Its pages become Unmapped; the reservation is Open, holder 0."
 unfoldable pub collected : Core → Core

@@ -2,9 +2,10 @@
 use capabilities::Range;
 use table::Reservation;
 use table::ReservationState;
+use table::row::is_open;
 ghost use mathlib.Core.Path.{_≡_};
 ghost use Rattle.table.specs.Rows.{rangeOf};
-ghost use Rattle.reservations.specs.Revocation.{wholePages, revokingRow, collectedRow};
+ghost use Rattle.reservations.specs.Revocation.{wholePages, revokingTaker, revokingRow, collectedRow};
 
 pub fn range_of(row: Reservation) -> Range
     ensures { λ r. ⌜ r ≡ rangeOf row ⌝ }
@@ -21,6 +22,14 @@ pub fn whole_pages(row: Reservation) -> bool
     (row.base % 16 == 0) & (row.length % 16 == 0)
 }
 
+// The taker of a Taken one stays; an Open one had none, and gets 0.
+pub fn revoking_taker(row: Reservation) -> u8
+    ensures { λ r. ⌜ r ≡ revokingTaker row ⌝ }
+{
+    let state = row.state;
+    if is_open(state) { 0 } else { row.taker }
+}
+
 pub fn revoking_row(row: Reservation) -> Reservation
     ensures { λ r. ⌜ r ≡ revokingRow row ⌝ }
 {
@@ -29,6 +38,7 @@ pub fn revoking_row(row: Reservation) -> Reservation
         length: row.length,
         state: ReservationState::Revoking,
         holder: 0,
+        taker: revoking_taker(row),
     }
 }
 
@@ -40,5 +50,6 @@ pub fn collected_row(row: Reservation) -> Reservation
         length: row.length,
         state: ReservationState::Open,
         holder: 0,
+        taker: 9,
     }
 }

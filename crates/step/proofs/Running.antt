@@ -30,7 +30,7 @@ use Rattle.session_rules.specs.Session.{ending, zeroed, linesFrom}
 use Rattle.session_rules.proofs.Sessions as sessions
 use Rattle.session_rules.proofs.Sessions.{Going, going-none, going-all, goes-on, take-zeroed}
 use Rattle.step.specs.Entries.{Told, telling, toldOf, commandJudgedOn}
-use Rattle.step.proofs.Starting.{begun, fresh-in}
+use Rattle.step.proofs.Starting.{begun, firstNumber, fresh-in}
 
 -- What a command on arrays leaves, said as the session says it.
 abbrev pub commanded : Answer → Arrays → ℕ → Commanded
@@ -170,7 +170,7 @@ module _ {input : List ℕ} {a₀ : Arrays} {cells₀ tags₀ out₀ : List ℕ}
 -- The arrays of a start that is granted.
 module _ (v f : ℕ) (e : inRange v f ≡ true) where
   abbrev first-arrays : Arrays
-  first-arrays = begun v f 1 (set (replicate 64 0) 0 (1048576 * v))
+  first-arrays = begun v f 1 (set (replicate 64 0) 0 (firstNumber v))
 
   fresh-well : wellFormed (fresh v f) ≡ true
   unfolding startOf

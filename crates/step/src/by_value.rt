@@ -54,7 +54,7 @@ impl State {
     {
         let mut rows = [0u64; 64];
         if in_range(v, f) {
-            rows[0] = 1048576 * (v as u64);
+            rows[0] = 1048576 * (v as u64) + 2533274790395904;
             let nums = Numbers {
                 v,
                 f,

@@ -142,7 +142,7 @@ fn started(checked: bool, v: u16, f: u16, input: &[u8], begin: usize, out: &mut 
     let mut rows = [0u64; 64];
     let mut pages = [0u16; 256];
     let mut frames = [0u8; 128];
-    rows[0] = 1048576 * (v as u64);
+    rows[0] = 1048576 * (v as u64) + 2533274790395904;
     let nums = Numbers {
         v,
         f,

@@ -62,11 +62,11 @@ module _ (cells : ℕ) (t : Table) (ok : tableSound cells t ≡ true) (party bas
   with-after Nowhere n e m o = absurd (true≢false m)
 
   pub take-after : takeOf t party base .code ≡ 0
-      → (i : ℕ) × (isOpen (getD (live t) i blank .state) ≡ true) × Replaced t (takeOf t party base .table) party base i 1 (takenRow (getD (live t) i blank) ∷ [])
+      → (i : ℕ) × (isOpen (getD (live t) i blank .state) ≡ true) × Replaced t (takeOf t party base .table) party base i 1 (takenRow (getD (live t) i blank) party ∷ [])
   unfolding takeOf takeReasons
   take-after z =
       let k = open-clear f (rowOf t f) z in
-      let (i, o, r) = with-after f takenRow refl (k .0) (k .1) in
+      let (i, o, r) = with-after f (λ r. takenRow r party) refl (k .0) (k .1) in
       (i, o, moved (pick-yes _ _ t (eq-eqb _ 0 z)) r)
 
   pub give-after : (to : ℕ) → giveOf t party base to .code ≡ 0
@@ -139,7 +139,7 @@ given-own t party base (At i) e =
     let r = getD (t .rows) i blank in
     let here = found-at (begins party base) (live t) i blank (unfold findOf in e) in
     let own : held r party ≡ true = sym (ap (λ x. held x party) (live-at t i blank (here .0))) ∙ and-right (eqb (getD (live t) i blank .base) base) (held (getD (live t) i blank) party) (here .1) in
-    ap (λ h. table (set (t .rows) i (reservation (r .base) (r .length) (r .state) h)) (t .count)) (sym (eqb-true (r .holder) party own))
+    ap (λ h. table (set (t .rows) i (reservation (r .base) (r .length) (r .state) h (r .taker))) (t .count)) (sym (eqb-true (r .holder) party own))
     ∙ ap (λ l. table l (t .count)) (set-getD (t .rows) i blank)
 given-own t party base Nowhere e = refl
 

@@ -21,7 +21,7 @@ use Rattle.table.specs.declared.Found.{Found}
 use Rattle.table.specs.declared.Found.the-variants.{At, Nowhere}
 use Rattle.table.specs.Rows.{isOpen, isBlank, held, live, table, blank, splice, spread, gather}
 use Rattle.table.specs.Find.{seek, rowOf, findOf, begins, nextOf, missing}
-use Rattle.table.specs.Tiling.{allBlank, tableSound}
+use Rattle.table.specs.Tiling.{allBlank, tableSound, takerSound, takersSound}
 use Rattle.table.specs.Operations.{tabled, badSplit, full, lowerPart, upperPart, splitReasonsAt, splitReasons, splitAt, splitOf}
 use Rattle.table.specs.Operations.{alike, joined, mergeable, mergeReasonsAt, mergeReasons, mergeAt, mergeOf}
 use Rattle.table.proofs.Truth.{both, or-right}
@@ -31,24 +31,26 @@ use Rattle.table.proofs.Answers.{Splits, split-clear, merge-clear, merg
 use Rattle.table.proofs.Tiled.{tiled-row, tiled-next, tiled-fits, row-some}
 use Rattle.table.proofs.Sound.{Sound, sound, live-made, rows-parts}
 use Rattle.table.proofs.Kept.{cut-one, cut-two, row-live}
-
-same-row : (r s : Reservation) → r .base ≡ s .base → r .length ≡ s .length → r .state ≡ s .state → r .holder ≡ s .holder → r ≡ s
-same-row r s a b c d = λ i. record { base = a i; length = b i; state = c i; holder = d i }
+use Rattle.table.proofs.Numbers.{same-row}
+use Rattle.table.proofs.Takers.{open-taker, both-open, takers-row}
 
 open-is : (s : ReservationState) → isOpen s ≡ true → s ≡ Open
 open-is Open e = refl
 open-is Taken e = absurd (false≢true e)
 open-is Revoking e = absurd (false≢true e)
 
-blank-is : (r : Reservation) → isBlank r ≡ true → r ≡ blank
+-- An unused row is all 0.
+pub blank-is : (r : Reservation) → isBlank r ≡ true → r ≡ blank
 blank-is r e =
-    let a = and-left (isOpen (r .state) && eqb (r .holder) 0) (eqb (r .base) 0 && eqb (r .length) 0) e in
-    let b = and-right (isOpen (r .state) && eqb (r .holder) 0) (eqb (r .base) 0 && eqb (r .length) 0) e in
+    let front = (isOpen (r .state) && eqb (r .holder) 0) && (eqb (r .base) 0 && eqb (r .length) 0) in
+    let all = and-left front (eqb (r .taker) 0) e in
+    let a = and-left (isOpen (r .state) && eqb (r .holder) 0) (eqb (r .base) 0 && eqb (r .length) 0) all in
+    let b = and-right (isOpen (r .state) && eqb (r .holder) 0) (eqb (r .base) 0 && eqb (r .length) 0) all in
     let state = open-is (r .state) (and-left (isOpen (r .state)) (eqb (r .holder) 0) a) in
     let holder = eqb-true (r .holder) 0 (and-right (isOpen (r .state)) (eqb (r .holder) 0) a) in
     let base = eqb-true (r .base) 0 (and-left (eqb (r .base) 0) (eqb (r .length) 0) b) in
     let size = eqb-true (r .length) 0 (and-right (eqb (r .base) 0) (eqb (r .length) 0) b) in
-    same-row r blank base size state holder
+    same-row r blank base size state holder (eqb-true (r .taker) 0 (and-right front (eqb (r .taker) 0) e))
 
 -- A table once the row at i has become x and y; gathered again, it is the table as it was.
 module _ (cells : ℕ) (t : Table) (s : Sound cells t) (i : ℕ) (h : i < length (live t)) (x y : Reservation) where
@@ -189,19 +191,12 @@ next-again t u i ys x y h now =
     )
 
 -- A reservation's two parts joined are the reservation, and its parts are the two that were joined.
-rejoined : (r : Reservation) (len : ℕ) → r .length < 65536 → isOpen (r .state) ≡ true → badSplit r len ≡ false → joined (lowerPart r len) (upperPart r len) ≡ r
-rejoined r len n o e =
+rejoined : (r : Reservation) (len : ℕ) → r .length < 65536 → isOpen (r .state) ≡ true → takerSound r ≡ true → badSplit r len ≡ false → joined (lowerPart r len) (upperPart r len) ≡ r
+rejoined r len n o k e =
     let below = leb-false (r .length) len (or-right (eqb len 0) (leb (r .length) len) e) in
-    same-row (joined (lowerPart r len) (upperPart r len)) r refl (omega arith) (sym (open-is (r .state) o)) refl
+    same-row (joined (lowerPart r len) (upperPart r len)) r refl (omega arith) (sym (open-is (r .state) o)) refl (sym (open-taker r o k))
 
-alike-open : (a b : ReservationState) → isOpen a ≡ true → alike a b ≡ true → isOpen b ≡ true
-alike-open Open Open o e = refl
-alike-open Open Taken o e = e
-alike-open Open Revoking o e = e
-alike-open Taken b o e = absurd (false≢true o)
-alike-open Revoking b o e = absurd (false≢true o)
-
-module _ (cells : ℕ) (t : Table) (ok : tableSound cells t ≡ true) (fits : cells < 65536) (party base : ℕ) where
+module _ (cells : ℕ) (t : Table) (ok : tableSound cells t ≡ true) (takers : takersSound (live t) ≡ true) (fits : cells < 65536) (party base : ℕ) where
   merge-split-at : (len i : ℕ) → findOf t party base ≡ At i → Splits t (At i) len → mergeOf (splitAt t (At i) len) party base ≡ done t
   unfolding splitAt mergeable mergeAt
   merge-split-at len i e k =
@@ -231,7 +226,7 @@ module _ (cells : ℕ) (t : Table) (ok : tableSound cells t ≡ true) (fits : ce
       ∙ merge-granted u party base i again may
       ∙ ap done
       (ap (λ x. gather u i (joined x (rowOf u (nextOf u (At i))))) low ∙ ap (λ x. gather u i (joined lo x)) high
-      ∙ ap (gather u i) (rejoined r len short still fit)
+      ∙ ap (gather u i) (rejoined r len short still (takers-row (live t) i takers h) fit)
       ∙ gather-spread cells t s i h lo up (leb-false 64 (t .count) (k .room)))
 
   -- Merge after split gives back the table to the bit.
@@ -274,12 +269,13 @@ module _ (cells : ℕ) (t : Table) (ok : tableSound cells t ≡ true) (fits : ce
       let open-r : isOpen (r .state) ≡ true = sym (ap (λ x. isOpen (x .state)) row) ∙ o in
       let rest = and-right (not (missing (nextOf t (At i)))) (held (rowOf t (nextOf t (At i))) party && alike (rowOf t (At i) .state) (rowOf t (nextOf t (At i)) .state)) m in
       let both-held : held s party ≡ true = sym (ap (λ x. held x party) above) ∙ and-left (held (rowOf t (nextOf t (At i))) party) (alike (rowOf t (At i) .state) (rowOf t (nextOf t (At i)) .state)) rest in
-      let both-open : alike (r .state) (s .state) ≡ true =
+      let both-alike : alike (r .state) (s .state) ≡ true =
       sym (ap (λ x. alike (rowOf t (At i) .state) (x .state)) above ∙ ap (λ x. alike (x .state) (s .state)) row)
       ∙ and-right (held (rowOf t (nextOf t (At i))) party) (alike (rowOf t (At i) .state) (rowOf t (nextOf t (At i)) .state)) rest in
       let holder : r .holder ≡ s .holder = eqb-true (r .holder) party (and-right (eqb (r .base) base) (held r party) (found .1)) ∙ sym (eqb-true (s .holder) party both-held) in
-      let lo : lowerPart j (r .length) ≡ r = same-row (lowerPart j (r .length)) r refl refl (sym (open-is (r .state) open-r)) refl in
-      let up : upperPart j (r .length) ≡ s = same-row (upperPart j (r .length)) s (omega arith) (omega arith) (sym (open-is (s .state) (alike-open (r .state) (s .state) open-r both-open))) holder in
+      let open-s = both-open (r .state) (s .state) both-alike open-r in
+      let lo : lowerPart j (r .length) ≡ r = same-row (lowerPart j (r .length)) r refl refl (sym (open-is (r .state) open-r)) refl (sym (open-taker r open-r (takers-row (live t) i takers h))) in
+      let up : upperPart j (r .length) ≡ s = same-row (upperPart j (r .length)) s (omega arith) (omega arith) (sym (open-is (s .state) open-s)) holder (sym (open-taker s open-s (takers-row (live t) (i + 1) takers b))) in
       let fit : badSplit j (r .length) ≡ false =
       ap (λ x. x || leb (j .length) (r .length)) (ne-eqb (r .length) 0 (λ z. omega arith)) ∙ lt-leb (j .length) (r .length) (omega arith) in
       let room : full u ≡ false = lt-leb 64 (u .count) (unfold gather in omega (arith, w)) in

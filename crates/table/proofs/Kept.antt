@@ -18,7 +18,7 @@ use Rattle.table.specs.declared.ReservationState.the-variants.{Open, Tak
 use Rattle.table.specs.Table.{Table}
 use Rattle.table.specs.declared.Found.{Found}
 use Rattle.table.specs.declared.Found.the-variants.{At, Nowhere}
-use Rattle.table.specs.Rows.{isOpen, isRevoking, isBlank, live, table, blank, splice, spread, gather}
+use Rattle.table.specs.Rows.{isOpen, isRevoking, isBlank, noTaker, live, table, blank, splice, spread, gather}
 use Rattle.table.specs.Find.{withRow, rowOf, findOf, begins, nextOf}
 use Rattle.table.specs.Tiling.{rowSound, tiles, allBlank, revokings, weight, tableSound}
 use Rattle.table.specs.Operations.{openReasons, takeReasons, takenRow, takeOf, giveReasons, givenRow, giveOf}
@@ -107,8 +107,8 @@ module _ (cells : ℕ) (fits : cells < 65536) where
       let base : (r .base + len) % 65536 ≡ m + len = omega (arith, g) in
       let size : m + len + (r .length - len) ≡ m + r .length = omega arith in
       let holder = row-holder r (g .row) in
-      tiles-made m cells (lowerPart r len) (upperPart r len ∷ q) (g .base) (row-open (r .base) len (r .holder) holder a)
-      (tiles-made (m + len) cells (upperPart r len) q base (row-open ((r .base + len) % 65536) (r .length - len) (r .holder) holder (omega arith))
+      tiles-made m cells (lowerPart r len) (upperPart r len ∷ q) (g .base) (row-open (r .base) len (r .holder) noTaker holder a)
+      (tiles-made (m + len) cells (upperPart r len) q base (row-open ((r .base + len) % 65536) (r .length - len) (r .holder) noTaker holder (omega arith))
       (subst (λ k. tiles k cells q ≡ true) (sym size) (g .rest)))
 
   pub join-tiles : (r s : Reservation) (m : ℕ) (q : List Reservation) → tiles m cells (r ∷ s ∷ q) ≡ true → tiles m cells (joined r s ∷ q) ≡ true
@@ -117,7 +117,7 @@ module _ (cells : ℕ) (fits : cells < 65536) where
       let k = tiles-begin (m + r .length) cells s q (g .rest) in
       let n : (r .length + s .length) % 65536 ≡ r .length + s .length = omega (arith, g, k) in
       let size : m + r .length + s .length ≡ m + (r .length + s .length) % 65536 = omega arith in
-      tiles-made m cells (joined r s) q (g .base) (row-resized r (r .base) ((r .length + s .length) % 65536) (g .row) (omega (arith, g)))
+      tiles-made m cells (joined r s) q (g .base) (row-resized r (joined r s) (g .row) refl refl (omega (arith, g)))
       (subst (λ j. tiles j cells q ≡ true) size (k .rest))
 
 -- A row that was found, and that is named with its table's rows or with those in use.
@@ -125,8 +125,8 @@ pub row-live : (t : Table) (i : ℕ) → i < length (live t) → rowOf t (At i) 
 unfolding rowOf
 row-live t i h = sym (live-at t i blank h)
 
-taken-sound : (r : Reservation) → rowSound r ≡ true → rowSound (takenRow r) ≡ true
-taken-sound r e = both (ltb 0 (r .length) && true) true (both (ltb 0 (r .length)) true (lt-ltb 0 (r .length) (row-some r e)) refl) refl
+taken-sound : (r : Reservation) (party : ℕ) → rowSound r ≡ true → rowSound (takenRow r party) ≡ true
+taken-sound r party e = both (ltb 0 (r .length) && true) true (both (ltb 0 (r .length)) true (lt-ltb 0 (r .length) (row-some r e)) refl) refl
 
 pub open-still : (s : ReservationState) → isOpen s ≡ true → isRevoking s ≡ false
 open-still Open e = refl
@@ -191,8 +191,8 @@ module _ (cells : ℕ) (t : Table) (ok : tableSound cells t ≡ true) where
   unfolding takeOf
   take-kept party base =
       let f = findOf t party base in
-      pick-kept (first (takeReasons t party base)) (withRow t f (takenRow (rowOf t f)))
-      (λ z. with-kept party base f (takenRow (rowOf t f)) refl refl refl refl (taken-sound (rowOf t f)))
+      pick-kept (first (takeReasons t party base)) (withRow t f (takenRow (rowOf t f) party))
+      (λ z. with-kept party base f (takenRow (rowOf t f) party) refl refl refl refl (taken-sound (rowOf t f) party))
 
   pub give-kept : (party base to : ℕ) → to ≤ 7 → tableSound cells (giveOf t party base to .table) ≡ true
   unfolding giveOf giveReasons

@@ -1,22 +1,23 @@
 -- What a call leaves: refused, granted, or of a slice that does not fit. Assumes nothing.
 use Prim.Native.Nat.{ℕ, _+_, _-_, _<_, _≤_}
 use native.Mathlib.Omega.{arith}
-use mathlib.Core.Bool.{true, false, true≢false}
+use mathlib.Core.Bool.{Bool, true, false, true≢false}
 use mathlib.Core.List.{List}
 use mathlib.Core.Path.{_≡_, refl, sym, ap, subst, _∙_}
 use borrow.Author.Tests.{eq-eqb, ne-eqb, leb-false}
 use lib.ListN.{length, getD}
 use lib.Dec.{eqb}
 use Rattle.capabilities.specs.Refusals.{first}
+use Rattle.capabilities.specs.Lists.{pick}
 use Rattle.capabilities.proofs.Choice.{pick-yes, pick-no}
 use Rattle.table.specs.declared.Reservation.{Reservation}
 use Rattle.table.specs.Table.{Table}
 use Rattle.table.specs.Table.{Tabled}
 use Rattle.table.specs.declared.Found.{Found}
 use Rattle.table.specs.declared.Found.the-variants.{At, Nowhere}
-use Rattle.table.specs.Rows.{live, blank, table}
+use Rattle.table.specs.Rows.{live, blank, table, severalTakers}
 use Rattle.table.specs.Find.{missing, rowOf, withRow, findOf, nextOf, begins}
-use Rattle.table.specs.Operations.{tabled, takenRow, givenRow, lowerPart, upperPart, joined, splitAt, mergeAt, mergeable, splitReasonsAt, mergeReasonsAt}
+use Rattle.table.specs.Operations.{tabled, takenRow, givenRow, lowerPart, upperPart, joinedTaker, joined, splitAt, mergeAt, mergeable, splitReasonsAt, mergeReasonsAt}
 use Rattle.table.proofs.Answers.{granted, refused, Splits}
 use Rattle.table.proofs.Finding.{found-at, next-below}
 use Rattle.table.specs.Numbers.{rowCode, tableOf, allWritten}
@@ -49,22 +50,29 @@ left-unfit l count rule h =
 -- Every row of a table read from numbers, and every row that a call makes of it, has fields of their sizes.
 pub row-sized : (l : List ℕ) (count : ℕ) (f : Found) → Sized (rowOf (tableOf l count) f)
 row-sized l count (At i) = subst Sized (sym (row-read l count i)) (read-sized (getD l i 0))
-row-sized l count Nowhere = unfold rowOf in (record { base = omega arith; length = omega arith; holder = omega arith })
+row-sized l count Nowhere = unfold rowOf in (record { base = omega arith; length = omega arith; holder = omega arith; taker = omega arith })
 
-pub taken-sized : (r : Reservation) → Sized r → Sized (takenRow r)
-taken-sized r s = record { base = s .base; length = s .length; holder = omega arith }
+pub taken-sized : (r : Reservation) (party : ℕ) → party < 256 → Sized r → Sized (takenRow r party)
+taken-sized r party h s = record { base = s .base; length = s .length; holder = omega arith; taker = h }
 
 pub given-sized : (r : Reservation) (to : ℕ) → to < 256 → Sized r → Sized (givenRow r to)
-given-sized r to h s = record { base = s .base; length = s .length; holder = h }
+given-sized r to h s = record { base = s .base; length = s .length; holder = h; taker = s .taker }
 
 lower-sized : (r : Reservation) (len : ℕ) → len < 65536 → Sized r → Sized (lowerPart r len)
-lower-sized r len h s = record { base = s .base; length = h; holder = s .holder }
+lower-sized r len h s = record { base = s .base; length = h; holder = s .holder; taker = omega arith }
 
 upper-sized : (r : Reservation) (len : ℕ) → Sized r → Sized (upperPart r len)
-upper-sized r len s = record { base = omega arith; length = omega (arith, s .length); holder = s .holder }
+upper-sized r len s = record { base = omega arith; length = omega (arith, s .length); holder = s .holder; taker = omega arith }
+
+pick-below : (b : Bool) (x y n : ℕ) → x < n → y < n → pick b x y < n
+pick-below true x y n h k = h
+pick-below false x y n h k = k
+
+joined-small : (a b : ℕ) → a < 256 → joinedTaker a b < 256
+joined-small a b h = pick-below (eqb a b) a severalTakers 256 h (omega arith)
 
 joined-sized : (r q : Reservation) → Sized r → Sized (joined r q)
-joined-sized r q s = record { base = s .base; length = omega arith; holder = s .holder }
+joined-sized r q s = record { base = s .base; length = omega arith; holder = s .holder; taker = joined-small (r .taker) (q .taker) (s .taker) }
 
 -- One row put.
 pub left-put :

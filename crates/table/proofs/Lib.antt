@@ -5,6 +5,7 @@ pub mod Answers
 pub mod Walking
 pub mod Tiled
 pub mod Sound
+pub mod Takers
 pub mod Kept
 pub mod Cells
 pub mod Inverse
@@ -12,10 +13,12 @@ pub mod Dying
 pub mod Unrevoked
 pub mod Refused
 pub mod After
+pub mod TakersKept
 pub mod Numbers
 pub mod Mapping
 pub mod Reading
 pub mod Shifting
+pub mod Forgetting
 pub mod Written
 pub mod Leaving
 pub mod Testing

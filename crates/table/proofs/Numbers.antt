@@ -65,6 +65,7 @@ pub record Sized (r : Reservation) : Type 0 where
   pub base : r .base < 65536
   pub length : r .length < 65536
   pub holder : r .holder < 256
+  pub taker : r .taker < 256
 
 low-half : (x y : ℕ) → x < 65536 → (x + 65536 * y) % 65536 ≡ x
 low-half x y h = omega arith
@@ -75,53 +76,66 @@ low-byte x y h = omega arith
 own-byte : (x : ℕ) → x < 256 → x % 256 ≡ x
 own-byte x h = omega arith
 
+-- Rows with the same fields are the same.
+pub same-row :
+    (r s : Reservation) → r .base ≡ s .base → r .length ≡ s .length → r .state ≡ s .state → r .holder ≡ s .holder → r .taker ≡ s .taker
+    → r ≡ s
+same-row r s a b c d e = λ i. record { base = a i; length = b i; state = c i; holder = d i; taker = e i }
+
 pub read-back : (r : Reservation) → Sized r → rowFrom (rowCode r) ≡ r
 unfolding rowFrom rowCode
 read-back r s =
     let small = state-small (r .state) in
     let k = stateNumber (r .state) in
-    let n = r .base + 65536 * r .length + 4294967296 * k + 1099511627776 * r .holder in
+    let n = r .base + 65536 * r .length + 4294967296 * k + 1099511627776 * r .holder + 281474976710656 * r .taker in
+    let top = r .holder + 256 * r .taker in
     let b : n % 65536 ≡ r .base = omega (arith, s .base, s .length, s .holder, small) in
-    let p : n / 65536 ≡ r .length + 65536 * (k + 256 * r .holder) = omega (arith, s .base) in
-    let l : n / 65536 % 65536 ≡ r .length = ap (λ x. x % 65536) p ∙ low-half (r .length) (k + 256 * r .holder) (s .length) in
-    let q : n / 4294967296 ≡ k + 256 * r .holder = omega (arith, s .base, s .length) in
-    let e : n / 4294967296 % 256 ≡ k = ap (λ x. x % 256) q ∙ low-byte k (r .holder) (omega (arith, small)) in
-    let u : n / 1099511627776 ≡ r .holder = omega (arith, s .base, s .length, small) in
-    let h : n / 1099511627776 % 256 ≡ r .holder = ap (λ x. x % 256) u ∙ own-byte (r .holder) (s .holder) in
-    ap (λ x. reservation x (n / 65536 % 65536) (stateFrom (n / 4294967296 % 256)) (n / 1099511627776 % 256)) b
-    ∙ ap (λ x. reservation (r .base) x (stateFrom (n / 4294967296 % 256)) (n / 1099511627776 % 256)) l
-    ∙ ap (λ x. reservation (r .base) (r .length) x (n / 1099511627776 % 256)) (ap stateFrom e ∙ state-back (r .state))
-    ∙ ap (λ x. reservation (r .base) (r .length) (r .state) x) h
+    let p : n / 65536 ≡ r .length + 65536 * (k + 256 * top) = omega (arith, s .base) in
+    let l : n / 65536 % 65536 ≡ r .length = ap (λ x. x % 65536) p ∙ low-half (r .length) (k + 256 * top) (s .length) in
+    let q : n / 4294967296 ≡ k + 256 * top = omega (arith, s .base, s .length) in
+    let e : n / 4294967296 % 256 ≡ k = ap (λ x. x % 256) q ∙ low-byte k top (omega (arith, small)) in
+    let u : n / 1099511627776 ≡ top = omega (arith, s .base, s .length, small) in
+    let h : n / 1099511627776 % 256 ≡ r .holder = ap (λ x. x % 256) u ∙ low-byte (r .holder) (r .taker) (s .holder) in
+    let v : n / 281474976710656 ≡ r .taker = omega (arith, s .base, s .length, s .holder, small) in
+    let w : n / 281474976710656 % 256 ≡ r .taker = ap (λ x. x % 256) v ∙ own-byte (r .taker) (s .taker) in
+    same-row (rowFrom n) r b l (ap stateFrom e ∙ state-back (r .state)) h w
 
 pub write-back : (n : ℕ) → written n ≡ true → rowCode (rowFrom n) ≡ n
 unfolding rowFrom rowCode written
 write-back n w =
-    let a = leb-true (n / 4294967296 % 256) 2 (and-left (leb (n / 4294967296 % 256) 2) (ltb n 281474976710656) w) in
-    let b = ltb-true n 281474976710656 (and-right (leb (n / 4294967296 % 256) 2) (ltb n 281474976710656) w) in
+    let a = leb-true (n / 4294967296 % 256) 2 (and-left (leb (n / 4294967296 % 256) 2) (ltb n 72057594037927936) w) in
+    let b = ltb-true n 72057594037927936 (and-right (leb (n / 4294967296 % 256) 2) (ltb n 72057594037927936) w) in
     let k = state-number (n / 4294967296 % 256) a in
     let q = n / 65536 in
     let t = n / 4294967296 in
+    let u = n / 1099511627776 in
     let e : q / 65536 ≡ t = omega arith in
-    let f : t / 256 ≡ n / 1099511627776 = omega arith in
-    let g : n / 1099511627776 % 256 ≡ n / 1099511627776 = omega (arith, b) in
-    let h : t ≡ t % 256 + 256 * (n / 1099511627776) = omega (arith, f) in
+    let f : t / 256 ≡ u = omega arith in
+    let c : u / 256 ≡ n / 281474976710656 = omega arith in
+    let g : n / 281474976710656 % 256 ≡ n / 281474976710656 = omega (arith, b) in
+    let d : u ≡ u % 256 + 256 * (n / 281474976710656) = omega (arith, c) in
+    let h : t ≡ t % 256 + 256 * u = omega (arith, f) in
     let i : q ≡ q % 65536 + 65536 * t = omega (arith, e) in
     let j : n ≡ n % 65536 + 65536 * q = omega arith in
-    omega (arith, k, g, h, i, j)
+    omega (arith, k, g, d, h, i, j)
 
 pub number-written : (r : Reservation) → Sized r → written (rowCode r) ≡ true
 unfolding rowCode written
 number-written r s =
     let small = state-small (r .state) in
-    let n = r .base + 65536 * r .length + 4294967296 * stateNumber (r .state) + 1099511627776 * r .holder in
-    both (leb (n / 4294967296 % 256) 2) (ltb n 281474976710656)
-    (le-leb (n / 4294967296 % 256) 2 (omega (arith, s .base, s .length, s .holder, small)))
-    (lt-ltb n 281474976710656 (omega (arith, s .base, s .length, s .holder, small)))
+    let k = stateNumber (r .state) in
+    let n = r .base + 65536 * r .length + 4294967296 * k + 1099511627776 * r .holder + 281474976710656 * r .taker in
+    let top = r .holder + 256 * r .taker in
+    let q : n / 4294967296 ≡ k + 256 * top = omega (arith, s .base, s .length) in
+    let e : n / 4294967296 % 256 ≡ k = ap (λ x. x % 256) q ∙ low-byte k top (omega (arith, small)) in
+    both (leb (n / 4294967296 % 256) 2) (ltb n 72057594037927936)
+    (le-leb (n / 4294967296 % 256) 2 (omega (arith, e, small)))
+    (lt-ltb n 72057594037927936 (omega (arith, s .base, s .length, s .holder, s .taker, small)))
 
 -- Every number reads as a reservation whose fields have their sizes.
 pub read-sized : (n : ℕ) → Sized (rowFrom n)
 unfolding rowFrom
-read-sized n = record { base = omega arith; length = omega arith; holder = omega arith }
+read-sized n = record { base = omega arith; length = omega arith; holder = omega arith; taker = omega arith }
 
 pub zero-blank : rowFrom 0 ≡ blank
 unfolding rowFrom stateFrom

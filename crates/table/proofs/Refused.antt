@@ -10,7 +10,7 @@ use Rattle.table.specs.Operations.{takeOf, takeReasons, takenRow, splitO
 module _ (t : Table) (party base : ℕ) where
   pub take-refused : (takeOf t party base .code ≡ 0 → ⊥) → takeOf t party base .table ≡ t
   unfolding takeOf
-  take-refused z = kept (first (takeReasons t party base)) (withRow t (findOf t party base) (takenRow (rowOf t (findOf t party base)))) t z
+  take-refused z = kept (first (takeReasons t party base)) (withRow t (findOf t party base) (takenRow (rowOf t (findOf t party base)) party)) t z
 
   pub take-length : (takeOf t party base .code ≡ 0 → ⊥) → takeOf t party base .length ≡ 0
   unfolding takeOf

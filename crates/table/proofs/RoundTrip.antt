@@ -1,18 +1,19 @@
 -- Numbers and tables, back and forth, and that calls keep sound numbers sound. Assumes nothing.
 use Prim.Native.Nat.{ℕ, _<_, _≤_}
-use mathlib.Core.Bool.{Bool, true, false}
+use mathlib.Core.Bool.{Bool, true, false, _&&_}
 use lib.ListN.{length}
 use lib.Dec.{eqb}
 use Rattle.capabilities.proofs.Choice.{and-left, and-right, pick-yes, pick-no}
 use Rattle.table.specs.Operations.{takeOf, giveOf, splitOf, mergeOf}
 use Rattle.table.proofs.Kept.{take-kept, give-kept, split-kept, merge-kept}
+use Rattle.table.proofs.TakersKept.{take-takers, give-takers, split-takers, merge-takers}
 use mathlib.Core.List.{List, [], _∷_, map}
 use mathlib.Core.Path.{_≡_, refl, sym, ap, subst, _∙_}
 use Rattle.table.specs.declared.Reservation.{Reservation}
 use Rattle.table.specs.Table.{Table}
 use Rattle.table.specs.Table.{Tabled}
-use Rattle.table.specs.Rows.{table}
-use Rattle.table.specs.Tiling.{tableSound}
+use Rattle.table.specs.Rows.{table, live}
+use Rattle.table.specs.Tiling.{tableSound, takersSound}
 use Rattle.table.proofs.Truth.{both}
 use Rattle.table.specs.Numbers.{rowFrom, rowCode, tableOf, numbersOf, written, allWritten}
 use Rattle.table.specs.Lent.{Leaves, fitting, tabledOf}
@@ -53,42 +54,60 @@ reads-sized (n ∷ l) = (read-sized n, reads-sized l)
 pub kept-written : (l : List ℕ) (count : ℕ) → numbersOf (tableOf l count) ≡ l → allWritten l ≡ true
 kept-written l count e = subst (λ m. allWritten m ≡ true) e (rows-written (map rowFrom l) (reads-sized l))
 
+-- A table well formed, takers included.
+abbrev pub Whole : ℕ → Table → Type 0
+Whole cells t = (tableSound cells t ≡ true) × (takersSound (live t) ≡ true)
+
 -- A call whose rule keeps tables well formed keeps numbers sound; and what it leaves is what the rule's table is written as.
 module _ (l m : List ℕ) (code count n : ℕ) (rule : Tabled) (d : Leaves l m code n rule) where
-  pub sound-kept : (cells : ℕ) → soundNumbers cells l count ≡ true → tableSound cells (rule .table) ≡ true → soundNumbers cells m n ≡ true
+  pub sound-kept : (cells : ℕ) → soundNumbers cells l count ≡ true → Whole cells (rule .table) → soundNumbers cells m n ≡ true
   unfolding soundNumbers
   sound-kept cells e k =
-      both (tableSound cells (tableOf m n)) (allWritten m) (ap (tableSound cells) (d .reads) ∙ k)
-      (d .sound (and-right (tableSound cells (tableOf l count)) (allWritten l) e))
+      let t = tableOf l count in
+      let u = tableOf m n in
+      both (tableSound cells u && takersSound (live u)) (allWritten m)
+      (both (tableSound cells u) (takersSound (live u)) (ap (tableSound cells) (d .reads) ∙ k .0) (ap (λ x. takersSound (live x)) (d .reads) ∙ k .1))
+      (d .sound (and-right (tableSound cells t && takersSound (live t)) (allWritten l) e))
 
   pub left-numbers : allWritten l ≡ true → m ≡ numbersOf (rule .table)
   left-numbers w = sym (numbers-back m n (d .sound w)) ∙ ap numbersOf (d .reads)
 
 -- The four calls keep sound numbers sound.
 module _ (cells : ℕ) (l m : List ℕ) (code count n : ℕ) (ok : soundNumbers cells l count ≡ true) where
-  good : tableSound cells (tableOf l count) ≡ true
-  unfolding soundNumbers
-  good = and-left (tableSound cells (tableOf l count)) (allWritten l) ok
+  abbrev t : Table
+  t = tableOf l count
 
-  fitting-kept : (rule : Tabled) → tableSound cells (rule .table) ≡ true → tableSound cells (fitting l count rule .table) ≡ true
+  good : Whole cells t
+  unfolding soundNumbers
+  good =
+      let front = and-left (tableSound cells t && takersSound (live t)) (allWritten l) ok in
+      (and-left (tableSound cells t) (takersSound (live t)) front, and-right (tableSound cells t) (takersSound (live t)) front)
+
+  fitting-kept : (rule : Tabled) → Whole cells (rule .table) → Whole cells (fitting l count rule .table)
   fitting-kept rule k = go (eqb (length l) 64) refl
     where
-      go : (b : Bool) → eqb (length l) 64 ≡ b → tableSound cells (fitting l count rule .table) ≡ true
-      go true e = ap (λ r. tableSound cells (r .table)) (pick-yes (eqb (length l) 64) rule (record { code = 1; table = tableOf l count }) e) ∙ k
-      go false e = ap (λ r. tableSound cells (r .table)) (pick-no (eqb (length l) 64) rule (record { code = 1; table = tableOf l count }) e) ∙ good
+      go : (b : Bool) → eqb (length l) 64 ≡ b → Whole cells (fitting l count rule .table)
+      go true e = subst (λ r. Whole cells (r .table)) (sym (pick-yes (eqb (length l) 64) rule (record { code = 1; table = t }) e)) k
+      go false e = subst (λ r. Whole cells (r .table)) (sym (pick-no (eqb (length l) 64) rule (record { code = 1; table = t }) e)) good
 
-  pub take-keeps : (party base : ℕ) → Leaves l m code n (tabledOf (takeOf (tableOf l count) party base)) → soundNumbers cells m n ≡ true
-  take-keeps party base d = sound-kept l m code count n (tabledOf (takeOf (tableOf l count) party base)) d cells ok (take-kept cells (tableOf l count) good party base)
+  pub take-keeps : (party base : ℕ) → party ≤ 8 → Leaves l m code n (tabledOf (takeOf t party base)) → soundNumbers cells m n ≡ true
+  take-keeps party base h d =
+      sound-kept l m code count n (tabledOf (takeOf t party base)) d cells ok
+      (take-kept cells t (good .0) party base, take-takers cells t (good .0) (good .1) party base h)
 
-  pub give-keeps : (party base to : ℕ) → to ≤ 7 → Leaves l m code n (giveOf (tableOf l count) party base to) → soundNumbers cells m n ≡ true
-  give-keeps party base to h d = sound-kept l m code count n (giveOf (tableOf l count) party base to) d cells ok (give-kept cells (tableOf l count) good party base to h)
+  pub give-keeps : (party base to : ℕ) → to ≤ 7 → Leaves l m code n (giveOf t party base to) → soundNumbers cells m n ≡ true
+  give-keeps party base to h d =
+      sound-kept l m code count n (giveOf t party base to) d cells ok
+      (give-kept cells t (good .0) party base to h, give-takers cells t (good .0) (good .1) party base to)
 
-  pub split-keeps : cells < 65536 → (party base len : ℕ) → Leaves l m code n (fitting l count (splitOf (tableOf l count) party base len)) → soundNumbers cells m n ≡ true
+  pub split-keeps : cells < 65536 → (party base len : ℕ) → Leaves l m code n (fitting l count (splitOf t party base len)) → soundNumbers cells m n ≡ true
   split-keeps h party base len d =
-      let rule = splitOf (tableOf l count) party base len in
-      sound-kept l m code count n (fitting l count rule) d cells ok (fitting-kept rule (split-kept cells (tableOf l count) good h party base len))
+      let rule = splitOf t party base len in
+      sound-kept l m code count n (fitting l count rule) d cells ok
+      (fitting-kept rule (split-kept cells t (good .0) h party base len, split-takers cells t (good .0) (good .1) party base len))
 
-  pub merge-keeps : cells < 65536 → (party base : ℕ) → Leaves l m code n (fitting l count (mergeOf (tableOf l count) party base)) → soundNumbers cells m n ≡ true
+  pub merge-keeps : cells < 65536 → (party base : ℕ) → Leaves l m code n (fitting l count (mergeOf t party base)) → soundNumbers cells m n ≡ true
   merge-keeps h party base d =
-      let rule = mergeOf (tableOf l count) party base in
-      sound-kept l m code count n (fitting l count rule) d cells ok (fitting-kept rule (merge-kept cells (tableOf l count) good h party base))
+      let rule = mergeOf t party base in
+      sound-kept l m code count n (fitting l count rule) d cells ok
+      (fitting-kept rule (merge-kept cells t (good .0) h party base, merge-takers cells t (good .0) (good .1) party base))

@@ -32,7 +32,7 @@ module _ {A : Type 0} where
   take-own (suc n) (x ∷ l) = ap (λ (r : List A). x ∷ r) (take-own n l)
 
 module _ {A B : Type 0} (f : A → B) where
-  map-splice : (i k : ℕ) (new l : List A) → map f (splice i k new l) ≡ splice i k (map f new) (map f l)
+  pub map-splice : (i k : ℕ) (new l : List A) → map f (splice i k new l) ≡ splice i k (map f new) (map f l)
   unfolding splice
   map-splice i k new l =
       map-append f (take i l) (new ++ drop (i + k) l)

@@ -3,7 +3,7 @@ use Prim.Native.Nat.{ℕ, zero, suc, _+_, _<_, _≤_}
 use native.Mathlib.Omega.{arith}
 use mathlib.Core.Bool.{true, _&&_, _||_}
 use mathlib.Core.List.{List, [], _∷_, _++_}
-use mathlib.Core.Path.{_≡_, refl}
+use mathlib.Core.Path.{_≡_, refl, ap, _∙_}
 use borrow.Author.Tests.{eqb-true, eq-eqb, ltb-true, lt-ltb}
 use lib.Dec.{eqb, ltb, leb}
 use lib.ListN.{length, getD}
@@ -66,14 +66,15 @@ revokings-first r l = refl
 pub row-holder : (r : Reservation) → rowSound r ≡ true → leb (r .holder) 7 ≡ true
 row-holder r e = and-right (ltb 0 (r .length)) (leb (r .holder) 7) (and-left (ltb 0 (r .length) && leb (r .holder) 7) (isOpen (r .state) || eqb (r .holder) 0) e)
 
-pub row-resized : (r : Reservation) (base n : ℕ) → rowSound r ≡ true → 0 < n → rowSound (reservation base n (r .state) (r .holder)) ≡ true
-row-resized r base n e h =
-    both (ltb 0 n && leb (r .holder) 7) (isOpen (r .state) || eqb (r .holder) 0)
-    (both (ltb 0 n) (leb (r .holder) 7) (lt-ltb 0 n h) (row-holder r e))
-    (and-right (ltb 0 (r .length) && leb (r .holder) 7) (isOpen (r .state) || eqb (r .holder) 0) e)
+pub row-resized : (r s : Reservation) → rowSound r ≡ true → s .state ≡ r .state → s .holder ≡ r .holder → 0 < s .length → rowSound s ≡ true
+row-resized r s e same own h =
+    both (ltb 0 (s .length) && leb (s .holder) 7) (isOpen (s .state) || eqb (s .holder) 0)
+    (both (ltb 0 (s .length)) (leb (s .holder) 7) (lt-ltb 0 (s .length) h) (ap (λ k. leb k 7) own ∙ row-holder r e))
+    (ap (λ k. isOpen k || eqb (s .holder) 0) same ∙ ap (λ k. isOpen (r .state) || eqb k 0) own
+    ∙ and-right (ltb 0 (r .length) && leb (r .holder) 7) (isOpen (r .state) || eqb (r .holder) 0) e)
 
-pub row-open : (base n holder : ℕ) → leb holder 7 ≡ true → 0 < n → rowSound (reservation base n Open holder) ≡ true
-row-open base n holder e h = both (ltb 0 n && leb holder 7) true (both (ltb 0 n) (leb holder 7) (lt-ltb 0 n h) e) refl
+pub row-open : (base n holder taker : ℕ) → leb holder 7 ≡ true → 0 < n → rowSound (reservation base n Open holder taker) ≡ true
+row-open base n holder taker e h = both (ltb 0 n && leb holder 7) true (both (ltb 0 n) (leb holder 7) (lt-ltb 0 n h) e) refl
 
 -- Each row of a tiling is sound.
 pub tiled-row : (upto : ℕ) (l : List Reservation) (from i : ℕ) → tiles from upto l ≡ true → i < length l → rowSound (getD l i blank) ≡ true

@@ -118,8 +118,8 @@ module _ (cells : ℕ) (t : Table) (ok : tableSound cells t ≡ true) where
   unfolding takeOf takeReasons
   take-still party base =
       let f = findOf t party base in
-      pick-same (first (openReasons f (rowOf t f))) (withRow t f (takenRow (rowOf t f)))
-      (λ z. with-same party base f (takenRow (rowOf t f)) refl (open-clear f (rowOf t f) z .1) refl)
+      pick-same (first (openReasons f (rowOf t f))) (withRow t f (takenRow (rowOf t f) party))
+      (λ z. with-same party base f (takenRow (rowOf t f) party) refl (open-clear f (rowOf t f) z .1) refl)
 
   pub give-still : (party base to : ℕ) → dyings (live (giveOf t party base to .table)) ≡ dyings (live t)
   unfolding giveOf giveReasons

@@ -13,7 +13,7 @@ use Rattle.table.specs.Table.{Tabled}
 use Rattle.table.specs.Table.{Taken as Took}
 use Rattle.table.specs.declared.Found.{Found}
 use Rattle.table.specs.declared.Found.the-variants.{At, Nowhere}
-use Rattle.table.specs.Rows.{isOpen, isTaken, held, reservation, spread, gather}
+use Rattle.table.specs.Rows.{isOpen, isTaken, held, noTaker, severalTakers, reservation, spread, gather}
 use Rattle.table.specs.Find.{missing, findOf, nextOf, rowOf, withRow}
 
 -- A refused operation keeps the table as it was.
@@ -30,14 +30,15 @@ takeReasons t party base =
     let f = findOf t party base in
     openReasons f (rowOf t f)
 
-abbrev pub takenRow : Reservation → Reservation
-takenRow r = reservation (r .base) (r .length) Taken 0
+-- Its taker is the party.
+abbrev pub takenRow : Reservation → ℕ → Reservation
+takenRow r party = reservation (r .base) (r .length) Taken 0 party
 
 unfoldable pub takeOf : Table → ℕ → ℕ → Took
 takeOf t party base =
     let f = findOf t party base in
     let code = first (takeReasons t party base) in
-    record { code = code; length = pick (eqb code 0) (rowOf t f .length) 0; table = pick (eqb code 0) (withRow t f (takenRow (rowOf t f))) t }
+    record { code = code; length = pick (eqb code 0) (rowOf t f .length) 0; table = pick (eqb code 0) (withRow t f (takenRow (rowOf t f) party)) t }
 
 -- 8: "The split length is 0, or not below the reservation's length."
 abbrev pub badSplit : Reservation → ℕ → Bool
@@ -58,11 +59,11 @@ unfoldable pub splitReasons : Table → ℕ → ℕ → ℕ → List Reason
 splitReasons t party base len = splitReasonsAt t (findOf t party base) len
 
 abbrev pub lowerPart : Reservation → ℕ → Reservation
-lowerPart r len = reservation (r .base) len Open (r .holder)
+lowerPart r len = reservation (r .base) len Open (r .holder) noTaker
 
 -- No well-formed table has a base above 65,535; the remainder serves the others.
 abbrev pub upperPart : Reservation → ℕ → Reservation
-upperPart r len = reservation ((r .base + len) % 65536) (r .length - len) Open (r .holder)
+upperPart r len = reservation ((r .base + len) % 65536) (r .length - len) Open (r .holder) noTaker
 
 unfoldable pub splitAt : Table → Found → ℕ → Table
 splitAt t (At i) len = spread t i (lowerPart (rowOf t (At i)) len) (upperPart (rowOf t (At i)) len)
@@ -87,9 +88,13 @@ mergeReasonsAt t f party = reason 6 (missing f) ∷ reason 7 (not (mergeable t f
 unfoldable pub mergeReasons : Table → ℕ → ℕ → List Reason
 mergeReasons t party base = mergeReasonsAt t (findOf t party base) party
 
+-- "8 where a merge joined Taken ones of different takers"; two Open ones have the same, 9.
+abbrev pub joinedTaker : ℕ → ℕ → ℕ
+joinedTaker a b = pick (eqb a b) a severalTakers
+
 -- No well-formed table has a length above 65,535; the remainder serves the others.
 abbrev pub joined : Reservation → Reservation → Reservation
-joined r s = reservation (r .base) ((r .length + s .length) % 65536) (r .state) (r .holder)
+joined r s = reservation (r .base) ((r .length + s .length) % 65536) (r .state) (r .holder) (joinedTaker (r .taker) (s .taker))
 
 unfoldable pub mergeAt : Table → Found → Table
 mergeAt t (At i) = gather t i (joined (rowOf t (At i)) (rowOf t (nextOf t (At i))))
@@ -105,7 +110,7 @@ giveReasons t party base =
     openReasons f (rowOf t f)
 
 abbrev pub givenRow : Reservation → ℕ → Reservation
-givenRow r to = reservation (r .base) (r .length) (r .state) to
+givenRow r to = reservation (r .base) (r .length) (r .state) to (r .taker)
 
 unfoldable pub giveOf : Table → ℕ → ℕ → ℕ → Tabled
 giveOf t party base to =

@@ -1,7 +1,7 @@
--- Document 01, 'Things and their sizes': one reservation, and the table's rows. Assumes nothing.
+-- Document 01, 'Things and their sizes': one reservation, and the table's rows; its taker is document 02's, 2026-04. Assumes nothing.
 use Prim.Native.Nat.{ℕ, _+_, _-_}
 use mathlib.Core.Bool.{Bool, true, false, _&&_}
-use mathlib.Core.List.{List, [], _∷_, _++_}
+use mathlib.Core.List.{List, [], _∷_, _++_, map}
 use lib.ListN.{length, take, drop}
 use lib.Dec.{eqb}
 use Rattle.capabilities.specs.declared.Range.{Range}
@@ -31,15 +31,23 @@ isRevoking Open = false
 isRevoking Taken = false
 isRevoking Revoking = true
 
-abbrev pub reservation : ℕ → ℕ → ReservationState → ℕ → Reservation
-reservation base length state holder = record { base = base; length = length; state = state; holder = holder }
+-- Document 02, 2026-04: "Each reservation's record gets a taker: 9 when Open, the party when Taken or Revoking, 8 where a merge joined
+-- Taken ones of different takers."
+abbrev pub noTaker : ℕ
+noTaker = 9
+
+abbrev pub severalTakers : ℕ
+severalTakers = 8
+
+abbrev pub reservation : ℕ → ℕ → ReservationState → ℕ → ℕ → Reservation
+reservation base length state holder taker = record { base = base; length = length; state = state; holder = holder; taker = taker }
 
 -- "All unused entries are 0."
 abbrev pub blank : Reservation
-blank = reservation 0 0 Open 0
+blank = reservation 0 0 Open 0 0
 
 abbrev pub isBlank : Reservation → Bool
-isBlank r = (isOpen (r .state) && eqb (r .holder) 0) && (eqb (r .base) 0 && eqb (r .length) 0)
+isBlank r = ((isOpen (r .state) && eqb (r .holder) 0) && (eqb (r .base) 0 && eqb (r .length) 0)) && eqb (r .taker) 0
 
 -- A party holds a reservation.
 abbrev pub held : Reservation → ℕ → Bool
@@ -51,6 +59,13 @@ rangeOf r = record { base = r .base; length = r .length }
 
 abbrev pub table : List Reservation → ℕ → Table
 table rows count = record { rows = rows; count = count }
+
+-- A reservation and a table without takers.
+abbrev pub forgetRow : Reservation → Reservation
+forgetRow r = reservation (r .base) (r .length) (r .state) (r .holder) 0
+
+abbrev pub forgetTable : Table → Table
+forgetTable t = table (map forgetRow (t .rows)) (t .count)
 
 -- The table's reservations; the rows above are unused.
 unfoldable pub live : Table → List Reservation

@@ -10,7 +10,7 @@ use Rattle.capabilities.specs.Range.{inside}
 use Rattle.table.specs.declared.Reservation.{Reservation}
 use Rattle.table.specs.declared.ReservationState.the-variants.{Open}
 use Rattle.table.specs.Table.{Table}
-use Rattle.table.specs.Rows.{isOpen, isRevoking, isBlank, blank, reservation, rangeOf, live, table}
+use Rattle.table.specs.Rows.{isOpen, isRevoking, isBlank, noTaker, severalTakers, blank, reservation, rangeOf, live, table}
 
 -- "Each has .. length (at least 1) .. Taken and Revoking have holder 0"; a holder is a party, 0 to 7.
 abbrev pub rowSound : Reservation → Bool
@@ -47,10 +47,18 @@ unfoldable pub tableSound : ℕ → Table → Bool
 tableSound cells t =
     (sized t && tiles 0 cells (live t)) && (allBlank (drop (t .count) (t .rows)) && leb (revokings (live t)) 1)
 
+-- Document 02, 2026-04: "A state is not well formed if an Open one's taker isn't 9 or a Taken or Revoking one's is above 8."
+abbrev pub takerSound : Reservation → Bool
+takerSound r = pick (isOpen (r .state)) (eqb (r .taker) noTaker) (leb (r .taker) severalTakers)
+
+unfoldable pub takersSound : List Reservation → Bool
+takersSound [] = true
+takersSound (r ∷ l) = takerSound r && takersSound l
+
 -- "A fresh start .. has one Open reservation held by party 0"; with no cells all is 0.
 unfoldable pub freshTable : ℕ → Table
 freshTable cells =
-    pick (eqb cells 0) (table (replicate 64 blank) 0) (table (reservation 0 cells Open 0 ∷ replicate 63 blank) 1)
+    pick (eqb cells 0) (table (replicate 64 blank) 0) (table (reservation 0 cells Open 0 noTaker ∷ replicate 63 blank) 1)
 
 -- A cell belongs to a reservation of the table.
 unfoldable pub covered : List Reservation → ℕ → Bool

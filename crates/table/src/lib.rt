@@ -14,12 +14,13 @@ pub enum ReservationState {
     Revoking,
 }
 
-// `length` virtual cells from `base` on, and the party that holds them.
+// `length` virtual cells from `base` on, the party that holds them, and who took them: a party, 8 for several, 9 for nobody.
 pub struct Reservation {
     pub base: u16,
     pub length: u16,
     pub state: ReservationState,
     pub holder: u8,
+    pub taker: u8,
 }
 
 // The row of a reservation, if there is one.

@@ -38,6 +38,7 @@ pub fn row_of(number: u64) -> Reservation
         length: (number / 65536 % 65536) as u16,
         state,
         holder: (number / 1099511627776 % 256) as u8,
+        taker: (number / 281474976710656 % 256) as u8,
     }
 }
 
@@ -47,13 +48,14 @@ pub fn number_of(row: Reservation) -> u64
 {
     let state = row.state;
     let range = row.base as u64 + 65536 * (row.length as u64);
-    range + 4294967296 * state_number(state) + 1099511627776 * (row.holder as u64)
+    let held = range + 4294967296 * state_number(state) + 1099511627776 * (row.holder as u64);
+    held + 281474976710656 * (row.taker as u64)
 }
 
 pub fn is_written(number: u64) -> bool
     ensures { λ r. ⌜ r ≡ written number ⌝ }
 {
-    (number / 4294967296 % 256 <= 2) & (number < 281474976710656)
+    (number / 4294967296 % 256 <= 2) & (number < 72057594037927936)
 }
 
 // The reservation begins at `base` and is held by the party: its bits 0 to 15 and 40 to 47, both at once.

@@ -11,7 +11,7 @@ ghost use Rattle.table.specs.Operations.{takeOf, giveOf};
 ghost use Rattle.table.specs.Numbers.{tableOf};
 ghost use Rattle.table.specs.Lent.{Leaves, tabledOf};
 
-// Open becomes Taken with holder 0; the length is answered.
+// Open becomes Taken with holder 0, by the party; the length is answered.
 pub fn take(rows: &mut [u64], count: usize, party: u8, base: u16) -> TakeAnswer
     ensures { λ r. ⌜ Leaves (now (rows .entry)) (now (rows .exit)) (r .code) count (tabledOf (takeOf (tableOf (now (rows .entry)) count) party base)) × (r .length ≡ takeOf (tableOf (now (rows .entry)) count) party base .length) ⌝ }
 {
@@ -21,7 +21,7 @@ pub fn take(rows: &mut [u64], count: usize, party: u8, base: u16) -> TakeAnswer
     if code != 0 {
         return TakeAnswer { code, length: 0 };
     }
-    put_row(rows, found, taken_row(row));
+    put_row(rows, found, taken_row(row, party));
     TakeAnswer {
         code,
         length: row.length,

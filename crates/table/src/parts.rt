@@ -14,7 +14,7 @@ ghost use lib.Dec.{leb};
 ghost use Rattle.capabilities.specs.Refusals.{first, reason};
 ghost use Rattle.table.specs.Rows.{isOpen, held};
 ghost use Rattle.table.specs.Find.{missing};
-ghost use Rattle.table.specs.Operations.{openReasons, takenRow, givenRow, badSplit, lowerPart, joined, alike};
+ghost use Rattle.table.specs.Operations.{openReasons, takenRow, givenRow, badSplit, lowerPart, joinedTaker, joined, alike};
 ghost use Rattle.table.specs.Lent.{splitCode, mergeCode};
 
 pub fn open_code(found: Found, row: Reservation) -> u8
@@ -24,14 +24,15 @@ pub fn open_code(found: Found, row: Reservation) -> u8
     first(6, missing(found), first(7, !is_open(state), 0))
 }
 
-pub fn taken_row(row: Reservation) -> Reservation
-    ensures { λ r. ⌜ r ≡ takenRow row ⌝ }
+pub fn taken_row(row: Reservation, party: u8) -> Reservation
+    ensures { λ r. ⌜ r ≡ takenRow row party ⌝ }
 {
     Reservation {
         base: row.base,
         length: row.length,
         state: ReservationState::Taken,
         holder: 0,
+        taker: party,
     }
 }
 
@@ -44,6 +45,7 @@ pub fn given_row(row: Reservation, to: u8) -> Reservation
         length: row.length,
         state,
         holder: to,
+        taker: row.taker,
     }
 }
 
@@ -61,7 +63,15 @@ pub fn lower_part(row: Reservation, len: u16) -> Reservation
         length: len,
         state: ReservationState::Open,
         holder: row.holder,
+        taker: 9,
     }
+}
+
+// The taker of two that become one: theirs if it is the same, 8 for several.
+pub fn joined_taker(taker: u8, above: u8) -> u8
+    ensures { λ r. ⌜ r ≡ joinedTaker taker above ⌝ }
+{
+    if taker == above { taker } else { 8 }
 }
 
 pub fn joined(row: Reservation, above: Reservation) -> Reservation
@@ -74,6 +84,7 @@ pub fn joined(row: Reservation, above: Reservation) -> Reservation
         length: length as u16,
         state,
         holder: row.holder,
+        taker: joined_taker(row.taker, above.taker),
     }
 }
 

@@ -29,6 +29,7 @@ fn upper_part(row: Reservation, len: u16) -> Reservation
         length: row.length - len,
         state: ReservationState::Open,
         holder: row.holder,
+        taker: 9,
     }
 }
 

@@ -212,7 +212,8 @@ pub fn read(input: &[u8], at: usize, numbers: &mut [u64]) -> usize {
     unsafe { c::cetomuhi_read(input.as_ptr(), input.len(), at, to, room) }
 }
 
-/// The library's version, which changes with the layout of a state and with what a call does. This crate is for [`VERSION`].
+/// The library's version, which changes with the layout of a state and with what a call does. This
+/// crate is for [`VERSION`].
 pub fn version() -> u64 {
     // SAFETY: no pointers.
     unsafe { c::cetomuhi_version() }

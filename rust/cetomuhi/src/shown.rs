@@ -14,7 +14,19 @@ pub enum ReservationState {
     Revoking,
 }
 
-/// `length` virtual cells from `base` on, and the party that holds them.
+/// Who took a reservation, as its row says.
+#[derive(Clone, Copy, Debug, PartialEq, Eq, Hash)]
+pub enum Taker {
+    /// Nobody: it is Open.
+    Nobody,
+    /// One party. Of a Revoking reservation `Party(0)` may be nobody: a revoke of an Open one
+    /// writes 0.
+    Party(u8),
+    /// Different parties, whose reservations a merge has joined.
+    Several,
+}
+
+/// `length` virtual cells from `base` on, the party that holds them, and who took them.
 #[derive(Clone, Copy, Debug, PartialEq, Eq, Hash)]
 #[allow(missing_docs)]
 pub struct Reservation {
@@ -22,6 +34,7 @@ pub struct Reservation {
     pub length: u16,
     pub state: ReservationState,
     pub holder: u8,
+    pub taker: Taker,
 }
 
 /// What a virtual page shows.
@@ -138,6 +151,18 @@ impl Reservation {
             length: (row >> 16) as u16,
             state,
             holder: (row >> 40) as u8,
+            taker: Taker::of((row >> 48) as u8),
+        }
+    }
+}
+
+impl Taker {
+    /// The taker that the number in a row reads as.
+    pub fn of(code: u8) -> Taker {
+        match code {
+            8 => Taker::Several,
+            9 => Taker::Nobody,
+            party => Taker::Party(party),
         }
     }
 }
@@ -174,10 +199,28 @@ impl fmt::Display for ReservationState {
     }
 }
 
+impl fmt::Display for Taker {
+    fn fmt(&self, out: &mut fmt::Formatter) -> fmt::Result {
+        match self {
+            Taker::Nobody => out.pad("nobody"),
+            Taker::Party(party) => write!(out, "party {party}"),
+            Taker::Several => out.pad("several parties"),
+        }
+    }
+}
+
+/// Its cells, state, holder and, unless it is Open, who took it.
 impl fmt::Display for Reservation {
     fn fmt(&self, out: &mut fmt::Formatter) -> fmt::Result {
-        let Reservation { base, length, state, holder } = self;
-        write!(out, "{length} cells from {base} on, {state}, held by party {holder}")
+        let Reservation { base, length, state, holder, taker } = self;
+        write!(out, "{length} cells from {base} on, {state}, held by party {holder}")?;
+        match (state, taker) {
+            (ReservationState::Open, Taker::Nobody) => Ok(()),
+            (ReservationState::Revoking, Taker::Party(0)) => {
+                write!(out, ", taken by {taker} or by nobody")
+            }
+            _ => write!(out, ", taken by {taker}"),
+        }
     }
 }
 

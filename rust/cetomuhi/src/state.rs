@@ -36,7 +36,8 @@ pub struct State {
     pub mail: [u64; 8],
     /// The mailboxes' tags, 0 or 1.
     pub flags: [u8; 8],
-    /// Reservations: base in bits 0 to 15, length 16 to 31, state 32 to 39, holder 40 to 47.
+    /// Reservations: base in bits 0 to 15, length 16 to 31, state 32 to 39, holder 40 to 47, taker
+    /// 48 to 55; an unused one is 0.
     pub rows: [u64; 64],
     /// Virtual pages: 0 Unmapped, 1 Freed, n + 2 Mapped to frame n.
     pub pages: [u16; 256],

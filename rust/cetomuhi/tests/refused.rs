@@ -104,7 +104,7 @@ fn memory_of_another_length_is_kept() {
 /// Changes that make a well-formed state ill-formed, in each array but the registers' numbers.
 #[test]
 fn ill_formed_states_are_kept() {
-    let changes: [fn(&mut State); 20] = [
+    let changes: [fn(&mut State); 24] = [
         |state| state.numbers[0] = 0,
         |state| state.numbers[1] = 129,
         |state| state.numbers[2] = 3,
@@ -117,7 +117,11 @@ fn ill_formed_states_are_kept() {
         |state| state.rows[63] = 1,
         |state| state.rows[0] |= 1 << 40,
         |state| state.rows[2] |= 8 << 40,
-        |state| state.rows[2] |= 1 << 48,
+        |state| state.rows[0] |= 9 << 48,
+        |state| state.rows[1] |= 9 << 48,
+        |state| state.rows[2] ^= 1 << 48,
+        |state| state.rows[4] |= 9 << 48,
+        |state| state.rows[2] |= 1 << 56,
         |state| state.rows[2] |= 3 << 32,
         |state| state.rows[3] += 1 << 16,
         |state| state.pages[1] = 2,

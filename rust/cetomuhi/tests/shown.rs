@@ -1,7 +1,7 @@
 //! What is shown of a state, and the words for it.
 
 use cetomuhi::{Answer, Call, Capability, Frame, FrameState, Machine, Mailbox, PageState};
-use cetomuhi::{Refusal, Register, Reservation, ReservationState, Revocation, State};
+use cetomuhi::{Refusal, Register, Reservation, ReservationState, Revocation, State, Taker};
 use cetomuhi::{VirtualPage, Word};
 use std::collections::HashSet;
 
@@ -30,11 +30,11 @@ fn busy() -> Machine {
 fn a_busy_state_is_shown() {
     let machine = busy();
     let state = machine.state();
-    let row = |base, state, holder| Reservation { base, length: 16, state, holder };
+    let row = |base, state, holder, taker| Reservation { base, length: 16, state, holder, taker };
     let rows = [
-        row(0, ReservationState::Taken, 0),
-        row(16, ReservationState::Revoking, 0),
-        row(32, ReservationState::Open, 5),
+        row(0, ReservationState::Taken, 0, Taker::Party(0)),
+        row(16, ReservationState::Revoking, 0, Taker::Party(0)),
+        row(32, ReservationState::Open, 5, Taker::Nobody),
     ];
     assert!(state.reservations().eq(rows));
     assert_eq!(state.revocation(), Some(Revocation { base: 16, length: 16, place: 9 }));
@@ -55,7 +55,8 @@ fn a_busy_state_is_shown() {
 #[test]
 fn a_fresh_and_a_zero_state_are_shown() {
     let fresh = State::start(256, 128).expect("V and F are in range");
-    let whole = Reservation { base: 0, length: 4096, state: ReservationState::Open, holder: 0 };
+    let (state, holder, taker) = (ReservationState::Open, 0, Taker::Nobody);
+    let whole = Reservation { base: 0, length: 4096, state, holder, taker };
     assert!(fresh.reservations().eq([whole]));
     assert_eq!((fresh.pages().count(), fresh.frames().count()), (256, 128));
     assert!(fresh.pages().all(|(_, page)| page == PageState::Unmapped));
@@ -120,7 +121,29 @@ fn answers_and_entries_have_words() {
     assert_eq!(Capability::of(capability.number()), capability);
     let machine = busy();
     let lines: Vec<String> = machine.state().reservations().map(|row| row.to_string()).collect();
-    assert_eq!(lines[2], "16 cells from 32 on, Open, held by party 5");
+    let words = [
+        "16 cells from 0 on, Taken, held by party 0, taken by party 0",
+        "16 cells from 16 on, Revoking, held by party 0, taken by party 0 or by nobody",
+        "16 cells from 32 on, Open, held by party 5",
+    ];
+    assert_eq!(lines, words);
     let (page, state) = machine.state().pages().next().expect("V is 3");
     assert_eq!(format!("{page}: {state}"), "page 0: Mapped to frame 2");
+}
+
+#[test]
+fn takers_have_words() {
+    let words = |state, taker| {
+        Reservation { base: 0, length: 1, state, holder: 0, taker: Taker::of(taker) }.to_string()
+    };
+    let ends_with = |state, taker, end: &str| assert!(words(state, taker).ends_with(end), "{end}");
+    ends_with(ReservationState::Taken, 3, ", held by party 0, taken by party 3");
+    ends_with(ReservationState::Taken, 8, ", held by party 0, taken by several parties");
+    ends_with(ReservationState::Revoking, 7, ", held by party 0, taken by party 7");
+    ends_with(ReservationState::Revoking, 8, ", held by party 0, taken by several parties");
+    // Those of no well-formed state.
+    ends_with(ReservationState::Open, 3, ", held by party 0, taken by party 3");
+    ends_with(ReservationState::Taken, 9, ", held by party 0, taken by nobody");
+    ends_with(ReservationState::Taken, 255, ", held by party 0, taken by party 255");
+    assert_eq!(format!("{:>8}, {}", Taker::Nobody, Taker::Several), "  nobody, several parties");
 }

@@ -62,6 +62,12 @@ mul-rows c =
     let s = small-v (a .v) (a .f) (sym (c .before .in-range .ensures) ∙ not-false _ (c .if2 .left)) in
     omega (arith, s)
 
+add-rows : tie.Need-add-rows
+add-rows c =
+    let a = c .before .before .before .before .before .before .before .before .before .before .before .before .before .before .before .before .before .before .before .before .before .before .before .before .before .before .before .before .before .before .before .before .args in
+    let s = small-v (a .v) (a .f) (sym (c .before .in-range .ensures) ∙ not-false _ (c .if2 .left)) in
+    omega (arith, s)
+
 slice-write-rows : tie.Need-slice-write-rows
 slice-write-rows c =
     let a = c .before .before .before .before .before .before .before .before .before .before .before .before .before .before .before .before .before .before .before .before .before .before .before .before .before .before .before .before .before .before .before .before .args in
@@ -128,6 +134,7 @@ start-in-spec =
     same-length-7
     returns-2
     mul-rows
+    add-rows
     slice-write-rows
     cast-handed
     cast-handed-2

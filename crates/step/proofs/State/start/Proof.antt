@@ -18,6 +18,9 @@ in-range-requires c κs = search needs
 mul-rows : tie.Need-mul-rows
 mul-rows c = search needs
 
+add-rows : tie.Need-add-rows
+add-rows c = search needs
+
 array-write-rows : tie.Need-array-write-rows
 array-write-rows c = search needs
 
@@ -52,6 +55,7 @@ start-spec =
     (tie.spec
     in-range-requires
     mul-rows
+    add-rows
     array-write-rows
     bare-requires
     empty-requires

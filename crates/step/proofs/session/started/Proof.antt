@@ -11,6 +11,9 @@ use Rattle.step.proofs.session.started.Tie as tie
 mul-rows : tie.Need-mul-rows
 mul-rows c = search needs
 
+add-rows : tie.Need-add-rows
+add-rows c = search needs
+
 array-write-rows : tie.Need-array-write-rows
 array-write-rows c = search needs
 
@@ -81,6 +84,7 @@ started-spec =
     tie.close
     (tie.spec
     mul-rows
+    add-rows
     array-write-rows
     mul-n
     slice-aggregate-commands

@@ -21,24 +21,33 @@ add-range c = search needs
 state-number-requires : tie.Need-state-number-requires
 state-number-requires c κs = search needs
 
-mul-result : tie.Need-mul-result
-mul-result c = omega (arith, c .state-number .ensures, state-small (c .before .before .before .args .row .state))
+mul-held : tie.Need-mul-held
+mul-held c = omega (arith, c .state-number .ensures, state-small (c .before .before .before .args .row .state))
 
-add-result : tie.Need-add-result
-add-result c = omega (arith, c .state-number .ensures, state-small (c .before .before .before .args .row .state))
+add-held : tie.Need-add-held
+add-held c = omega (arith, c .state-number .ensures, state-small (c .before .before .before .args .row .state))
+
+cast-held : tie.Need-cast-held
+cast-held c = search needs
+
+mul-held-2 : tie.Need-mul-held-2
+mul-held-2 c = search needs
+
+add-held-2 : tie.Need-add-held-2
+add-held-2 c = omega (arith, c .before .state-number .ensures, state-small (c .before .before .before .before .args .row .state))
 
 cast-result : tie.Need-cast-result
 cast-result c = search needs
 
-mul-result-2 : tie.Need-mul-result-2
-mul-result-2 c = search needs
+mul-result : tie.Need-mul-result
+mul-result c = search needs
 
-add-result-2 : tie.Need-add-result-2
-add-result-2 c = omega (arith, c .before .state-number .ensures, state-small (c .before .before .before .before .args .row .state))
+add-result : tie.Need-add-result
+add-result c = omega (arith, c .before .before .state-number .ensures, state-small (c .before .before .before .before .before .args .row .state))
 
 returns : tie.Need-returns
 unfolding rowCode
-returns c = rw (c .before .state-number .ensures)
+returns c = rw (c .before .before .state-number .ensures)
 
 pub number-of-spec : {M : Type 1} → statement M
 number-of-spec =
@@ -49,9 +58,12 @@ number-of-spec =
     mul-range
     add-range
     state-number-requires
+    mul-held
+    add-held
+    cast-held
+    mul-held-2
+    add-held-2
+    cast-result
     mul-result
     add-result
-    cast-result
-    mul-result-2
-    add-result-2
     returns)

@@ -16,9 +16,12 @@ cast-t7 c = search needs
 cast-t10 : tie.Need-cast-t10
 cast-t10 c = search needs
 
+cast-t13 : tie.Need-cast-t13
+cast-t13 c = search needs
+
 returns : tie.Need-returns
 unfolding rowFrom
 returns c = rw (c .state-of .ensures)
 
 pub row-of-spec : {M : Type 1} → statement M
-row-of-spec = tie.close (tie.spec state-of-requires cast-t5 cast-t7 cast-t10 returns)
+row-of-spec = tie.close (tie.spec state-of-requires cast-t5 cast-t7 cast-t10 cast-t13 returns)

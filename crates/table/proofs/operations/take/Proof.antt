@@ -1,4 +1,5 @@
 -- `table::operations::take` meets its contract.
+use native.Mathlib.Omega.{arith}
 use mathlib.Core.Path.{sym, ap, _∙_, subst}
 use lib.ListN.{length}
 use Rattle.capabilities.specs.Refusals.{first}
@@ -58,8 +59,8 @@ returns-2 c =
       subst (λ m. Leaves l m (c .before .before .before .before .before .before .open-code .result) (a .count) (tabledOf (takeOf t (a .party) (a .base)))) (sym
           (c .before .before .put-row .ensures
           ∙ ap (λ g. putAt l g (rowCode (c .before .before .before .taken-row .result))) here
-          ∙ ap (λ r. putAt l f (rowCode r)) (c .before .before .before .taken-row .ensures ∙ ap takenRow row)))
-          (left-put l _ _ _ f (takenRow (rowOf t f)) told (c .before .before .before .before .before .if1 .left) (taken-sized (rowOf t f) (row-sized l (a .count) f))),
+          ∙ ap (λ r. putAt l f (rowCode r)) (c .before .before .before .taken-row .ensures ∙ ap (λ r. takenRow r (a .party)) row)))
+          (left-put l _ _ _ f (takenRow (rowOf t f) (a .party)) told (c .before .before .before .before .before .if1 .left) (taken-sized (rowOf t f) (a .party) (omega arith) (row-sized l (a .count) f))),
       ap (λ r. r .length) row ∙ sym (granted _ _ told (rowOf t f .length) 0 (c .before .before .before .before .before .if1 .left)),
     )
 

@@ -10,14 +10,14 @@ use Rattle.capabilities.proofs.Choice.{and-left}
 use Rattle.table.proofs.Truth.{and-yes, and-no}
 use Rattle.table.proofs.Testing.{tile-more, tile-end, end-of}
 use Rattle.table.specs.Rows.{live}
-use Rattle.table.specs.Tiling.{follows, tiles}
+use Rattle.table.specs.Tiling.{follows, tiles, takerSound, takersSound}
 use Rattle.table.specs.Numbers.{rowFrom, tableOf, written, allWritten}
 use Rattle.table.proofs.Reading.{used-length}
 use Rattle.table.proofs.tiling.tiled.Statement.{statement}
 use Rattle.table.proofs.tiling.tiled.Tie as tie
 
 abbrev Inv-loop : tie.InvT-loop
-Inv-loop rows count end n from₀ i₀ from i = (tiles 0 end (live (tableOf rows count)) && allWritten (take count rows)) ≡ (tiles from end (drop i (live (tableOf rows count))) && allWritten (drop i (take count rows)))
+Inv-loop rows count end n from₀ i₀ from i = ((tiles 0 end (live (tableOf rows count)) && takersSound (live (tableOf rows count))) && allWritten (take count rows)) ≡ ((tiles from end (drop i (live (tableOf rows count))) && takersSound (drop i (live (tableOf rows count)))) && allWritten (drop i (take count rows)))
 
 abbrev μ-loop : tie.MeasureT-loop
 μ-loop rows count end n from₀ i₀ from i = n - i
@@ -75,9 +75,10 @@ loop-again c =
     let from = c .before .before .before .before .loop .from in
     let x = getD l i 0 in
     let yes = sym (c .before .follows-at .ensures) ∙ not-false _ (c .if1 .left) in
-    let there = end-of x from (and-left (follows from (rowFrom x)) (written x) yes) in
+    let front = and-left (follows from (rowFrom x) && takerSound (rowFrom x)) (written x) yes in
+    let there = end-of x from (and-left (follows from (rowFrom x)) (takerSound (rowFrom x)) front) in
     c .before .before .before .before .loop .inv ∙ tile-more l (a .count) (a .end) i from h ∙ and-yes _ _ yes
-    ∙ ap (λ k. tiles k (a .end) (drop (i + 1) (live t)) && allWritten (drop (i + 1) (take (a .count) l))) there
+    ∙ ap (λ k. (tiles k (a .end) (drop (i + 1) (live t)) && takersSound (drop (i + 1) (live t))) && allWritten (drop (i + 1) (take (a .count) l))) there
 
 returns-2 : tie.Need-returns-2 Inv-loop μ-loop
 returns-2 c =

@@ -5,7 +5,7 @@ use mathlib.Core.Bool.{Bool, _&&_}
 use lib.Dec.{eqb, ltb, leb}
 use lib.ListN.{length, take, drop, length-map}
 use Rattle.table.specs.Rows.{live}
-use Rattle.table.specs.Tiling.{tiles, revokings, sized}
+use Rattle.table.specs.Tiling.{tiles, takersSound, revokings, sized}
 use Rattle.table.specs.Numbers.{rowFrom, tableOf, allWritten}
 use Rattle.table.specs.Sound.{allZero}
 use Rattle.table.proofs.Testing.{test-parts}
@@ -29,7 +29,7 @@ returns c =
     let l = a .rows .now in
     let n = a .count in
     let t = tableOf l n in
-    let tiling = tiles 0 (a .cells) (live t) && allWritten (take n l) in
+    let tiling = (tiles 0 (a .cells) (live t) && takersSound (live t)) && allWritten (take n l) in
     let fits : ℕ → Bool = λ k. eqb k 64 && (ltb 0 n && leb n 64) in
     ap (λ b. (fits (length l) && b) && (c .before .rest-zero .result && leb (c .revokings .result) 1)) (c .before .before .tiled .ensures)
     ∙ ap (λ b. (fits (length l) && tiling) && (b && leb (c .revokings .result) 1)) (c .before .rest-zero .ensures)
