@@ -132,45 +132,42 @@ static void take_four(cetomuhi_machine *m) {
     takers(m, "33509");
 }
 
+/* A granted call, and the takers after it. */
+static void leaves(cetomuhi_machine *m, cetomuhi_call call, const char *digits) {
+    grant(m, call);
+    takers(m, digits);
+}
+
+/* A sweep of the one frame, and a collect. */
+static void collect(cetomuhi_machine *m, const char *digits) {
+    grant(m, cetomuhi_sweep(0, 16));
+    leaves(m, cetomuhi_collect(0), digits);
+}
+
 /* A common taker stays, different ones are several; a collect leaves none. */
 static void test_joined_takers(void) {
     static cetomuhi_machine m;
     take_four(&m);
     refuse(&m, cetomuhi_merge(0, 48), CETOMUHI_REFUSED_WRONG_RESERVATION);
     takers(&m, "33509");
-    grant(&m, cetomuhi_merge(0, 0));
-    takers(&m, "3509");
-    grant(&m, cetomuhi_merge(0, 32));
-    takers(&m, "389");
-    grant(&m, cetomuhi_merge(0, 0));
-    takers(&m, "89");
-    grant(&m, cetomuhi_revoke(0, 0));
-    takers(&m, "89");
-    grant(&m, cetomuhi_sweep(0, 16));
-    grant(&m, cetomuhi_collect(0));
-    takers(&m, "99");
-    grant(&m, cetomuhi_merge(0, 0));
-    takers(&m, "9");
+    leaves(&m, cetomuhi_merge(0, 0), "3509");
+    leaves(&m, cetomuhi_merge(0, 32), "389");
+    leaves(&m, cetomuhi_merge(0, 0), "89");
+    leaves(&m, cetomuhi_revoke(0, 0), "89");
+    collect(&m, "99");
+    leaves(&m, cetomuhi_merge(0, 0), "9");
 }
 
 static void test_revoked_takers(void) {
     static cetomuhi_machine m;
     take_four(&m);
-    grant(&m, cetomuhi_revoke(0, 32));
-    takers(&m, "33509");
-    grant(&m, cetomuhi_merge(0, 0));
-    takers(&m, "3509");
-    grant(&m, cetomuhi_sweep(0, 16));
-    grant(&m, cetomuhi_collect(0));
-    takers(&m, "3909");
-    grant(&m, cetomuhi_revoke(0, 64));
-    takers(&m, "3900");
+    leaves(&m, cetomuhi_revoke(0, 32), "33509");
+    leaves(&m, cetomuhi_merge(0, 0), "3509");
+    collect(&m, "3909");
+    leaves(&m, cetomuhi_revoke(0, 64), "3900");
     CHECK(cetomuhi_reservation_at(&m.state, 3).state == CETOMUHI_REVOKING);
-    grant(&m, cetomuhi_sweep(0, 16));
-    grant(&m, cetomuhi_collect(0));
-    takers(&m, "3909");
-    grant(&m, cetomuhi_give(0, 32, 7));
-    takers(&m, "3909");
+    collect(&m, "3909");
+    leaves(&m, cetomuhi_give(0, 32, 7), "3909");
     expect(&m, cetomuhi_take(7, 32, 7), 0, 16);
     takers(&m, "3709");
 }

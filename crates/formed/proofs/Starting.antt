@@ -1,8 +1,8 @@
 -- The three ways of a start over lent arrays. Assumes nothing.
-use Prim.Native.Nat.{ℕ, _*_, _≤_}
+use Prim.Native.Nat.{ℕ, _≤_}
 use mathlib.Core.Bool.{Bool, true, false, _&&_}
 use mathlib.Core.List.{List}
-use mathlib.Core.Path.{_≡_, refl, sym, ap, _∙_}
+use mathlib.Core.Path.{_≡_, sym, ap, _∙_}
 use lib.ListN.{length, set, replicate}
 use lib.Dec.{eqb, ltb, leb}
 use borrow.Author.Tests.{eqb-true, leb-true}
@@ -15,7 +15,7 @@ use Rattle.arrays.specs.declared.Numbers.{Numbers}
 use Rattle.arrays.specs.Reading.{arrays, arraysOf}
 use Rattle.arrays.proofs.Starting.{begun, fresh-in, fresh-out, firstNumber}
 use Rattle.formed.specs.Test.{sized}
-use Rattle.formed.specs.Fresh.{Start, zeros, starting, startIn}
+use Rattle.formed.specs.Fresh.{zeros, starting, startIn}
 
 -- V and F in range are small.
 pub small-v : (v f : ℕ) → inRange v f ≡ true → v ≤ 256

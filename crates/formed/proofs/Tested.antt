@@ -14,19 +14,17 @@ use Rattle.pages.specs.Pages.{PageEntry}
 use Rattle.pages.specs.Pages.{FrameEntry}
 use Rattle.pages.specs.Layer.{wellFormed}
 use Rattle.pages.proofs.Formed as layer
-use Rattle.pages.specs.Numbers.{pageFrom, pageCode, frameFrom, frameCode, pageIn, frameIn, layerOf, pageKept, frameKept, layerSound}
-use Rattle.table.specs.Table.{Table}
-use Rattle.table.specs.Rows.{live}
-use Rattle.table.specs.Tiling.{tableSound, takersSound}
+use Rattle.pages.specs.Numbers.{pageCode, frameCode, pageIn, frameIn, layerOf, pageKept, frameKept, layerSound}
+use Rattle.table.specs.Tiling.{tableSound}
 use Rattle.table.proofs.Truth.{both}
 use Rattle.table.specs.Numbers.{rowFrom, rowCode, tableOf, allWritten}
-use Rattle.table.specs.Sound.{soundNumbers}
+use Rattle.table.specs.Sound.{wholeTable, soundNumbers}
 use Rattle.table.proofs.Numbers.{read-sized}
 use Rattle.table.proofs.RoundTrip.{AllSized, numbers-back, rows-written}
 use Rattle.reservations.specs.Revocation.{revoked, revocationSound}
 use Rattle.reservations.proofs.CoreKept.{core-facts, core-made}
 use Rattle.words.specs.declared.Slot.{Slot}
-use Rattle.words.specs.Words.{slot, tagOf, byteOf}
+use Rattle.words.specs.Words.{tagOf, byteOf}
 use Rattle.words.specs.Lent.{slotsOf, cellsOf, bytesOf, bit, mailboxSound}
 use Rattle.machine.specs.Formed as rules
 use Rattle.machine.proofs.Keeps.{facts, formed}
@@ -35,10 +33,6 @@ use Rattle.arrays.specs.Reading.{arrays, coreOf, numbersOf, stateOf, arraysOf, 
 use Rattle.arrays.proofs.Facts.{lengths}
 use Rattle.arrays.proofs.Lists.{length-map}
 use Rattle.formed.specs.Test.{sized, canonical, cached, formedOf}
-
--- The table's part of well-formedness, takers included.
-abbrev tableWhole : ℕ → Table → Bool
-tableWhole cells t = tableSound cells t && takersSound (live t)
 
 pub record Parts (a : Arrays) : Type 0 where
   pub words : length (a .words) ≡ 64
@@ -152,7 +146,7 @@ module _ (a : Arrays) (f : Formed a) where
         layer = both (wellFormed (layerOf (n .v) (n .f) (a .pages) (a .frames))) _ (c .layer)
             (both (each pageKept 0 (a .pages)) _ (list-kept pageIn (λ (x : PageEntry). pageCode (x .state)) 0 (a .pages) kept-pages)
             (list-kept frameIn (λ (x : FrameEntry). frameCode (x .state)) 0 (a .frames) kept-frames));
-        table = both (tableWhole (16 * n .v) (tableOf (a .rows) (n .count))) _ (both (tableSound (16 * n .v) (tableOf (a .rows) (n .count))) _ (c .rows) (s .takers))
+        table = both (wholeTable (16 * n .v) (tableOf (a .rows) (n .count))) _ (both (tableSound (16 * n .v) (tableOf (a .rows) (n .count))) _ (c .rows) (s .takers))
             (subst (λ (x : List ℕ). allWritten x ≡ true) kept-rows (rows-written (map rowFrom (a .rows)) (read-all (a .rows))));
         place = c .place;
         revocation = both (cached n k) _ (both (eqb (n .base) (revoked k .base)) _ (eq-eqb (n .base) (revoked k .base) kept-base) (eq-eqb (n .length) (revoked k .length) kept-length)) (c .revocation);
@@ -181,7 +175,7 @@ module _ (a : Arrays) (p : Parts a) where
       (sym (eqb-true (n .length) (revoked k .length) (and-right (eqb (n .base) (revoked k .base)) _ cache)))
       (cells-kept (a .words) (a .marks) lw) (bytes-kept 0 (a .words) (a .marks) lw (p .mark-bits))
       (cells-kept (a .mail) (a .flags) lm) (bytes-kept 0 (a .mail) (a .flags) lm (p .flag-bits))
-      (numbers-back (a .rows) (n .count) (and-right (tableWhole (16 * n .v) (tableOf (a .rows) (n .count))) _ (p .table)))
+      (numbers-back (a .rows) (n .count) (and-right (wholeTable (16 * n .v) (tableOf (a .rows) (n .count))) _ (p .table)))
       (kept-list pageIn (λ (x : PageEntry). pageCode (x .state)) 0 (a .pages) (and-left (each pageKept 0 (a .pages)) _ written))
       (kept-list frameIn (λ (x : FrameEntry). frameCode (x .state)) 0 (a .frames) (and-right (each pageKept 0 (a .pages)) _ written))
 
@@ -194,11 +188,11 @@ module _ (a : Arrays) (p : Parts a) where
       formed (stateOf a)
       (record {
         core = core-made k (and-left (wellFormed (layerOf (n .v) (n .f) (a .pages) (a .frames))) _ (p .layer))
-            (and-left (tableSound (16 * n .v) t) _ (and-left (tableWhole (16 * n .v) t) _ (p .table))) (p .place) (and-right (cached n k) _ (p .revocation));
+            (and-left (tableSound (16 * n .v) t) _ (and-left (wholeTable (16 * n .v) t) _ (p .table))) (p .place) (and-right (cached n k) _ (p .revocation));
         mailboxes = p .mailboxes;
         of-registers = slots-length (a .words) (a .marks) (p .words ∙ sym (p .marks)) ∙ p .words;
         of-mailboxes = slots-length (a .mail) (a .flags) (p .mail ∙ sym (p .flags)) ∙ p .mail;
-        takers = and-right (tableSound (16 * n .v) t) _ (and-left (tableWhole (16 * n .v) t) _ (p .table));
+        takers = and-right (tableSound (16 * n .v) t) _ (and-left (wholeTable (16 * n .v) t) _ (p .table));
       })
 
   pub whole : Formed a
@@ -233,7 +227,7 @@ module _ (a : Arrays) where
         mail = eqb-true (length (a .mail)) 8 (and-left b3 b4 two);
         flags = eqb-true (length (a .flags)) 8 (and-right b3 b4 two);
         layer = unfold layerSound in both (wellFormed (layerOf (n .v) (n .f) (a .pages) (a .frames))) _ (c .layer) (and-right (allWritten (a .rows)) _ numbers);
-        table = unfold soundNumbers in both (tableWhole (16 * n .v) (tableOf (a .rows) (n .count))) _ (both (tableSound (16 * n .v) (tableOf (a .rows) (n .count))) _ (c .rows) (s .takers)) (and-left (allWritten (a .rows)) _ numbers);
+        table = unfold soundNumbers in both (wholeTable (16 * n .v) (tableOf (a .rows) (n .count))) _ (both (tableSound (16 * n .v) (tableOf (a .rows) (n .count))) _ (c .rows) (s .takers)) (and-left (allWritten (a .rows)) _ numbers);
         place = c .place;
         revocation = both (cached n k) _ (and-left (cached n k) _ more) (c .revocation);
         mark-bits = and-left (each bit 0 (a .marks)) _ tags;
@@ -255,7 +249,7 @@ module _ (a : Arrays) where
       (both (eqb (length (a .rows)) 64) _ (eq-eqb (length (a .rows)) 64 (l .rows)) (both (eqb (length (a .pages)) 256) _ (eq-eqb (length (a .pages)) 256 (l .pages)) (eq-eqb (length (a .frames)) 128 (l .frames)))))
       (both (canonical a) _
       (both (each bit 0 (a .marks) && each bit 0 (a .flags)) _ (both (each bit 0 (a .marks)) _ (p .mark-bits) (p .flag-bits))
-      (both (allWritten (a .rows)) _ (and-right (tableWhole (16 * n .v) (tableOf (a .rows) (n .count))) _ (p .table)) (and-right (wellFormed (layerOf (n .v) (n .f) (a .pages) (a .frames))) _ (p .layer))))
+      (both (allWritten (a .rows)) _ (and-right (wholeTable (16 * n .v) (tableOf (a .rows) (n .count))) _ (p .table)) (and-right (wellFormed (layerOf (n .v) (n .f) (a .pages) (a .frames))) _ (p .layer))))
       (both (cached n k) _ (and-left (cached n k) _ (p .revocation)) (f .well)))
 
   -- What holds if and only if all of the parts do is the test.

@@ -1,19 +1,18 @@
 -- A call is granted, and then done, or changes nothing. Assumes nothing.
 use Prim.Native.Nat.{ℕ, _*_}
 use native.Mathlib.Omega.{arith}
-use mathlib.Core.Bool.{Bool, true, false, _&&_}
+use mathlib.Core.Bool.{Bool, true, false}
 use mathlib.Core.Logic.{_⊎_, inl, inr, ⊎-elim}
 use mathlib.Core.Path.{_≡_, refl, ap}
 use borrow.Author.Tests.{eqb-true, eqb-false}
 use lib.Dec.{eqb}
 use lib.ListN.{length}
 use Rattle.capabilities.specs.Refusals.{first}
-use Rattle.capabilities.proofs.Choice.{and-left}
 use Rattle.pages.specs.Layer.{serves}
 use Rattle.pages.proofs.Memory.{served}
 use Rattle.reservations.specs.Revocation.{coreSound}
 use Rattle.calls.specs.declared.Call.{Call}
-use Rattle.machine.specs.Formed.{wellFormed, mailboxesSound, sized}
+use Rattle.machine.specs.Formed.{wellFormed}
 use Rattle.machine.specs.Step.{Outcome, done, reasonsOn, effectOn, ruled, judged, stepOf}
 use Rattle.histories.specs.Runs.{Machine, machine, outcome, next, Granted}
 use Rattle.machine.proofs.Keeps.{facts}

@@ -2,7 +2,7 @@
 use Prim.Native.Nat.{ℕ, zero, suc, _+_, _-_, _*_, _<_, _≤_}
 use native.Mathlib.Nat.{zero-add}
 use native.Mathlib.Omega.{arith}
-use mathlib.Core.Bool.{Bool, true, false, not, _&&_, false≢true}
+use mathlib.Core.Bool.{Bool, true, false, not, _&&_}
 use mathlib.Core.List.{List, [], _∷_}
 use mathlib.Core.Path.{_≡_, refl, sym, ap, subst, _∙_}
 use borrow.Author.Tests.{eq-eqb, eqb-true, eqb-false, ltb-true, ltb-false}
@@ -13,7 +13,7 @@ use Rattle.capabilities.proofs.Refusals.{first-clear}
 use Rattle.table.specs.declared.Found.the-variants.{At}
 use Rattle.table.specs.declared.Reservation.{Reservation}
 use Rattle.table.specs.declared.ReservationState.{ReservationState}
-use Rattle.table.specs.declared.ReservationState.the-variants.{Open, Taken, Revoking}
+use Rattle.table.specs.declared.ReservationState.the-variants.{Open}
 use Rattle.table.specs.Table.{Table}
 use Rattle.table.specs.Find.{findOf, nextOf, rowOf, missing}
 use Rattle.table.specs.Operations.{alike, joined, mergeable, mergeReasonsAt, mergeReasons, mergeOf}
@@ -44,6 +44,7 @@ use Rattle.histories.proofs.Forming.{always-formed, standing-facts, sta
 use Rattle.table.proofs.Numbers.{same-row}
 use Rattle.table.proofs.Takers.{takers-row, open-taker}
 use Rattle.machine.proofs.Keeps.{facts}
+use Rattle.table.proofs.Inverse.{open-is}
 
 standing-tiled : (m : Machine) (v f : ℕ) → Standing m v f → tiles 0 (16 * v) (live (m .state .core .table)) ≡ true
 standing-tiled m v f k =
@@ -172,14 +173,9 @@ merged-back m s p v f like k a =
     let t = sound _ (m .state .core .table) (standing-facts m v f k .rows) in
     lead-back (length (live (m .state .core .table)) - 1) m s p v f like k a (omega (arith, t .some, t .used))
 
-is-open : (s : ReservationState) → isOpen s ≡ true → s ≡ Open
-is-open Open e = refl
-is-open Taken e = absurd (false≢true e)
-is-open Revoking e = absurd (false≢true e)
-
 pub merges-lead-back : MergesLeadBack
 merges-lead-back m r p a =
-    let l = merged-back m Open p (r .v) (r .f) refl (always-formed m r) (record { state = λ i h. is-open _ (a .isopen i h); holder = a .holds }) in
+    let l = merged-back m Open p (r .v) (r .f) refl (always-formed m r) (record { state = λ i h. open-is _ (a .isopen i h); holder = a .holds }) in
     let calls = replicate (length (live (m .state .core .table)) - 1) (Merge p 0) in
     let n = run m calls in
     let t = n .state .core .table in

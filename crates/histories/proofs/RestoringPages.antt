@@ -18,7 +18,6 @@ use Rattle.pages.specs.Mapping.{unmapReasons, soiled, unmapped}
 use Rattle.pages.proofs.Formed.{sound as layered}
 use Rattle.pages.proofs.View.{page-put, page-kept, page-of-frame}
 use Rattle.table.specs.declared.ReservationState.the-variants.{Taken}
-use Rattle.table.specs.Rows.{live}
 use Rattle.reservations.specs.Core.{Core}
 use Rattle.calls.specs.declared.Call.the-variants.{Unmap}
 use Rattle.calls.specs.Commands.{page}

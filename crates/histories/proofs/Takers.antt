@@ -71,9 +71,9 @@ takers-written-down v f cells tags b calls =
     record {
       of-open = λ i cell k o. written-open (rowAt t i .state) (rangeOf (rowAt t i)) (rowAt t i .taker) took (all i (k .0)) o cell (k .1);
       of-taken = λ i cell k o. taken i (k .0) o .by-party cell (k .1);
-      of-one = λ i cell k o few. taken i (k .0) o .by-one few cell (k .1);
+      of-one = λ i cell k o few. taken i (k .0) o .by-one (omega (arith, few)) cell (k .1);
       of-several = λ i h o z. let d = written-several (rowAt t i .state) (rangeOf (rowAt t i)) (rowAt t i .taker) took (all i h) o z in (d .one, d .other, (h, d .has-one), (h, d .has-other), d .apart);
-      of-revoking = λ i cell k o few. ⊎-elim (λ x. inl (x .by-one few cell (k .1))) (λ x. inr (x .1, x .0 cell (k .1))) (written-revoking (rowAt t i .state) (rangeOf (rowAt t i)) (rowAt t i .taker) took (all i (k .0)) o);
+      of-revoking = λ i cell k o few. ⊎-elim (λ x. inl (x .by-one (omega (arith, few)) cell (k .1))) (λ x. inr (x .1, x .0 cell (k .1))) (written-revoking (rowAt t i .state) (rangeOf (rowAt t i)) (rowAt t i .taker) took (all i (k .0)) o);
     }
   where
     t : Table

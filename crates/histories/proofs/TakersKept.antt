@@ -7,8 +7,8 @@ use mathlib.Core.Bool.{Bool, true, false, false≢true}
 use mathlib.Core.List.{List, [], _∷_, _++_}
 use mathlib.Core.Logic.{_⊎_, inl, inr, ⊎-elim}
 use mathlib.Core.Path.{_≡_, refl, sym, ap, subst, _∙_}
-use borrow.Author.Tests.{eqb-true, eqb-false, ltb-true, ltb-false}
-use lib.Dec.{eqb, ltb}
+use borrow.Author.Tests.{ltb-true, ltb-false}
+use lib.Dec.{ltb}
 use lib.ListN.{length, getD, take, drop}
 use Rattle.capabilities.specs.declared.Range.{Range}
 use Rattle.capabilities.specs.Lists.{pick}
@@ -24,7 +24,7 @@ use Rattle.table.specs.Rows.{isOpen, isTaken, isRevoking, noTaker, severalTaker
 use Rattle.table.proofs.After.{Replaced, take-after, split-after, merge-after, give-after}
 use Rattle.table.proofs.Cells.{inside-made, no-shared-cell}
 use Rattle.table.proofs.Kept.{row-live}
-use Rattle.table.proofs.Takers.{lent-taker, takers-row}
+use Rattle.table.proofs.Takers.{lent-taker, takers-row, joined-either}
 use Rattle.table.proofs.Tiled.{row-some}
 use Rattle.reservations.specs.Core.{Core}
 use Rattle.reservations.specs.Revocation.{revokingRow, collectedRow, revoked, revokeOf, collectOf}
@@ -123,14 +123,6 @@ written-revoked : (s : ReservationState) (a : Range) (taker : ℕ) (took : ℕ �
 written-revoked Open a taker took k = inr (k, refl)
 written-revoked Taken a taker took k = inl k
 written-revoked Revoking a taker took k = k
-
--- Two takers joined: both the same, or 8.
-joined-either : (m n : ℕ) → ((m ≡ n) × (joinedTaker m n ≡ m)) ⊎ ((m ≡ n → ⊥) × (joinedTaker m n ≡ severalTakers))
-joined-either m n = go (eqb m n) refl
-  where
-    go : (b : Bool) → eqb m n ≡ b → ((m ≡ n) × (joinedTaker m n ≡ m)) ⊎ ((m ≡ n → ⊥) × (joinedTaker m n ≡ severalTakers))
-    go true e = inl (eqb-true m n e, pick-yes (eqb m n) m severalTakers e)
-    go false e = inr (eqb-false m n e, pick-no (eqb m n) m severalTakers e)
 
 -- A wider range has the cells too.
 differ-wider : (a b : Range) (took : ℕ → ℕ) → ((cell : ℕ) → inside b cell ≡ true → inside a cell ≡ true) → Differ b took → Differ a took

@@ -2,7 +2,7 @@
 -- of either kind, gave every cell of it; where it is 8, two of its cells came from takes of different parties. So it is of a Revoking one,
 -- save that one that was Open has taker 0. Of a cell in an Open reservation no take lasts. Assumes nothing.
 use Prim.Native.Nat.{ℕ, _<_}
-use mathlib.Core.Bool.{Bool, true, false}
+use mathlib.Core.Bool.{true, false}
 use mathlib.Core.List.{List, [], _∷_, _++_}
 use mathlib.Core.Logic.{_⊎_}
 use mathlib.Core.Path.{_≡_}
@@ -10,7 +10,6 @@ use lib.Dec.{eqb}
 use lib.ListN.{length, take as front}
 use Rattle.capabilities.specs.Lists.{pick}
 use Rattle.capabilities.specs.Range.{inside}
-use Rattle.table.specs.declared.Reservation.{Reservation}
 use Rattle.table.specs.Table.{Table}
 use Rattle.table.specs.Rows.{isOpen, isTaken, isRevoking, noTaker, severalTakers, rangeOf, live}
 use Rattle.reservations.specs.Revocation.{revoked}

@@ -3,14 +3,13 @@
 use Prim.Native.Nat.{ℕ}
 use native.Mathlib.Omega.{arith}
 use mathlib.Core.Bool.{_&&_, _||_}
-use mathlib.Core.List.{List, _∷_}
+use mathlib.Core.List.{List}
 use mathlib.Core.Path.{_≡_, refl, sym, ap, subst, _∙_}
 use lib.ListN.{getD}
 use lib.Dec.{eqb}
 use borrow.Author.Tests.{eqb-true}
 use Rattle.capabilities.specs.Capability.{permitted}
 use Rattle.capabilities.specs.Lists.{pick}
-use Rattle.capabilities.specs.Refusals.{reason}
 use Rattle.capabilities.proofs.Choice.{and-left, and-right}
 use Rattle.capabilities.proofs.Refusals.{first-clear}
 use Rattle.pages.specs.Mapping.{unmapReasons, unmapOf}

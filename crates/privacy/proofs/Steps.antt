@@ -22,7 +22,6 @@ use Rattle.calls.specs.declared.Call.{Call}
 use Rattle.words.specs.declared.Slot.{Slot}
 use Rattle.words.specs.Words.{registerOf, wordAt, byteOf, stored}
 use Rattle.machine.specs.State.{State}
-use Rattle.machine.specs.Formed.{wellFormed, mailboxesSound, sized}
 use Rattle.machine.specs.Roles.{Asked}
 use Rattle.machine.specs.Effects.{Effect}
 use Rattle.machine.specs.Step.{effectOn, registersAfter, mailboxesAfter, cellsAfter, tagsAfter, fetched}

@@ -7,7 +7,6 @@ use mathlib.Core.Path.{_≡_, refl, ap, _∙_}
 use lib.Dec.{ltb, leb}
 use lib.ListN.{getD, replicate}
 use borrow.Author.Tests.{ltb-true}
-use Rattle.capabilities.specs.Lists.{pick}
 use Rattle.capabilities.proofs.Choice.{and-left, pick-yes, pick-no}
 use Rattle.pages.specs.Layer.{inRange}
 use Rattle.table.specs.declared.Reservation.{Reservation}

@@ -1,6 +1,6 @@
 -- The arrays that a start's state is written as, as a start by value answers them. Assumes nothing.
-use Prim.Native.Nat.{ℕ, _*_}
-use mathlib.Core.Bool.{Bool, true, false}
+use Prim.Native.Nat.{ℕ}
+use mathlib.Core.Bool.{true, false}
 use mathlib.Core.Path.{_≡_, sym, ap, _∙_}
 use lib.ListN.{set, replicate}
 use Rattle.capabilities.specs.Lists.{pick}

@@ -34,7 +34,8 @@ use Rattle.table.proofs.Kept.{cut-one, cut-two, row-live}
 use Rattle.table.proofs.Numbers.{same-row}
 use Rattle.table.proofs.Takers.{open-taker, both-open, takers-row}
 
-open-is : (s : ReservationState) → isOpen s ≡ true → s ≡ Open
+-- An Open state is `Open`.
+pub open-is : (s : ReservationState) → isOpen s ≡ true → s ≡ Open
 open-is Open e = refl
 open-is Taken e = absurd (false≢true e)
 open-is Revoking e = absurd (false≢true e)

@@ -1,25 +1,25 @@
 -- What a call leaves: refused, granted, or of a slice that does not fit. Assumes nothing.
 use Prim.Native.Nat.{ℕ, _+_, _-_, _<_, _≤_}
 use native.Mathlib.Omega.{arith}
-use mathlib.Core.Bool.{Bool, true, false, true≢false}
+use mathlib.Core.Bool.{true, false, true≢false}
 use mathlib.Core.List.{List}
 use mathlib.Core.Path.{_≡_, refl, sym, ap, subst, _∙_}
 use borrow.Author.Tests.{eq-eqb, ne-eqb, leb-false}
 use lib.ListN.{length, getD}
 use lib.Dec.{eqb}
 use Rattle.capabilities.specs.Refusals.{first}
-use Rattle.capabilities.specs.Lists.{pick}
 use Rattle.capabilities.proofs.Choice.{pick-yes, pick-no}
 use Rattle.table.specs.declared.Reservation.{Reservation}
 use Rattle.table.specs.Table.{Table}
 use Rattle.table.specs.Table.{Tabled}
 use Rattle.table.specs.declared.Found.{Found}
 use Rattle.table.specs.declared.Found.the-variants.{At, Nowhere}
-use Rattle.table.specs.Rows.{live, blank, table, severalTakers}
+use Rattle.table.specs.Rows.{live, blank, table}
 use Rattle.table.specs.Find.{missing, rowOf, withRow, findOf, nextOf, begins}
-use Rattle.table.specs.Operations.{tabled, takenRow, givenRow, lowerPart, upperPart, joinedTaker, joined, splitAt, mergeAt, mergeable, splitReasonsAt, mergeReasonsAt}
+use Rattle.table.specs.Operations.{tabled, takenRow, givenRow, lowerPart, upperPart, joined, splitAt, mergeAt, mergeable, splitReasonsAt, mergeReasonsAt}
 use Rattle.table.proofs.Answers.{granted, refused, Splits}
 use Rattle.table.proofs.Finding.{found-at, next-below}
+use Rattle.table.proofs.Takers.{joined-most}
 use Rattle.table.specs.Numbers.{rowCode, tableOf, allWritten}
 use Rattle.table.specs.Lent.{Leaves, fitting, putAt, placeOf, spreadAt, gatherAt, splitCode, mergeCode}
 use Rattle.table.proofs.Numbers.{Sized, read-sized, read-back, number-written}
@@ -64,15 +64,9 @@ lower-sized r len h s = record { base = s .base; length = h; holder = s .holder;
 upper-sized : (r : Reservation) (len : ℕ) → Sized r → Sized (upperPart r len)
 upper-sized r len s = record { base = omega arith; length = omega (arith, s .length); holder = s .holder; taker = omega arith }
 
-pick-below : (b : Bool) (x y n : ℕ) → x < n → y < n → pick b x y < n
-pick-below true x y n h k = h
-pick-below false x y n h k = k
-
-joined-small : (a b : ℕ) → a < 256 → joinedTaker a b < 256
-joined-small a b h = pick-below (eqb a b) a severalTakers 256 h (omega arith)
-
 joined-sized : (r q : Reservation) → Sized r → Sized (joined r q)
-joined-sized r q s = record { base = s .base; length = omega arith; holder = s .holder; taker = joined-small (r .taker) (q .taker) (s .taker) }
+joined-sized r q s =
+    record { base = s .base; length = omega arith; holder = s .holder; taker = omega (arith, joined-most (r .taker) (q .taker) 255 (omega (arith, s .taker)) (omega arith)) }
 
 -- One row put.
 pub left-put :

@@ -12,7 +12,7 @@ use Rattle.capabilities.proofs.Choice.{pick-yes, pick-no, and-left, and-right}
 use Rattle.table.specs.declared.ReservationState.{ReservationState}
 use Rattle.table.specs.declared.ReservationState.the-variants.{Open, Taken, Revoking}
 use Rattle.table.specs.declared.Reservation.{Reservation}
-use Rattle.table.specs.Rows.{stateNumber, isRevoking, reservation, blank}
+use Rattle.table.specs.Rows.{stateNumber, isRevoking, blank}
 use Rattle.table.proofs.Truth.{both, same-test}
 use Rattle.table.specs.Numbers.{stateFrom, rowFrom, rowCode, written}
 

@@ -1,13 +1,13 @@
 -- Takers that fit: of the rows of a list, of parts of it, and of the rows that the operations make. Assumes nothing.
 use Prim.Native.Nat.{ℕ, zero, suc, _<_, _≤_}
 use native.Mathlib.Omega.{arith}
-use mathlib.Core.Bool.{Bool, true, false, _&&_, false≢true}
+use mathlib.Core.Bool.{Bool, true, false, false≢true}
 use mathlib.Core.List.{List, [], _∷_, _++_}
-use mathlib.Core.Path.{_≡_, refl, sym, ap, _∙_}
-use borrow.Author.Tests.{eqb-true, eq-eqb, leb-true, le-leb}
+use mathlib.Core.Logic.{_⊎_, inl, inr, ⊎-elim}
+use mathlib.Core.Path.{_≡_, refl, sym, _∙_}
+use borrow.Author.Tests.{eqb-true, eqb-false, eq-eqb, leb-true, le-leb}
 use lib.Dec.{eqb, leb}
 use lib.ListN.{length, getD, take, drop}
-use Rattle.capabilities.specs.Lists.{pick}
 use Rattle.capabilities.proofs.Choice.{and-left, and-right, pick-yes, pick-no}
 use Rattle.table.specs.declared.Reservation.{Reservation}
 use Rattle.table.specs.declared.ReservationState.{ReservationState}
@@ -38,16 +38,20 @@ taker-small r e = go (isOpen (r .state)) refl
     go true o = omega (arith, open-taker r o e)
     go false o = omega (arith, lent-taker r o e)
 
--- Two takers joined: the same, or 8.
-pub joined-most : (a b : ℕ) → a ≤ 8 → joinedTaker a b ≤ 8
-joined-most a b h = go (eqb a b) refl
+-- Two takers joined: both the same, or 8.
+pub joined-either : (a b : ℕ) → ((a ≡ b) × (joinedTaker a b ≡ a)) ⊎ ((a ≡ b → ⊥) × (joinedTaker a b ≡ severalTakers))
+joined-either a b = go (eqb a b) refl
   where
-    go : (t : Bool) → eqb a b ≡ t → joinedTaker a b ≤ 8
-    go true e = omega (arith, pick-yes (eqb a b) a severalTakers e)
-    go false e = omega (arith, pick-no (eqb a b) a severalTakers e)
+    go : (t : Bool) → eqb a b ≡ t → ((a ≡ b) × (joinedTaker a b ≡ a)) ⊎ ((a ≡ b → ⊥) × (joinedTaker a b ≡ severalTakers))
+    go true e = inl (eqb-true a b e, pick-yes (eqb a b) a severalTakers e)
+    go false e = inr (eqb-false a b e, pick-no (eqb a b) a severalTakers e)
 
 pub joined-same : (a b : ℕ) → a ≡ b → joinedTaker a b ≡ a
 joined-same a b e = pick-yes (eqb a b) a severalTakers (eq-eqb a b e)
+
+-- No bound that holds of the lower taker and of 8 is passed.
+pub joined-most : (a b n : ℕ) → a ≤ n → 8 ≤ n → joinedTaker a b ≤ n
+joined-most a b n h k = ⊎-elim (λ x. omega (arith, x .1)) (λ x. omega (arith, x .1)) (joined-either a b)
 
 -- Of two alike, the upper is Open if the lower is.
 pub both-open : (a b : ReservationState) → alike a b ≡ true → isOpen a ≡ true → isOpen b ≡ true
@@ -65,7 +69,7 @@ joined-sound r s a e f = go (isOpen (r .state)) refl
         let p = open-taker r o e in
         let q = open-taker s (both-open (r .state) (s .state) a o) f in
         taker-open (joined r s) o (joined-same (r .taker) (s .taker) (p ∙ sym q) ∙ p)
-    go false o = taker-lent (joined r s) o (joined-most (r .taker) (s .taker) (lent-taker r o e))
+    go false o = taker-lent (joined r s) o (joined-most (r .taker) (s .taker) 8 (lent-taker r o e) (omega arith))
 
 -- Of a list: each row, and parts put together.
 pub takers-row : (l : List Reservation) (i : ℕ) → takersSound l ≡ true → i < length l → takerSound (getD l i blank) ≡ true

@@ -9,7 +9,7 @@ use lib.Dec.{eqb}
 use lib.ListN.{getD}
 use Rattle.table.specs.declared.Reservation.{Reservation}
 use Rattle.table.specs.Table.{Table}
-use Rattle.table.specs.Rows.{isOpen, live, blank}
+use Rattle.table.specs.Rows.{live, blank}
 use Rattle.table.specs.Tiling.{tableSound, takerSound, takersSound}
 use Rattle.table.specs.Operations.{takenRow, takeOf, givenRow, giveOf, lowerPart, upperPart, splitOf, joined, mergeOf}
 use Rattle.table.proofs.Refused.{take-refused, split-refused, merge-refused, give-refused}

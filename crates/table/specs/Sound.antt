@@ -3,12 +3,17 @@ use Prim.Native.Nat.{ℕ, _/_, _%_}
 use mathlib.Core.Bool.{Bool, true, _&&_, _||_}
 use mathlib.Core.List.{List, [], _∷_}
 use lib.Dec.{eqb, ltb, leb}
+use Rattle.table.specs.Table.{Table}
 use Rattle.table.specs.Rows.{noTaker, severalTakers, live}
 use Rattle.table.specs.Tiling.{tableSound, takersSound}
 use Rattle.table.specs.Numbers.{tableOf, allWritten}
 
+-- A well-formed table, takers included.
+abbrev pub wholeTable : ℕ → Table → Bool
+wholeTable cells t = tableSound cells t && takersSound (live t)
+
 unfoldable pub soundNumbers : ℕ → List ℕ → ℕ → Bool
-soundNumbers cells l count = (tableSound cells (tableOf l count) && takersSound (live (tableOf l count))) && allWritten l
+soundNumbers cells l count = wholeTable cells (tableOf l count) && allWritten l
 
 unfoldable pub allZero : List ℕ → Bool
 allZero [] = true

@@ -1,7 +1,7 @@
 -- `formed::fresh::start_in` meets its contract. The three ways are those of the definition; cleared arrays with one row written are a
 -- fresh state's.
 use native.Mathlib.Omega.{arith}
-use mathlib.Core.Path.{_≡_, sym, _∙_}
+use mathlib.Core.Path.{sym, _∙_}
 use borrow.Author.Tests.{not-true, not-false}
 use Rattle.arrays.specs.Reading.{arrays}
 use Rattle.formed.proofs.Starting.{small-v, small-f, of-rows, start-unfit, start-refused, start-granted}

@@ -1,5 +1,5 @@
 -- `step::State::start` meets its contract. All numbers are 0 but V, F, the count and the first row.
-use mathlib.Core.Path.{_≡_, sym, _∙_}
+use mathlib.Core.Path.{sym, _∙_}
 use Rattle.step.proofs.Starting.{start-in, start-out}
 use borrow.Author.Needs.{needs}
 use Rattle.step.proofs.State.start.Statement.{statement}
