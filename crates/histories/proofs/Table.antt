@@ -7,8 +7,7 @@ use mathlib.Core.Logic.{_⊎_, inl, inr, ⊎-elim}
 use mathlib.Core.Path.{_≡_, refl, sym, ap, subst, _∙_}
 use borrow.Author.Tests.{ltb-true, ltb-false}
 use lib.Dec.{ltb}
-use lib.ListN.{length, getD, take, drop, length-append, length-drop, List·getD-append}
-use lib.Seq.{getD-take, getD-drop, getD-append-add, length-take-le}
+use lib.ListN.{length, getD, take, drop}
 use Rattle.capabilities.specs.declared.Range.{Range}
 use Rattle.capabilities.specs.Range.{inside}
 use Rattle.capabilities.specs.Capability.{baseOf}
@@ -22,6 +21,7 @@ use Rattle.table.specs.Operations.{alike, joined, lowerPart, upperPart, takenRo
 use Rattle.table.proofs.Cells.{inside-bounds, inside-made}
 use Rattle.table.proofs.After.{Replaced}
 use Rattle.table.proofs.Kept.{cut-one, cut-two}
+use Rattle.table.proofs.Places.{size, low, mid, high}
 use Rattle.table.proofs.Dying.{dyings, none, firstOf, revoking-row, revoking-none, dyings-append, dyings-not}
 use Rattle.reservations.specs.Core.{Core}
 use Rattle.reservations.specs.Revocation.{revokingRow, collectedRow, running, revoked, dying}
@@ -48,29 +48,6 @@ pub record Carried (t u : Table) : Type 0 where
 pub record CarriedBut (P : Reservation → Type 0) (Q : ℕ → Type 0) (t u : Table) : Type 0 where
   pub kept : (j : ℕ) → j < length (live t) → isOpen (rowAt t j .state) ≡ false → P (rowAt t j) → Around u (rowAt t j)
   pub came : (j v : ℕ) → j < length (live u) → isOpen (rowAt u j .state) ≡ true → inside (rangeOf (rowAt u j)) v ≡ true → Opened t v ⊎ Q v
-
--- k rows from the i-th on, replaced by new ones.
-module _ (l new : List Reservation) (i k : ℕ) (h : i + k ≤ length l) where
-  abbrev result : List Reservation
-  result = take i l ++ (new ++ drop (i + k) l)
-
-  front : length (take i l) ≡ i
-  front = length-take-le i l (omega arith)
-
-  pub size : length result ≡ i + (length new + (length l - (i + k)))
-  size = simp (length-append, front, length-drop) refl
-
-  pub low : (j : ℕ) → j < i → getD result j blank ≡ getD l j blank
-  low j b = List·getD-append (take i l) (new ++ drop (i + k) l) blank j (rw front b) ∙ getD-take i l j blank b
-
-  past : (n : ℕ) → getD result (i + n) blank ≡ getD (new ++ drop (i + k) l) n blank
-  past n = ap (λ m. getD result (m + n) blank) (sym front) ∙ getD-append-add (take i l) (new ++ drop (i + k) l) n blank
-
-  pub mid : (j : ℕ) → j < length new → getD result (i + j) blank ≡ getD new j blank
-  mid j b = past j ∙ List·getD-append new (drop (i + k) l) blank j b
-
-  pub high : (j : ℕ) → getD result (i + (length new + j)) blank ≡ getD l (i + k + j) blank
-  high j = past (length new + j) ∙ getD-append-add new (drop (i + k) l) j blank ∙ getD-drop (i + k) l j blank
 
 -- One of the new rows stands around one of the replaced ones; a cell of a new Open one was in a replaced Open one.
 pub record Fits (new : List Reservation) (r : Reservation) : Type 0 where

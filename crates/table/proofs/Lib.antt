@@ -23,3 +23,4 @@ pub mod Written
 pub mod Leaving
 pub mod Testing
 pub mod RoundTrip
+pub mod Places
