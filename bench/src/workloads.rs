@@ -83,7 +83,23 @@ pub fn kinds() -> Vec<(&'static str, Vec<u8>)> {
             &[zero, map, unmap, revoke, sweep, Action::Collect],
         ),
     ];
-    rounds.map(|(name, round)| (name, repeated(name, round))).into()
+    let moved = [
+        ("split, merge at 1 row", moves(1)),
+        ("split, merge at 32 rows", moves(32)),
+        ("split, merge at 63 rows", moves(63)),
+    ];
+    rounds.map(|(name, round)| (name, repeated(name, round))).into_iter().chain(moved).collect()
+}
+
+/// The first of so many reservations split and merged over and over, so that all others move.
+fn moves(rows: u16) -> Vec<u8> {
+    let mut session = Session::start(16, 16);
+    (0..rows - 1).for_each(|row| session.call(0, Action::Split { base: 2 * row, len: 2 }));
+    while session.bytes.len() < INPUT_LIMIT - 64 {
+        session.call(0, Action::Split { base: 0, len: 1 });
+        session.call(0, Action::Merge { base: 0 });
+    }
+    session.bytes
 }
 
 /// Pairs of sessions, the second one like the first with calls of one kind more, all granted: kinds

@@ -24,3 +24,6 @@ pub mod Leaving
 pub mod Testing
 pub mod RoundTrip
 pub mod Places
+pub mod Counted
+pub mod Once
+pub mod WritesExamples

@@ -1,14 +1,17 @@
 -- Rows that move up or down by one, as the movers' loops go. Assumes nothing.
-use Prim.Native.Nat.{ℕ, zero, suc, _+_, _-_, _<_, _≤_, min}
-use native.Mathlib.Numerals.{add-one, add-two}
+use Prim.Native.Nat.{ℕ, zero, suc, _+_, _<_, _≤_, min}
 use native.Mathlib.Omega.{arith}
+use mathlib.Core.Bool.{Bool, true, false}
 use mathlib.Core.List.{List, [], _∷_, _++_}
-use mathlib.Core.Path.{_≡_, refl, ap, _∙_}
-use lib.ListN.{length, getD, take, drop, set, length-take, length-drop}
-use lib.Seq.{drop-cons, set-at, getD-take}
+use mathlib.Core.Path.{_≡_, refl, sym, ap, _∙_}
+use borrow.Author.Tests.{eqb-true, eqb-false}
+use lib.Dec.{eqb}
+use lib.ListN.{length, getD, take, drop, set, length-take}
+use lib.Seq.{drop-cons, set-at, set-set, getD-take, length-take-le}
 use Rattle.table.specs.declared.Reservation.{Reservation}
 use Rattle.table.specs.Table.{Table}
-use Rattle.table.specs.Rows.{live, splice, spread, gather, table, blank}
+use Rattle.table.specs.Rows.{live}
+use Rattle.table.specs.Lent.{raised, lowered}
 
 -- The used rows are the first ones of all.
 pub live-length : (t : Table) → length (live t) ≡ min (t .count) (length (t .rows))
@@ -20,10 +23,6 @@ unfolding live
 live-at t i d h = getD-take (t .count) (t .rows) i d (omega (arith, live-length t))
 
 module _ {A : Type 0} where
-  -- Entries j to n - 1 stand one higher; entry j stands where it was, too.
-  unfoldable pub raised : List A → ℕ → ℕ → List A
-  raised l j n = take (suc j) l ++ (drop j (take n l) ++ drop (suc n) l)
-
   pub raise-start : (l : List A) (n : ℕ) → n < length l → l ≡ raised l n n
   unfolding raised
   raise-start [] n h = absurd (omega arith)
@@ -39,10 +38,11 @@ module _ {A : Type 0} where
   raise-next (x ∷ l) (suc j) (suc n) d a b = ap (λ (r : List A). x ∷ r) (raise-next l j n d (omega arith) (omega arith))
 
   -- One turn of the loop that moves up.
-  pub raise-more : (l : List A) (k j n : ℕ) (d : A) → k ≡ suc j → j < n → n < length l → set (raised l k n) k (getD (raised l k n) j d) ≡ raised l j n
-  raise-more l k j n d e a b = rw e (raise-next l j n d a b)
+  pub raise-more : (l m o : List A) (k c j n : ℕ) (d : A) → m ≡ raised l k n → o ≡ set m k (getD m c d) → c ≡ j → k ≡ suc j → j < n → n < length l → o ≡ raised l j n
+  raise-more l m o k c j n d before turn e f a b =
+      turn ∙ ap (λ r. set r k (getD r c d)) before ∙ rw (e, f) (raise-next l j n d a b)
 
-  pub raise-end : (l : List A) (i n : ℕ) (x y : A) → i < n → n < length l → set (set (raised l (suc i) n) (suc i) y) i x ≡ (take i (take n l) ++ x ∷ y ∷ drop (suc i) (take n l)) ++ drop (suc n) l
+  raise-end : (l : List A) (i n : ℕ) (x y : A) → i < n → n < length l → set (set (raised l (suc i) n) (suc i) y) i x ≡ (take i (take n l) ++ x ∷ y ∷ drop (suc i) (take n l)) ++ drop (suc n) l
   unfolding raised
   raise-end [] i n x y a b = absurd (omega arith)
   raise-end (z ∷ l) i zero x y a b = absurd (omega arith)
@@ -50,9 +50,19 @@ module _ {A : Type 0} where
   raise-end (z ∷ (w ∷ l)) zero (suc n) x y a b = refl
   raise-end (z ∷ l) (suc i) (suc n) x y a b = ap (λ (r : List A). z ∷ r) (raise-end l i n x y (omega arith) (omega arith))
 
-  -- Entries a + 1 to j stand one lower; entry j stands where it was, too.
-  unfoldable pub lowered : List A → ℕ → ℕ → List A
-  lowered l a j = take a l ++ (drop (suc a) (take (suc j) l) ++ drop j l)
+  -- Two entries put over what moved up; whether the lower of them moved too makes no difference.
+  pub raise-put : (l : List A) (a i n : ℕ) (x y : A) → i ≤ a → a ≤ suc i → i < n → n < length l → set (set (raised l a n) (suc i) y) i x ≡ (take i (take n l) ++ x ∷ y ∷ drop (suc i) (take n l)) ++ drop (suc n) l
+  raise-put l a i n x y p q h k = go (eqb a i) refl
+    where
+      go : (b : Bool) → eqb a i ≡ b → set (set (raised l a n) (suc i) y) i x ≡ (take i (take n l) ++ x ∷ y ∷ drop (suc i) (take n l)) ++ drop (suc n) l
+      go true e =
+          let r = raised l (suc i) n in
+          ap (λ b. set (set (raised l b n) (suc i) y) i x) (eqb-true a i e)
+          ∙ ap (λ m. set (set m (suc i) y) i x) (sym (raise-next l i n x h k))
+          ∙ ap (λ m. set m i x) (set-set r (suc i) (getD r i x) y) ∙ raise-end l i n x y h k
+      go false e =
+          let above : a ≡ suc i = omega (arith, eqb-false a i e) in
+          ap (λ b. set (set (raised l b n) (suc i) y) i x) above ∙ raise-end l i n x y h k
 
   pub lower-start : (l : List A) (a : ℕ) → a < length l → l ≡ lowered l a a
   unfolding lowered
@@ -70,23 +80,23 @@ module _ {A : Type 0} where
   lower-next (x ∷ l) (suc a) (suc j) d h b = ap (λ (r : List A). x ∷ r) (lower-next l a j d (omega arith) (omega arith))
 
   -- One turn of the loop that moves down.
-  pub lower-more : (l : List A) (a j : ℕ) (d : A) → a ≤ j → j + 1 < length l → set (lowered l a j) j (getD (lowered l a j) (j + 1) d) ≡ lowered l a (j + 1)
-  lower-more l a j d h b = rw add-one (lower-next l a j d h (omega arith))
+  pub lower-more : (l m o : List A) (a j c k : ℕ) (d : A) → m ≡ lowered l a j → o ≡ set m j (getD m c d) → c ≡ suc j → k ≡ suc j → a ≤ j → k < length l → o ≡ lowered l a k
+  lower-more l m o a j c k d before turn e f h b =
+      turn ∙ ap (λ r. set r j (getD r c d)) before ∙ rw (e, f) (lower-next l a j d h (omega arith))
 
-  lower-last : (l : List A) (j : ℕ) (b : A) → j < length l → set (lowered l 0 j) j b ≡ drop 1 (take (suc j) l) ++ b ∷ drop (suc j) l
+  lower-last : (l : List A) (j : ℕ) (w b : A) → j ≤ length l → set (take j l ++ drop j (w ∷ l)) j b ≡ take j l ++ b ∷ drop j l
+  lower-last l j w b h =
+      ap (λ r. set (take j l ++ r) j b) (drop-cons (w ∷ l) j w (omega arith))
+      ∙ set-at (take j l) (getD (w ∷ l) j w) (drop j l) b j (length-take-le j l h)
+
+  -- One entry put over what moved down, and one in the last place; whether the first that moved stands below makes no difference.
+  pub lower-put : (l : List A) (a i j : ℕ) (x b : A) → i ≤ a → a ≤ suc i → i < j → j < length l → set (set (lowered l a j) j b) i x ≡ (take i (take (suc j) l) ++ x ∷ drop (suc (suc i)) (take (suc j) l)) ++ b ∷ drop (suc j) l
   unfolding lowered
-  lower-last l j b h =
-      let e : length (drop 1 (take (suc j) l)) ≡ j = simp (length-drop, length-take) (omega arith) in
-      rw (drop-cons l j b h) (set-at (drop 1 (take (suc j) l)) (getD l j b) (drop (suc j) l) b j e)
-
-  pub lower-end : (l : List A) (i j : ℕ) (x b : A) → i < j → j < length l → set (lowered (set l i x) (suc i) j) j b ≡ (take i (take (suc j) l) ++ x ∷ drop (suc (suc i)) (take (suc j) l)) ++ b ∷ drop (suc j) l
-  unfolding lowered
-  lower-end [] i j x b h k = absurd (omega arith)
-  lower-end (z ∷ l) i zero x b h k = absurd (omega arith)
-  lower-end (z ∷ l) zero (suc j) x b h k = ap (λ (r : List A). x ∷ r) (lower-last l j b (omega arith))
-  lower-end (z ∷ l) (suc i) (suc j) x b h k = ap (λ (r : List A). z ∷ r) (lower-end l i j x b (omega arith) (omega arith))
-
-  take-own : (n : ℕ) (l : List A) → take (length (take n l)) l ≡ take n l
-  take-own zero l = refl
-  take-own (suc n) [] = refl
-  take-own (suc n) (x ∷ l) = ap (λ (r : List A). x ∷ r) (take-own n l)
+  lower-put [] a i j x b p q h k = absurd (omega arith)
+  lower-put (z ∷ l) a i zero x b p q h k = absurd (omega arith)
+  lower-put (z ∷ []) a zero (suc j) x b p q h k = absurd (omega arith)
+  lower-put (z ∷ (w ∷ l)) zero zero (suc j) x b p q h k = ap (λ (r : List A). x ∷ r) (lower-last l j w b (omega arith))
+  lower-put (z ∷ (w ∷ l)) (suc zero) zero (suc j) x b p q h k = ap (λ (r : List A). x ∷ r) (lower-last l j w b (omega arith))
+  lower-put (z ∷ (w ∷ l)) (suc (suc a)) zero (suc j) x b p q h k = absurd (omega arith)
+  lower-put (z ∷ l) zero (suc i) (suc j) x b p q h k = absurd (omega arith)
+  lower-put (z ∷ l) (suc a) (suc i) (suc j) x b p q h k = ap (λ (r : List A). z ∷ r) (lower-put l a i j x b (omega arith) (omega arith) (omega arith) (omega arith))

@@ -7,24 +7,32 @@ use mathlib.Core.Path.{_≡_, refl, ap, _∙_}
 use lib.ListN.{length, take, drop, set}
 use Rattle.table.specs.declared.Reservation.{Reservation}
 use Rattle.table.specs.Rows.{live, splice, spread, gather, table, blank}
-use Rattle.table.proofs.Moving.{raised, raise-end, lowered, lower-end}
+use Rattle.table.proofs.Moving.{raise-put, lower-put}
 use Rattle.table.specs.Numbers.{rowFrom, tableOf}
-use Rattle.table.specs.Lent.{spreadAt, gatherAt}
+use Rattle.table.specs.Lent.{raised, lowered, spreadAt, gatherAt}
 use Rattle.table.proofs.Numbers.{zero-blank}
 use Rattle.table.proofs.Mapping.{map-append, map-take, map-drop}
 
 module _ {A : Type 0} where
-  pub spread-end : (l : List A) (i n : ℕ) (x y : A) → i < n → n < length l → set (set (raised l (i + 1) n) (i + 1) y) i x ≡ spreadAt l n i x y
+  -- What a mover leaves, write by write: rows that move, then the two rows that are put. Whether the row above the named one moves, or
+  -- the named one already, makes no difference.
+  pub spread-end :
+      (l m o r : List A) (a k i n : ℕ) (x y : A) → m ≡ raised l a n → o ≡ set m k y → r ≡ set o i x → i ≤ a → a ≤ i + 1 → k ≡ i + 1 → i < n → n < length l
+      → r ≡ spreadAt l n i x y
   unfolding spreadAt splice
-  spread-end l i n x y a b = rw (add-one i, add-one n) (raise-end l i n x y a b)
+  spread-end l m o r a k i n x y first second third p q e h s =
+      third ∙ ap (λ v. set v i x) (second ∙ ap (λ v. set v k y) first) ∙ rw (e, add-one i, add-one n) (raise-put l a i n x y p (omega arith) h s)
 
-  pub gather-end : (l : List A) (i j n : ℕ) (x b : A) → i < j → j + 1 ≡ n → n ≤ length l → set (lowered (set l i x) (i + 1) j) j b ≡ gatherAt l n i x b
+  pub gather-end :
+      (l m o r : List A) (a j k i n : ℕ) (x b : A) → m ≡ lowered l a j → o ≡ set m k b → r ≡ set o i x → i ≤ a → a ≤ i + 1 → k ≡ j → j + 1 ≡ n → i < j → n ≤ length l
+      → r ≡ gatherAt l n i x b
   unfolding gatherAt splice
-  gather-end l i j n x b a e h =
-      let k : suc j ≡ n = omega arith in
-      rw (add-one i, add-two i)
-      (lower-end l i j x b a (omega arith)
-      ∙ ap (λ m. (take i (take m l) ++ x ∷ drop (suc (suc i)) (take m l)) ++ b ∷ drop m l) k)
+  gather-end l m o r a j k i n x b first second third p q last e h s =
+      let c : suc j ≡ n = omega arith in
+      third ∙ ap (λ v. set v i x) (second ∙ ap (λ v. set v k b) first)
+      ∙ rw (last, add-two i)
+      (lower-put l a i j x b p (omega arith) h (omega arith)
+      ∙ ap (λ c. (take i (take c l) ++ x ∷ drop (suc (suc i)) (take c l)) ++ b ∷ drop c l) c)
 
   take-own : (n : ℕ) (l : List A) → take (length (take n l)) l ≡ take n l
   take-own zero l = refl

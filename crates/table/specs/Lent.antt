@@ -1,5 +1,5 @@
--- What a call on a lent table leaves: its answer, the table read from the numbers, and how many numbers it wrote. Assumes nothing.
-use Prim.Native.Nat.{ℕ, _+_, _-_}
+-- What a call on a lent table leaves: its answer, and the table read from the numbers. Assumes nothing.
+use Prim.Native.Nat.{ℕ, suc, _+_}
 use mathlib.Core.Bool.{true, not, _&&_}
 use mathlib.Core.List.{List, [], _∷_, _++_}
 use mathlib.Core.Path.{_≡_}
@@ -7,14 +7,13 @@ use lib.ListN.{length, take, drop, set}
 use lib.Dec.{eqb, leb}
 use Rattle.capabilities.specs.Lists.{pick}
 use Rattle.table.specs.declared.Reservation.{Reservation}
-use Rattle.table.specs.Table.{Table}
 use Rattle.table.specs.Table.{Tabled}
 use Rattle.table.specs.Table.{Taken as Took}
 use Rattle.table.specs.declared.Found.{Found}
 use Rattle.table.specs.declared.Found.the-variants.{At, Nowhere}
 use Rattle.capabilities.specs.Refusals.{reason, first}
-use Rattle.table.specs.Rows.{isOpen, held, live, splice}
-use Rattle.table.specs.Find.{missing, findOf}
+use Rattle.table.specs.Rows.{isOpen, held, splice}
+use Rattle.table.specs.Find.{missing}
 use Rattle.table.specs.Operations.{badSplit, alike}
 use Rattle.table.specs.Numbers.{tableOf, allWritten}
 
@@ -28,6 +27,14 @@ unfoldable pub placeOf : Found → ℕ
 placeOf (At i) = i
 placeOf Nowhere = 0
 
+-- Of the first n entries those from the i-th on stand one higher, too; the i-th stays.
+unfoldable pub raised : {A : Type 0} → List A → ℕ → ℕ → List A
+raised l i n = take (suc i) l ++ (drop i (take n l) ++ drop (suc n) l)
+
+-- The entries above the i-th, up to the last one, stand one lower; the last one stays, too.
+unfoldable pub lowered : {A : Type 0} → List A → ℕ → ℕ → List A
+lowered l i last = take i l ++ (drop (suc i) (take (suc last) l) ++ drop last l)
+
 -- Of the n entries in use, the i-th becomes two, and those above it move up.
 unfoldable pub spreadAt : {A : Type 0} → List A → ℕ → ℕ → A → A → List A
 spreadAt l n i lower upper = splice i 1 (lower ∷ upper ∷ []) (take n l) ++ drop (n + 1) l
@@ -35,13 +42,6 @@ spreadAt l n i lower upper = splice i 1 (lower ∷ upper ∷ []) (take n l) ++ d
 -- Of the n entries in use, the i-th and the next one become one, those above move down, and `none` stands in the last one's place.
 unfoldable pub gatherAt : {A : Type 0} → List A → ℕ → ℕ → A → A → List A
 gatherAt l n i joined none = splice i 2 (joined ∷ []) (take n l) ++ (none ∷ drop n l)
-
--- "Of n entries before, with the named one at i counted from 0, a split writes n − i + 1 and a merge n − i"; a refused one none.
-abbrev pub splitWrites : Table → ℕ → ℕ → ℕ → ℕ
-splitWrites t party base code = pick (eqb code 0) (length (live t) - placeOf (findOf t party base) + 1) 0
-
-abbrev pub mergeWrites : Table → ℕ → ℕ → ℕ → ℕ
-mergeWrites t party base code = pick (eqb code 0) (length (live t) - placeOf (findOf t party base)) 0
 
 -- A lent slice of 64 numbers is judged by the rule; of another, the call answers 1 and the table stays.
 abbrev pub fitting : List ℕ → ℕ → Tabled → Tabled

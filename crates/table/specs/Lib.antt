@@ -5,4 +5,5 @@ pub mod Operations
 pub mod Tiling
 pub mod Numbers
 pub mod Lent
+pub mod Writes
 pub mod Sound

@@ -14,10 +14,11 @@ use crate::parts::merge_code;
 use crate::parts::split_code;
 ghost use mathlib.Core.Path.{_≡_};
 ghost use Prim.Native.Nat.{_+_, _-_, _<_, _≤_};
-ghost use lib.ListN.{length};
+ghost use lib.ListN.{length, set};
 ghost use Rattle.table.specs.Operations.{upperPart, splitOf, mergeOf};
 ghost use Rattle.table.specs.Numbers.{tableOf};
-ghost use Rattle.table.specs.Lent.{Leaves, fitting, spreadAt, gatherAt, splitWrites, mergeWrites};
+ghost use Rattle.table.specs.Lent.{Leaves, fitting, raised, lowered, spreadAt, gatherAt};
+ghost use Rattle.table.specs.Writes.{splitWrites, mergeWrites};
 
 fn upper_part(row: Reservation, len: u16) -> Reservation
     requires { ⌜ len ≤ row .length ⌝ }
@@ -33,38 +34,66 @@ fn upper_part(row: Reservation, len: u16) -> Reservation
     }
 }
 
-// One row more: those above row i move up, from the top down, and the two stand at i and i + 1.
+// The one store to a row in this file: every write goes through here, and adds 1 to the count that it is handed.
+fn write_row(rows: &mut [u64], at: usize, number: u64, writes: usize) -> usize
+    requires { ⌜ (at < length (now rows)) × (writes ≤ length (now rows)) ⌝ }
+    ensures { λ r. ⌜ (now (rows .exit) ≡ set (now (rows .entry)) at number) × (r ≡ writes + 1) ⌝ }
+{
+    rows[at] = number;
+    writes + 1
+}
+
+// The rows from `from` on, below row n, move up by one, from the top down.
+fn move_up(rows: &mut [u64], from: usize, n: usize) -> usize
+    requires { ⌜ (from ≤ n) × (n < length (now rows)) ⌝ }
+    ensures { λ r. ⌜ (now (rows .exit) ≡ raised (now (rows .entry)) from n) × (r ≡ n - from) ⌝ }
+{
+    let mut writes: usize = 0;
+    let mut j = n;
+    while j > from {
+        let below = rows[j - 1];
+        writes = write_row(rows, j, below, writes);
+        j -= 1;
+    }
+    writes
+}
+
+// The rows above `from`, up to the last one, move down by one, from the bottom up.
+fn move_down(rows: &mut [u64], from: usize, last: usize) -> usize
+    requires { ⌜ (from ≤ last) × (last < length (now rows)) ⌝ }
+    ensures { λ r. ⌜ (now (rows .exit) ≡ lowered (now (rows .entry)) from last) × (r ≡ last - from) ⌝ }
+{
+    let mut writes: usize = 0;
+    let mut j = from;
+    while j < last {
+        let above = rows[j + 1];
+        writes = write_row(rows, j, above, writes);
+        j += 1;
+    }
+    writes
+}
+
+// One row more: of n rows those above row i move up, and the two parts stand at i and i + 1.
 fn spread(rows: &mut [u64], n: usize, i: usize, lower: u64, upper: u64) -> usize
     requires { ⌜ (i < n) × (n < length (now rows)) ⌝ }
     ensures { λ r. ⌜ (now (rows .exit) ≡ spreadAt (now (rows .entry)) n i lower upper) × (r ≡ n - i + 1) ⌝ }
 {
-    let mut writes: usize = 0;
-    let mut j = n;
-    while j > i + 1 {
-        rows[j] = rows[j - 1];
-        writes += 1;
-        j -= 1;
-    }
-    rows[i + 1] = upper;
-    rows[i] = lower;
-    writes + 2
+    let mut writes = move_up(rows, i + 1, n);
+    writes = write_row(rows, i + 1, upper, writes);
+    writes = write_row(rows, i, lower, writes);
+    writes
 }
 
-// One row less: the joined one stands at i, those above i + 1 move down, and the last row is unused.
+// One row less: of n rows those above i + 1 move down, the last one's is unused, and the joined one stands at i.
 fn gather(rows: &mut [u64], n: usize, i: usize, joined: u64) -> usize
     requires { ⌜ (i + 1 < n) × (n ≤ length (now rows)) ⌝ }
     ensures { λ r. ⌜ (now (rows .exit) ≡ gatherAt (now (rows .entry)) n i joined 0) × (r ≡ n - i) ⌝ }
 {
-    rows[i] = joined;
-    let mut writes: usize = 1;
-    let mut j = i + 1;
-    while j + 1 < n {
-        rows[j] = rows[j + 1];
-        writes += 1;
-        j += 1;
-    }
-    rows[j] = 0;
-    writes + 1
+    let last = n - 1;
+    let mut writes = move_down(rows, i + 1, last);
+    writes = write_row(rows, last, 0, writes);
+    writes = write_row(rows, i, joined, writes);
+    writes
 }
 
 // One Open reservation becomes two, the lower of `len` cells.
