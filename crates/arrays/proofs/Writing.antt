@@ -1,8 +1,7 @@
 -- A state with one entry exchanged is written as the arrays with one number exchanged. Assumes nothing.
 use Prim.Native.Nat.{ℕ}
-use mathlib.Core.Bool.{true}
 use mathlib.Core.List.{List, map}
-use mathlib.Core.Path.{_≡_, refl, sym, ap, _∙_}
+use mathlib.Core.Path.{_≡_, sym, ap, _∙_}
 use lib.ListN.{length, set}
 use Rattle.pages.specs.declared.PageState.{PageState}
 use Rattle.pages.specs.declared.FrameState.{FrameState}
@@ -10,10 +9,7 @@ use Rattle.pages.specs.Pages.{PageEntry}
 use Rattle.pages.specs.Pages.{FrameEntry}
 use Rattle.pages.specs.Entries.{pageEntry, frameEntry}
 use Rattle.pages.specs.Layer.{withPage, withFrame}
-use Rattle.table.specs.declared.Reservation.{Reservation}
 use Rattle.table.specs.Table.{Table}
-use Rattle.table.specs.declared.Found.the-variants.{At, Nowhere}
-use Rattle.table.specs.Find.{withRow}
 use Rattle.reservations.specs.Core.{Core}
 use Rattle.reservations.specs.Revocation.{core, revoked}
 use Rattle.words.specs.declared.Slot.{Slot}
@@ -23,10 +19,15 @@ use Rattle.machine.specs.Step.{withCore}
 use Rattle.arrays.specs.declared.Arrays.{Arrays}
 use Rattle.pages.specs.Numbers.{pageCode, frameCode}
 use Rattle.table.specs.Numbers.{rowCode}
-use Rattle.words.specs.Lent.{cellsOf, bytesOf}
-use Rattle.arrays.specs.Reading.{numbersOf, stateOf, arraysOf}
+use Rattle.arrays.specs.Reading.{arrays, numbersOf, stateOf, arraysOf}
 use Rattle.arrays.specs.Steps.{withWords, withMail, withPages, withMails, withTable, counted}
 use Rattle.arrays.proofs.Lists.{map-set}
+
+-- Arrays with equal parts are equal.
+pub same-arrays : {v f c p b₁ b₂ l₁ l₂ : ℕ} {w₁ w₂ k₁ k₂ m₁ m₂ g₁ g₂ r₁ r₂ p₁ p₂ f₁ f₂ : List ℕ} → b₁ ≡ b₂ → l₁ ≡ l₂ → w₁ ≡ w₂ → k₁ ≡ k₂ → m₁ ≡ m₂ → g₁ ≡ g₂ → r₁ ≡ r₂ → p₁ ≡ p₂ → f₁ ≡ f₂
+    → arrays (record { v = v; f = f; count = c; place = p; base = b₁; length = l₁ }) w₁ k₁ m₁ g₁ r₁ p₁ f₁
+    ≡ arrays (record { v = v; f = f; count = c; place = p; base = b₂; length = l₂ }) w₂ k₂ m₂ g₂ r₂ p₂ f₂
+same-arrays e1 e2 e3 e4 e5 e6 e7 e8 e9 = cc
 
 module _ (s : State) where
   abbrev w : Arrays

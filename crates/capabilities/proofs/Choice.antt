@@ -61,3 +61,14 @@ both false b p q = p
 pub and-under : (a b c : Bool) → (a ≡ true → b ≡ c) → (a && b) ≡ (a && c)
 and-under true b c h = h refl
 and-under false b c h = refl
+
+-- Four tests in another order.
+pub cross : (a b c d : Bool) → (a && b) && (c && d) ≡ ((a && c) && (b && d))
+cross false b c d = refl
+cross true false false d = refl
+cross true false true d = refl
+cross true true c d = refl
+
+pub never : (b : Bool) → b && false ≡ false
+never true = refl
+never false = refl

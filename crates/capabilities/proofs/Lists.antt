@@ -11,7 +11,7 @@ use lib.Seq.{take-suc, take-all, length-take-le, getD-at, getD-drop, set-at, dro
 use lib.Dec.{leb}
 use borrow.Author.Tests.{leb-true, leb-false}
 use Rattle.capabilities.specs.Lists.{each, mapEach}
-use Rattle.capabilities.proofs.Choice.{and-left, and-right}
+use Rattle.capabilities.proofs.Choice.{and-left, and-right, cross}
 
 module _ {A : Type 0} (P : ℕ → A → Bool) where
   each-snoc : (n : ℕ) (l : List A) (y : A) → each P n (l ++ (y ∷ [])) ≡ (each P n l && P (n + length l) y)
@@ -68,13 +68,7 @@ pub each-and : {A : Type 0} (P Q : ℕ → A → Bool) (n : ℕ) (l : List A) �
 unfolding each
 each-and P Q n [] = refl
 each-and P Q n (x ∷ l) =
-    swap (P n x) (each P (suc n) l) (Q n x) (each Q (suc n) l) ∙ ap (λ b. (P n x && Q n x) && b) (each-and P Q (suc n) l)
-  where
-    swap : (a b c d : Bool) → (a && b) && (c && d) ≡ ((a && c) && (b && d))
-    swap false b c d = refl
-    swap true false false d = refl
-    swap true false true d = refl
-    swap true true c d = refl
+    cross (P n x) (each P (suc n) l) (Q n x) (each Q (suc n) l) ∙ ap (λ b. (P n x && Q n x) && b) (each-and P Q (suc n) l)
 
 -- A test that does not look at the numbers.
 pub each-anywhere : {A : Type 0} (P : A → Bool) (m n : ℕ) (l : List A) → each (λ i x. P x) m l ≡ each (λ i x. P x) n l

@@ -1,36 +1,36 @@
 -- The test of arrays: it holds if and only if they are well formed. Between the two stand the facts that are tested, part by part.
 -- Assumes nothing.
-use Prim.Native.Nat.{ℕ, zero, suc, _*_, _≤_}
+use Prim.Native.Nat.{ℕ, _*_, _≤_}
 use native.Mathlib.Omega.{arith}
 use mathlib.Core.Bool.{Bool, true, false, _&&_, true≢false}
-use mathlib.Core.List.{List, [], _∷_, map}
+use mathlib.Core.List.{List, map}
 use mathlib.Core.Path.{_≡_, refl, sym, ap, subst, _∙_}
 use lib.ListN.{length}
 use lib.Dec.{eqb, leb}
-use borrow.Author.Tests.{eqb-true, eq-eqb, leb-true, le-leb, lt-leb}
+use borrow.Author.Tests.{eqb-true, eq-eqb, leb-true, le-leb}
 use Rattle.capabilities.specs.Lists.{each}
 use Rattle.capabilities.proofs.Choice.{and-left, and-right}
 use Rattle.pages.specs.Pages.{PageEntry}
 use Rattle.pages.specs.Pages.{FrameEntry}
 use Rattle.pages.specs.Layer.{wellFormed}
 use Rattle.pages.proofs.Formed as layer
+use Rattle.pages.proofs.Testing.{kept-list, list-kept}
 use Rattle.pages.specs.Numbers.{pageCode, frameCode, pageIn, frameIn, layerOf, pageKept, frameKept, layerSound}
 use Rattle.table.specs.Tiling.{tableSound}
 use Rattle.table.proofs.Truth.{both}
 use Rattle.table.specs.Numbers.{rowFrom, rowCode, tableOf, allWritten}
 use Rattle.table.specs.Sound.{wholeTable, soundNumbers}
-use Rattle.table.proofs.Numbers.{read-sized}
-use Rattle.table.proofs.RoundTrip.{AllSized, numbers-back, rows-written}
+use Rattle.table.proofs.RoundTrip.{reads-sized, numbers-back, rows-written}
 use Rattle.reservations.specs.Revocation.{revoked, revocationSound}
 use Rattle.reservations.proofs.CoreKept.{core-facts, core-made}
-use Rattle.words.specs.declared.Slot.{Slot}
-use Rattle.words.specs.Words.{tagOf, byteOf}
-use Rattle.words.specs.Lent.{slotsOf, cellsOf, bytesOf, bit, mailboxSound}
+use Rattle.words.specs.Lent.{slotsOf, bytesOf, bit, mailboxSound}
+use Rattle.words.proofs.Lent.{slots-length, cells-kept, bytes-kept, bytes-bits}
 use Rattle.machine.specs.Formed as rules
 use Rattle.machine.proofs.Keeps.{facts, formed}
 use Rattle.arrays.specs.declared.Arrays.{Arrays}
 use Rattle.arrays.specs.Reading.{arrays, coreOf, numbersOf, stateOf, arraysOf, Formed}
 use Rattle.arrays.proofs.Facts.{lengths}
+use Rattle.arrays.proofs.Writing.{same-arrays}
 use Rattle.arrays.proofs.Lists.{length-map}
 use Rattle.formed.specs.Test.{sized, canonical, cached, formedOf}
 
@@ -46,59 +46,6 @@ pub record Parts (a : Arrays) : Type 0 where
   pub mark-bits : each bit 0 (a .marks) ≡ true
   pub flag-bits : each bit 0 (a .flags) ≡ true
   pub mailboxes : each mailboxSound 0 (slotsOf (a .mail) (a .flags)) ≡ true
-
--- Every entry is kept if and only if the list, read and written, is the same.
-module _ {A : Type 0} (f : ℕ → A) (g : A → ℕ) where
-  kept-list : (n : ℕ) (l : List ℕ) → each (λ i x. eqb (g (f x)) x) n l ≡ true → map g (map f l) ≡ l
-  unfolding each
-  kept-list n [] e = refl
-  kept-list n (x ∷ l) e =
-      ap (λ y. y ∷ map g (map f l)) (eqb-true (g (f x)) x (and-left (eqb (g (f x)) x) _ e)) ∙ ap (λ k. x ∷ k) (kept-list (suc n) l (and-right (eqb (g (f x)) x) _ e))
-
-  list-kept : (n : ℕ) (l : List ℕ) → map g (map f l) ≡ l → each (λ i x. eqb (g (f x)) x) n l ≡ true
-  unfolding each
-  list-kept n [] e = refl
-  list-kept n (x ∷ l) e = both (eqb (g (f x)) x) _ (eq-eqb (g (f x)) x cc) (list-kept (suc n) l cc)
-
-cells-kept : (cells tags : List ℕ) → length cells ≡ length tags → cellsOf (slotsOf cells tags) ≡ cells
-unfolding slotsOf
-cells-kept [] tags e = refl
-cells-kept (c ∷ cells) [] e = let z : ⊥ = omega arith in absurd z
-cells-kept (c ∷ cells) (t ∷ tags) e = ap (λ l. c ∷ l) (cells-kept cells tags (omega arith))
-
-slots-length : (cells tags : List ℕ) → length cells ≡ length tags → length (slotsOf cells tags) ≡ length cells
-unfolding slotsOf
-slots-length [] tags e = refl
-slots-length (c ∷ cells) [] e = let z : ⊥ = omega arith in absurd z
-slots-length (c ∷ cells) (t ∷ tags) e = ap suc (slots-length cells tags (omega arith))
-
--- A byte is what its tag is written as if it is 0 or 1.
-bit-byte : (n : ℕ) → leb n 1 ≡ true → byteOf (tagOf n) ≡ n
-bit-byte zero e = refl
-bit-byte (suc zero) e = refl
-bit-byte (suc (suc n)) e = absurd (true≢false (sym e ∙ lt-leb (suc (suc n)) 1 (omega arith)))
-
-byte-bit : (b : Bool) → leb (byteOf b) 1 ≡ true
-byte-bit true = refl
-byte-bit false = refl
-
-bytes-kept : (n : ℕ) (cells tags : List ℕ) → length cells ≡ length tags → each bit n tags ≡ true → bytesOf (slotsOf cells tags) ≡ tags
-unfolding slotsOf each
-bytes-kept n [] [] e b = refl
-bytes-kept n [] (t ∷ tags) e b = let z : ⊥ = omega arith in absurd z
-bytes-kept n (c ∷ cells) [] e b = refl
-bytes-kept n (c ∷ cells) (t ∷ tags) e b =
-    ap (λ x. x ∷ bytesOf (slotsOf cells tags)) (bit-byte t (and-left (leb t 1) (each bit (suc n) tags) b))
-    ∙ ap (λ l. t ∷ l) (bytes-kept (suc n) cells tags (omega arith) (and-right (leb t 1) (each bit (suc n) tags) b))
-
-bytes-bits : (n : ℕ) (l : List Slot) → each bit n (bytesOf l) ≡ true
-unfolding each
-bytes-bits n [] = refl
-bytes-bits n (w ∷ l) = both (leb (byteOf (w .tag)) 1) (each bit (suc n) (bytesOf l)) (byte-bit (w .tag)) (bytes-bits (suc n) l)
-
-read-all : (l : List ℕ) → AllSized (map rowFrom l)
-read-all [] = refl
-read-all (n ∷ l) = (read-sized n, read-all l)
 
 -- Well-formed arrays have all of the parts.
 module _ (a : Arrays) (f : Formed a) where
@@ -147,18 +94,13 @@ module _ (a : Arrays) (f : Formed a) where
             (both (each pageKept 0 (a .pages)) _ (list-kept pageIn (λ (x : PageEntry). pageCode (x .state)) 0 (a .pages) kept-pages)
             (list-kept frameIn (λ (x : FrameEntry). frameCode (x .state)) 0 (a .frames) kept-frames));
         table = both (wholeTable (16 * n .v) (tableOf (a .rows) (n .count))) _ (both (tableSound (16 * n .v) (tableOf (a .rows) (n .count))) _ (c .rows) (s .takers))
-            (subst (λ (x : List ℕ). allWritten x ≡ true) kept-rows (rows-written (map rowFrom (a .rows)) (read-all (a .rows))));
+            (subst (λ (x : List ℕ). allWritten x ≡ true) kept-rows (rows-written (map rowFrom (a .rows)) (reads-sized (a .rows))));
         place = c .place;
         revocation = both (cached n k) _ (both (eqb (n .base) (revoked k .base)) _ (eq-eqb (n .base) (revoked k .base) kept-base) (eq-eqb (n .length) (revoked k .length) kept-length)) (c .revocation);
         mark-bits = subst (λ (x : List ℕ). each bit 0 x ≡ true) kept-marks (bytes-bits 0 (slotsOf (a .words) (a .marks)));
         flag-bits = subst (λ (x : List ℕ). each bit 0 x ≡ true) kept-flags (bytes-bits 0 (slotsOf (a .mail) (a .flags)));
         mailboxes = s .mailboxes;
       }
-
-same-arrays : {v f c p b₁ b₂ l₁ l₂ : ℕ} {w₁ w₂ k₁ k₂ m₁ m₂ g₁ g₂ r₁ r₂ p₁ p₂ f₁ f₂ : List ℕ} → b₁ ≡ b₂ → l₁ ≡ l₂ → w₁ ≡ w₂ → k₁ ≡ k₂ → m₁ ≡ m₂ → g₁ ≡ g₂ → r₁ ≡ r₂ → p₁ ≡ p₂ → f₁ ≡ f₂
-    → arrays (record { v = v; f = f; count = c; place = p; base = b₁; length = l₁ }) w₁ k₁ m₁ g₁ r₁ p₁ f₁
-    ≡ arrays (record { v = v; f = f; count = c; place = p; base = b₂; length = l₂ }) w₂ k₂ m₂ g₂ r₂ p₂ f₂
-same-arrays e1 e2 e3 e4 e5 e6 e7 e8 e9 = cc
 
 -- Arrays that have all of the parts are well formed.
 module _ (a : Arrays) (p : Parts a) where
@@ -190,8 +132,8 @@ module _ (a : Arrays) (p : Parts a) where
         core = core-made k (and-left (wellFormed (layerOf (n .v) (n .f) (a .pages) (a .frames))) _ (p .layer))
             (and-left (tableSound (16 * n .v) t) _ (and-left (wholeTable (16 * n .v) t) _ (p .table))) (p .place) (and-right (cached n k) _ (p .revocation));
         mailboxes = p .mailboxes;
-        of-registers = slots-length (a .words) (a .marks) (p .words ∙ sym (p .marks)) ∙ p .words;
-        of-mailboxes = slots-length (a .mail) (a .flags) (p .mail ∙ sym (p .flags)) ∙ p .mail;
+        of-registers = omega (arith, slots-length (a .words) (a .marks), p .words, p .marks);
+        of-mailboxes = omega (arith, slots-length (a .mail) (a .flags), p .mail, p .flags);
         takers = and-right (tableSound (16 * n .v) t) _ (and-left (wholeTable (16 * n .v) t) _ (p .table));
       })
 

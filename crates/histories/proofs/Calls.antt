@@ -30,7 +30,8 @@ use Rattle.table.proofs.Cells.{inside-made, no-shared-cell}
 use Rattle.table.proofs.Dying.{dyings}
 use Rattle.table.proofs.Kept.{row-live, open-still}
 use Rattle.table.proofs.Sound.{sound}
-use Rattle.table.proofs.Tiled.{tiled-row, row-some}
+use Rattle.table.proofs.Tiled.{tiled-some}
+use Rattle.table.proofs.Unrevoked.{alike-still}
 use Rattle.table.proofs.Truth.{and-yes}
 use Rattle.reservations.specs.Core.{Core}
 use Rattle.reservations.specs.Revocation.{core, revoked, dying, revokeReasons, revokeOf, collectReasons, collectOf, coreSound}
@@ -48,7 +49,7 @@ use Rattle.machine.proofs.PagesKept.{zero-clear}
 use Rattle.histories.specs.Runs.{Machine, machine}
 use Rattle.histories.specs.Inv.{rowAt, Confined, Sound, Memory, Inv}
 use Rattle.histories.proofs.View.{put-each, collected-registers, collected-mailboxes, seen}
-use Rattle.histories.proofs.Table.{Carried, take-carried, dies-same, dyings-one, dyings-two, open-no-dying, alike-still}
+use Rattle.histories.proofs.Table.{Carried, take-carried, dies-same, dyings-one, dyings-two, open-no-dying}
 use Rattle.histories.proofs.Carrying.{row-fits, split-kept, merge-kept, give-kept, revoke-kept}
 use Rattle.histories.proofs.Keep.{Blank, none-sound, carried-sound, place-sound, place-below, keep-table, keep-begun, keep-pages, keep-write, keep-clear, keep-sweep, collect-sound, keep-ended}
 use Rattle.histories.proofs.Granted.{handed}
@@ -75,9 +76,6 @@ module _ (s : State) (cells tags : List ℕ) (inv : Inv (machine s cells tags)) 
 
     layer : Layered (s .core .pages)
     layer = layered (s .core .pages) (facts .layer)
-
-    row-long : (i : ℕ) → i < length (live t) → 0 < rowAt t i .length
-    row-long i h = row-some (rowAt t i) (tiled-row size (live t) 0 i (sound size t (facts .rows) .tiled) h)
 
     -- No cell of a confined capability lies in an Open range.
     lent-not-open : {x : ℕ} (k : Confined t x) (off : ℕ) → off < lengthOf x → (i : ℕ) → i < length (live t) → isOpen (rowAt t i .state) ≡ true → inside (rangeOf (rowAt t i)) (baseOf x + off) ≡ true → ⊥
@@ -110,7 +108,7 @@ module _ (s : State) (cells tags : List ℕ) (inv : Inv (machine s cells tags)) 
         let (used, row) = row-first t u p base i 1 (takenRow (rowAt t i) p) [] r in
         let start : rowAt t i .base ≡ base = eqb-true (rowAt t i .base) base (and-left (eqb (rowAt t i .base) base) (held (rowAt t i) p) (r .named)) in
         let fits = row-fits c ok i h in
-        let some = row-long i h in
+        let some = tiled-some size (live t) 0 i (sound size t (facts .rows) .tiled) h in
         let b : rowAt u i .base ≡ rowAt t i .base = ap (λ x. x .base) row in
         let l : rowAt u i .length ≡ rowAt t i .length = ap (λ x. x .length) row in
         let made : Confined u (capability base n x) =

@@ -298,15 +298,6 @@ dyings-two t u i new h now a c b =
 pub open-no-dying : (r : Reservation) → isRevoking (r .state) ≡ false → dyings (r ∷ []) ≡ []
 open-no-dying r a = dyings-not r [] a ∙ (unfold dyings in refl)
 
-pub alike-still : (a b : ReservationState) → alike a b ≡ true → (isRevoking a ≡ false) × (isRevoking b ≡ false)
-alike-still Open Open e = (refl, refl)
-alike-still Open Taken e = (refl, refl)
-alike-still Open Revoking e = absurd (false≢true e)
-alike-still Taken Open e = (refl, refl)
-alike-still Taken Taken e = (refl, refl)
-alike-still Taken Revoking e = absurd (false≢true e)
-alike-still Revoking b e = absurd (false≢true e)
-
 -- A collect: what is lent stays lent where it holds a cell outside the revoked range; what is Open was Open or revoked.
 module _ (t u : Table) (i : ℕ) (h : i < length (live t)) (now : live u ≡ take i (live t) ++ collectedRow (rowAt t i) ∷ drop (i + 1) (live t)) where
   back : (j v : ℕ) → j < 1 → isOpen (getD (collectedRow (rowAt t i) ∷ []) j blank .state) ≡ true → inside (rangeOf (getD (collectedRow (rowAt t i) ∷ []) j blank)) v ≡ true

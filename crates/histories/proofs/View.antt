@@ -28,6 +28,7 @@ use Rattle.pages.proofs.Shows.{cleared-here, cleared-below, cleared-above}
 use Rattle.reservations.specs.Core.{Core}
 use Rattle.words.specs.declared.Slot.{Slot}
 use Rattle.words.specs.Words.{slot, empty, tagOf, byteOf, wordAt, collectedRegister, collectedMailbox}
+use Rattle.words.proofs.Lent.{tag-byte}
 use Rattle.histories.specs.Live.{wordOf, shown}
 
 -- What holds of the word that is put and of every old one holds of every new one.
@@ -134,10 +135,6 @@ module _ (s : Pages) (ok : Sound s) (v at : ℕ) (k : Seen s v at) where
           let two = counted-twice (k .frame .0) (s .pages) (v / 16) (w / 16) (omega (arith, ok .long-pages, ok .v-most, k .low)) (omega (arith, ok .long-pages, ok .v-most, j .low)) (eqb-false (w / 16) (v / 16) e)
           (maps-it s (v / 16) (k .frame) (k .page)) (ap (λ n. maps (getD (s .pages) (w / 16) (pageEntry Unmapped) .state) n) (sym same) ∙ maps-it s (w / 16) (j .frame) (j .page)) in
           absurd (omega (arith, mapped-once s ok (k .frame .0) seen-low, at-most (isShown (frameAt s (k .frame .0)))))
-
-tag-byte : (b : Bool) → tagOf (byteOf b) ≡ b
-tag-byte true = refl
-tag-byte false = refl
 
 -- The words of lent memory after a word was written, a frame cleared, or cells swept.
 pub written-here : (cells tags : List ℕ) (at : ℕ) (w : Slot) → at < length cells → at < length tags → wordAt (set cells at (w .cell)) (set tags at (byteOf (w .tag))) at ≡ w

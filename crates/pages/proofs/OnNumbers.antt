@@ -8,6 +8,7 @@ use mathlib.Core.Path.{_≡_, refl, sym, ap, _∙_}
 use lib.ListN.{length, getD, take, length-map, length-take, List·getD-map}
 use lib.Dec.{eqb, leb, ltb}
 use borrow.Author.Tests.{eq-eqb, le-leb, lt-leb, lt-ltb, le-ltb, not-false}
+use Rattle.capabilities.proofs.Choice.{never}
 use Rattle.capabilities.specs.declared.Range.{Range}
 use Rattle.capabilities.specs.Lists.{pick, each}
 use Rattle.capabilities.specs.Range.{inside, pageInside}
@@ -84,11 +85,7 @@ module _ (r : Range) (k : ℕ) where
 
   pub beyond : (r .base + r .length + 15) / 16 ≤ k → pageInside r k ≡ false
   unfolding inside
-  beyond p = rw (le-ltb (16 * k) (r .base + r .length) (omega arith)) (no (leb (r .base) (16 * k)))
-    where
-      no : (b : Bool) → b && false ≡ false
-      no true = refl
-      no false = refl
+  beyond p = rw (le-ltb (16 * k) (r .base + r .length) (omega arith)) (never (leb (r .base) (16 * k)))
 
 -- A loop over the range's pages alone: the others are not in it.
 module _ (r : Range) (pages : List ℕ) where

@@ -10,13 +10,13 @@ use lib.Seq.{length-take-le, take-all}
 use lib.Dec.{eqb, leb, ltb}
 use borrow.Author.Tests.{eqb-true, eq-eqb, ne-eqb, leb-true, ltb-true, lt-ltb, le-ltb, lt-leb, not-true, not-false}
 use Rattle.capabilities.specs.Lists.{pick, each}
-use Rattle.capabilities.proofs.Choice.{pick-yes, pick-no, and-left, and-right, same-test, both, and-under}
+use Rattle.capabilities.proofs.Choice.{pick-yes, pick-no, and-left, and-right, same-test, both, and-under, cross, never}
 use Rattle.capabilities.proofs.Lists.{each-at, each-parts, each-and, each-anywhere, each-map, each-same, map-append}
 use Rattle.pages.specs.Pages.{PageEntry}
 use Rattle.pages.specs.Pages.{FrameEntry}
 use Rattle.pages.specs.declared.PageState.{PageState}
 use Rattle.pages.specs.declared.FrameState.{FrameState}
-use Rattle.pages.specs.Entries.{isUnmapped, maps, mapsBelow, isDirty, isShown, frameNumber, pageEntry}
+use Rattle.pages.specs.Entries.{isUnmapped, maps, mapsBelow, isDirty, isShown, frameNumber}
 use Rattle.pages.specs.Layer.{inRange, mappings, Tally, pageSound, frameSound, wellFormed}
 use Rattle.pages.specs.Numbers.{pageFrom, pageCode, frameFrom, frameCode, pageIn, frameIn, layerOf, pageKept, frameKept, layerSound}
 use Rattle.pages.specs.Sound.{isUnused, showsBelow, isCounted}
@@ -59,11 +59,7 @@ shown (suc zero) m = and-true (eqb m 0)
 shown (suc (suc zero)) m = and-true (eqb m 1)
 shown (suc (suc (suc n))) m =
     ap (λ (s : FrameState). eqb m (pick (isShown s) 1 0) && eqb (frameCode s) (suc (suc (suc n)))) (frame-shown (suc (suc (suc n))) (omega arith))
-    ∙ rw (ne-eqb 2 (suc (suc (suc n))) (λ z. omega arith), lt-leb (suc (suc (suc n))) 2 (omega arith)) (no (eqb m 1))
-  where
-    no : (b : Bool) → b && false ≡ false
-    no true = refl
-    no false = refl
+    ∙ rw (ne-eqb 2 (suc (suc (suc n))) (λ z. omega arith), lt-leb (suc (suc (suc n))) 2 (omega arith)) (never (eqb m 1))
 
 dirty : (n : ℕ) → (isDirty (frameFrom n) && eqb (frameCode (frameFrom n)) n) ≡ eqb n 0
 unfolding frameFrom frameCode
@@ -173,15 +169,9 @@ module _ (v f : ℕ) (pages frames : List ℕ) (is : Fit v f pages frames) where
       let i′ : idle ≡ each isUnused 0 (drop v pages) = i ∙ ap (each isUnused 0) (take-all (length pages - v) (drop v pages) (simp length-drop (omega arith))) in
       let j′ : spare ≡ each isUnused 0 (drop f frames) = j ∙ ap (each isUnused 0) (take-all (length frames - f) (drop f frames) (simp length-drop (omega arith))) in
       sym (rw (is .ranged, length-map pages pageIn, length-map frames frameIn, is .of-pages, is .of-frames)
-      (swap sound sound′ kept kept′ ∙ ap (λ b. b && (sound′ && kept′)) (pages-tested ∙ ap (λ b. b && each isUnused 0 (drop v pages)) (sym e) ∙ ap (λ b. low && b) (sym i′))
+      (cross sound sound′ kept kept′ ∙ ap (λ b. b && (sound′ && kept′)) (pages-tested ∙ ap (λ b. b && each isUnused 0 (drop v pages)) (sym e) ∙ ap (λ b. low && b) (sym i′))
       ∙ and-under (low && idle) (sound′ && kept′) (counted && spare)
       (λ h. frames-tested t (sym i′ ∙ and-right low idle h) (tally (and-left low idle h)) ∙ ap (λ b. b && each isUnused 0 (drop f frames)) (sym k) ∙ ap (λ b. counted && b) (sym j′))))
-    where
-      swap : (a b c d : Bool) → (a && b) && (c && d) ≡ ((a && c) && (b && d))
-      swap false b c d = refl
-      swap true false false d = refl
-      swap true false true d = refl
-      swap true true c d = refl
 
 -- The loops, one entry more.
 pub each-fails : (P : ℕ → ℕ → Bool) (l : List ℕ) (i : ℕ) → i < length l → P i (getD l i 0) ≡ false → false ≡ each P 0 l
@@ -218,13 +208,13 @@ module _ (t pages : List ℕ) (p : ℕ) (h : p < length pages) (u : Tally t (tak
 
 -- Every number is kept if and only if the list, read and written, is the same.
 module _ {A : Type 0} (f : ℕ → A) (g : A → ℕ) where
-  kept-list : (n : ℕ) (l : List ℕ) → each (λ i x. eqb (g (f x)) x) n l ≡ true → map g (map f l) ≡ l
+  pub kept-list : (n : ℕ) (l : List ℕ) → each (λ i x. eqb (g (f x)) x) n l ≡ true → map g (map f l) ≡ l
   unfolding each
   kept-list n [] e = refl
   kept-list n (x ∷ l) e =
       ap (λ y. y ∷ map g (map f l)) (eqb-true (g (f x)) x (and-left (eqb (g (f x)) x) _ e)) ∙ ap (λ k. x ∷ k) (kept-list (suc n) l (and-right (eqb (g (f x)) x) _ e))
 
-  list-kept : (n : ℕ) (l : List ℕ) → map g (map f l) ≡ l → each (λ i x. eqb (g (f x)) x) n l ≡ true
+  pub list-kept : (n : ℕ) (l : List ℕ) → map g (map f l) ≡ l → each (λ i x. eqb (g (f x)) x) n l ≡ true
   unfolding each
   list-kept n [] e = refl
   list-kept n (x ∷ l) e = both (eqb (g (f x)) x) _ (eq-eqb (g (f x)) x cc) (list-kept (suc n) l cc)

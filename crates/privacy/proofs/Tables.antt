@@ -26,7 +26,7 @@ use Rattle.table.proofs.After.{Replaced, take-after}
 use Rattle.table.proofs.Cells.{inside-bounds, inside-made, no-shared-cell}
 use Rattle.table.proofs.Kept.{row-live}
 use Rattle.table.proofs.Sound.{sound as tableFacts}
-use Rattle.table.proofs.Tiled.{tiled-row, row-some}
+use Rattle.table.proofs.Tiled.{tiled-some}
 use Rattle.table.proofs.Truth.{both}
 use Rattle.reservations.specs.Core.{Core}
 use Rattle.reservations.specs.Revocation.{revoked, collectReasons, collectOf, coreSound}
@@ -69,7 +69,7 @@ module _ (k : Core) (ok : coreSound k ≡ true) where
   size = 16 * k .pages .v
 
   pub row-long : (i : ℕ) → i < length (live t) → 0 < rowAt t i .length
-  row-long i h = row-some (rowAt t i) (tiled-row size (live t) 0 i (tableFacts size t (core-facts k ok .rows) .tiled) h)
+  row-long i h = tiled-some size (live t) 0 i (tableFacts size t (core-facts k ok .rows) .tiled) h
 
   -- Two reservations that share a cell are one.
   pub one-row : (i j v : ℕ) → i < length (live t) → j < length (live t) → inside (rangeOf (rowAt t i)) v ≡ true → inside (rangeOf (rowAt t j)) v ≡ true → i ≡ j

@@ -12,6 +12,7 @@ use Rattle.pages.specs.Layer.{serves, inRange}
 use Rattle.calls.specs.declared.Reading.the-variants.{Read, Refused}
 use Rattle.calls.specs.Commands.{lengths, lengthOf, callAt}
 use Rattle.calls.specs.Reader.{whole, readOf, firstByte}
+use Rattle.capabilities.proofs.Choice.{and-left, and-right}
 use Rattle.machine.specs.State.{State}
 use Rattle.machine.specs.Formed.{wellFormed, fresh, startOf}
 use Rattle.machine.specs.Step.{refused}
@@ -29,15 +30,6 @@ unfoldable two : List ℕ → Bool
 two [] = true
 two (n ∷ l) = (eqb n 0 || leb 2 n) && two l
 
-and-first : (a b : Bool) → a && b ≡ true → a ≡ true
-and-first true b e = refl
-and-first false b e = e
-
-and-second : (a b : Bool) → a && b ≡ true → b ≡ true
-and-second true b e = e
-and-second false true e = refl
-and-second false false e = e
-
 either : (n : ℕ) → eqb n 0 || leb 2 n ≡ true → 0 < n → 2 ≤ n
 either n e h = go (eqb n 0) refl e where
   go : (b : Bool) → eqb n 0 ≡ b → b || leb 2 n ≡ true → 2 ≤ n
@@ -47,8 +39,8 @@ either n e h = go (eqb n 0) refl e where
 two-at : (l : List ℕ) (k : ℕ) → two l ≡ true → 0 < getD l k 0 → 2 ≤ getD l k 0
 unfolding two
 two-at [] k e h = let z : ⊥ = omega arith in absurd z
-two-at (n ∷ l) zero e h = either n (and-first (eqb n 0 || leb 2 n) (two l) e) h
-two-at (n ∷ l) (suc k) e h = two-at l k (and-second (eqb n 0 || leb 2 n) (two l) e) h
+two-at (n ∷ l) zero e h = either n (and-left (eqb n 0 || leb 2 n) (two l) e) h
+two-at (n ∷ l) (suc k) e h = two-at l k (and-right (eqb n 0 || leb 2 n) (two l) e) h
 
 two-all : two lengths ≡ true
 unfolding two
@@ -58,13 +50,13 @@ two-all = refl
 whole-fits : (l : List ℕ) → whole l ≡ true → lengthOf (firstByte l) ≤ length l
 unfolding whole
 whole-fits [] e = let z : _≡_ {A = ℕ} 0 1 = ap (λ (b : Bool). pick b 1 0) e in omega arith
-whole-fits (k ∷ l) e = leb-true (lengthOf k) (length (k ∷ l)) (and-second (ltb 0 (lengthOf k)) (leb (lengthOf k) (length (k ∷ l))) e)
+whole-fits (k ∷ l) e = leb-true (lengthOf k) (length (k ∷ l)) (and-right (ltb 0 (lengthOf k)) (leb (lengthOf k) (length (k ∷ l))) e)
 
 whole-two : (l : List ℕ) → whole l ≡ true → 2 ≤ lengthOf (firstByte l)
 unfolding whole
 whole-two [] e = let z : _≡_ {A = ℕ} 0 1 = ap (λ (b : Bool). pick b 1 0) e in omega arith
 whole-two (k ∷ l) e =
-    two-at lengths k two-all (ltb-true 0 (lengthOf k) (and-first (ltb 0 (lengthOf k)) (leb (lengthOf k) (length (k ∷ l))) e))
+    two-at lengths k two-all (ltb-true 0 (lengthOf k) (and-left (ltb 0 (lengthOf k)) (leb (lengthOf k) (length (k ∷ l))) e))
 
 -- What a command uses lies within the input, and is two bytes at least where the session goes on.
 pub record Used (input : List ℕ) (at : ℕ) (r : Ran) : Type 0 where

@@ -1,32 +1,30 @@
 -- 05 in place. Assumes nothing.
-use Prim.Native.Nat.{ℕ, zero, suc, _+_, _*_, _/_, _%_, _<_, _≤_}
+use Prim.Native.Nat.{ℕ, _+_, _*_, _/_, _%_, _<_}
 use native.Mathlib.Omega.{arith}
-use mathlib.Core.Bool.{Bool, true, false, not, _&&_, true≢false, false≢true}
+use mathlib.Core.Bool.{Bool, true, false, not, true≢false, false≢true}
 use mathlib.Core.List.{List, [], _∷_, _++_, map}
 use mathlib.Core.Path.{_≡_, refl, sym, ap, subst, _∙_}
 use lib.ListN.{length, getD, set, take, drop}
 use lib.Dec.{eqb}
-use borrow.Author.Tests.{eq-eqb, ne-eqb, eqb-true, not-true, not-false}
+use borrow.Author.Tests.{eq-eqb, ne-eqb, eqb-true, not-false}
 use Rattle.capabilities.specs.declared.Range.{Range}
 use Rattle.capabilities.specs.Lists.{pick, each}
 use Rattle.capabilities.specs.Refusals.{first}
 use Rattle.capabilities.proofs.Refusals.{pick-clear}
 use Rattle.capabilities.proofs.Choice.{pick-yes, and-left, and-right}
 use Rattle.pages.specs.Pages.{PageEntry}
-use Rattle.pages.specs.Pages.{FrameEntry}
-use Rattle.pages.specs.Mapping.{notMappedIn, anyMapped, freedEntry, freedOf}
+use Rattle.pages.specs.Mapping.{notMappedIn, anyMapped, freedOf}
 use Rattle.table.specs.declared.Reservation.{Reservation}
 use Rattle.table.specs.declared.Found.{Found}
 use Rattle.table.specs.declared.Found.the-variants.{At as Row, Nowhere as None}
 use Rattle.table.specs.Table.{Table}
 use Rattle.table.specs.Rows.{isRevoking, rangeOf, blank, live}
 use Rattle.table.specs.Find.{missing, begins, findOf, revokingOf, rowOf, withRow}
-use Rattle.table.specs.Tiling.{tableSound}
 use Rattle.table.proofs.Sound.{Sound, sound}
 use Rattle.table.proofs.Finding.{found-at}
-use Rattle.table.proofs.Kept.{row-live, cut-one}
+use Rattle.table.proofs.Kept.{row-live}
 use Rattle.table.proofs.Tiled.{tiled-row, row-some}
-use Rattle.table.proofs.Dying.{dyings, none, firstOf, revoking-row, revoking-none, dyings-append, dyings-yes}
+use Rattle.table.proofs.Dying.{dyings, none, firstOf, revoking-row, revoking-none, dyings-yes}
 use Rattle.table.proofs.Unrevoked.{after-dyings, before-dyings}
 use Rattle.reservations.specs.Core.{Core}
 use Rattle.reservations.specs.Revocation.{core, running, revoked, wholePages, revokingRow, revokeReasonsAt, revokeReasons, revokeAt, revokeOf}
@@ -42,14 +40,15 @@ use Rattle.machine.specs.Step.{withCore, reasonsOn, effectOn, ruled}
 use Rattle.machine.proofs.Keeps.{facts}
 use Rattle.arrays.specs.declared.Arrays.{Arrays}
 use Rattle.arrays.specs.declared.Numbers.{Numbers}
-use Rattle.pages.specs.Numbers.{pageCode, frameCode}
+use Rattle.pages.specs.Numbers.{pageCode}
 use Rattle.table.specs.Numbers.{rowFrom, rowCode, tableOf}
 use Rattle.table.specs.Lent.{putAt}
-use Rattle.pages.specs.Numbers.{pageIn, frameIn, layerOf}
-use Rattle.arrays.specs.Reading.{arrays, numbersOf, coreOf, stateOf, arraysOf, Formed}
+use Rattle.pages.specs.Numbers.{pageIn, layerOf}
+use Rattle.arrays.specs.Reading.{numbersOf, coreOf, stateOf, arraysOf, Formed}
 use Rattle.arrays.specs.Steps.{answer, leaving, leftOf}
 use Rattle.arrays.proofs.Lists.{map-set}
 use Rattle.arrays.proofs.Ruling.{down, cored}
+use Rattle.arrays.proofs.Writing.{same-arrays}
 use Rattle.pages.specs.Numbers.{filled}
 use Rattle.step.specs.Parts.{around}
 use Rattle.pages.proofs.Filling.{freed-filled}
@@ -105,11 +104,6 @@ module _ (b : Arrays) (f : Formed b) where
       let quiet : dyings l ≡ [] = none-is (dyings l) (sym (revoking-none t) ∙ not-false (missing (revokingOf t)) run) in
       let head : dyings (take i l) ≡ [] = append-none (dyings (take i l)) _ (sym (before-dyings (16 * c .pages .v) t ts i h n) ∙ quiet) in
       ap rangeOf (revoking-row (withRow t (Row i) n) ∙ ap firstOf (after-dyings (16 * c .pages .v) t ts i h n ∙ ap (λ d. d ++ dyings (n ∷ drop (i + 1) l)) head ∙ dyings-yes n (drop (i + 1) l) refl))
-
-same-arrays : {v f c p b₁ b₂ l₁ l₂ : ℕ} {w₁ w₂ k₁ k₂ m₁ m₂ g₁ g₂ r₁ r₂ p₁ p₂ f₁ f₂ : List ℕ} → b₁ ≡ b₂ → l₁ ≡ l₂ → w₁ ≡ w₂ → k₁ ≡ k₂ → m₁ ≡ m₂ → g₁ ≡ g₂ → r₁ ≡ r₂ → p₁ ≡ p₂ → f₁ ≡ f₂
-    → arrays (record { v = v; f = f; count = c; place = p; base = b₁; length = l₁ }) w₁ k₁ m₁ g₁ r₁ p₁ f₁
-    ≡ arrays (record { v = v; f = f; count = c; place = p; base = b₂; length = l₂ }) w₂ k₂ m₂ g₂ r₂ p₂ f₂
-same-arrays e1 e2 e3 e4 e5 e6 e7 e8 e9 = cc
 
 abbrev pub numbersRevoking : Numbers → Reservation → Numbers
 numbersRevoking n r = record { v = n .v; f = n .f; count = n .count; place = 0; base = r .base; length = r .length }

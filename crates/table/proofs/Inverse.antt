@@ -28,7 +28,7 @@ use Rattle.table.proofs.Truth.{both, or-right}
 use Rattle.table.proofs.Finding.{found-at, seek-same, next-at, next-below}
 use Rattle.table.proofs.Walking.{blank-more}
 use Rattle.table.proofs.Answers.{Splits, split-clear, merge-clear, merge-next}
-use Rattle.table.proofs.Tiled.{tiled-row, tiled-next, tiled-fits, row-some}
+use Rattle.table.proofs.Tiled.{tiled-some, tiled-next, tiled-fits}
 use Rattle.table.proofs.Sound.{Sound, sound, live-made, rows-parts}
 use Rattle.table.proofs.Kept.{cut-one, cut-two, row-live}
 use Rattle.table.proofs.Numbers.{same-row}
@@ -265,8 +265,8 @@ module _ (cells : ℕ) (t : Table) (ok : tableSound cells t ≡ true) (takers : 
       let lower = tiled-fits cells (live t) 0 i (w .tiled) h in
       let upper = tiled-fits cells (live t) 0 (i + 1) (w .tiled) b in
       let next : s .base ≡ r .base + r .length = subst (λ k. getD (live t) k blank .base ≡ r .base + r .length) (sym (add-one i)) (tiled-next cells (live t) 0 i (w .tiled) (omega arith)) in
-      let some = row-some r (tiled-row cells (live t) 0 i (w .tiled) h) in
-      let more = row-some s (tiled-row cells (live t) 0 (i + 1) (w .tiled) b) in
+      let some = tiled-some cells (live t) 0 i (w .tiled) h in
+      let more = tiled-some cells (live t) 0 (i + 1) (w .tiled) b in
       let open-r : isOpen (r .state) ≡ true = sym (ap (λ x. isOpen (x .state)) row) ∙ o in
       let rest = and-right (not (missing (nextOf t (At i)))) (held (rowOf t (nextOf t (At i))) party && alike (rowOf t (At i) .state) (rowOf t (nextOf t (At i)) .state)) m in
       let both-held : held s party ≡ true = sym (ap (λ x. held x party) above) ∙ and-left (held (rowOf t (nextOf t (At i))) party) (alike (rowOf t (At i) .state) (rowOf t (nextOf t (At i)) .state)) rest in

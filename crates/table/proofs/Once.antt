@@ -23,7 +23,7 @@ use Rattle.table.specs.Writes.{named, splitWrites, mergeWrites, WritesOn
 use Rattle.table.proofs.Truth.{or-right}
 use Rattle.table.proofs.Moving.{live-at}
 use Rattle.table.proofs.Answers.{split-clear}
-use Rattle.table.proofs.Tiled.{tiled-row, tiled-next, tiled-fits, row-some}
+use Rattle.table.proofs.Tiled.{tiled-some, tiled-next, tiled-fits}
 use Rattle.table.proofs.Sound.{Sound, sound}
 use Rattle.table.proofs.Kept.{split-kept, merge-kept}
 use Rattle.table.proofs.Inverse.{blank-is}
@@ -58,9 +58,6 @@ module _ (cells : ℕ) (fits : cells < 65536) (l : List Reservation) (tiled : ti
   abbrev row : ℕ → Reservation
   row j = getD l j blank
 
-  some : (j : ℕ) → j < length l → 0 < row j .length
-  some j h = row-some (row j) (tiled-row cells l 0 j tiled h)
-
   short : (j : ℕ) → j < length l → end (row j) < 65536
   short j h = omega (arith, tiled-fits cells l 0 j tiled h)
 
@@ -69,10 +66,10 @@ module _ (cells : ℕ) (fits : cells < 65536) (l : List Reservation) (tiled : ti
   ends-differ j h e = go (ltb (suc j) (length l)) refl
     where
       go : (b : Bool) → ltb (suc j) (length l) ≡ b → ⊥
-      go true p = let k = ltb-true (suc j) (length l) p in omega (arith, tiled-next cells l 0 j tiled k, some (suc j) k, e)
+      go true p = let k = ltb-true (suc j) (length l) p in omega (arith, tiled-next cells l 0 j tiled k, tiled-some cells l 0 (suc j) tiled k, e)
       go false p =
           let z : end (row (suc j)) ≡ 0 = ap end (List·getD-eq-default l blank (ltb-false (suc j) (length l) p)) in
-          omega (arith, some j h, z, e)
+          omega (arith, tiled-some cells l 0 j tiled h, z, e)
 
   -- A split: the lower part ends earlier than the row did, and above it each row ends where the one below did.
   module _ (i len : ℕ) (h : i < length l) (below : len < row i .length) where

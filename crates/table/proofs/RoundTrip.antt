@@ -48,7 +48,7 @@ rows-written [] s = all-nil
 rows-written (r ∷ l) s = all-cons (rowCode r) (map rowCode l) (number-written r (s .0)) (rows-written l (s .1))
 
 -- Numbers that are what their table is written as are written ones, since every number reads as a row of the right sizes.
-reads-sized : (l : List ℕ) → AllSized (map rowFrom l)
+pub reads-sized : (l : List ℕ) → AllSized (map rowFrom l)
 reads-sized [] = refl
 reads-sized (n ∷ l) = (read-sized n, reads-sized l)
 

@@ -10,7 +10,7 @@ use lib.Dec.{eqb, ltb, leb}
 use lib.ListN.{length, getD, take, drop, length-take, drop-of-length-le}
 use lib.Seq.{drop-cons, getD-take}
 use Rattle.capabilities.specs.Lists.{pick}
-use Rattle.capabilities.proofs.Choice.{and-left, and-right, pick-yes, pick-no}
+use Rattle.capabilities.proofs.Choice.{and-left, and-right, pick-yes, pick-no, cross}
 use Rattle.table.specs.Table.{Table}
 use Rattle.table.specs.Rows.{isOpen, isBlank, noTaker, severalTakers, live, blank}
 use Rattle.table.specs.Tiling.{follows, rowSound, tiles, allBlank, revokings, takerSound, takersSound, tableSound, sized}
@@ -22,13 +22,6 @@ use Rattle.table.proofs.Numbers.{state-open, state-taken, state-revokin
 use Rattle.table.proofs.Inverse.{blank-is}
 use Rattle.table.proofs.Mapping.{map-drop}
 use Rattle.table.proofs.Reading.{used-length, live-read}
-
--- Tests in another order.
-pub cross : (a b c d : Bool) → (a && b) && (c && d) ≡ ((a && c) && (b && d))
-cross false b c d = refl
-cross true false false d = refl
-cross true false true d = refl
-cross true true c d = refl
 
 shuffle : (s t w b v r : Bool) → (s && (t && w)) && ((b && v) && r) ≡ (((s && t) && (b && r)) && (w && v))
 shuffle false t w b v r = refl

@@ -82,6 +82,9 @@ tiled-row upto [] from i e h = absurd (omega arith)
 tiled-row upto (r ∷ l) from zero e h = tiles-begin from upto r l e .row
 tiled-row upto (r ∷ l) from (suc i) e h = tiled-row upto l (from + r .length) i (tiles-begin from upto r l e .rest) (omega arith)
 
+pub tiled-some : (upto : ℕ) (l : List Reservation) (from i : ℕ) → tiles from upto l ≡ true → i < length l → 0 < getD l i blank .length
+tiled-some upto l from i e h = row-some (getD l i blank) (tiled-row upto l from i e h)
+
 -- The next reservation begins where this one ends.
 pub tiled-next : (upto : ℕ) (l : List Reservation) (from i : ℕ) → tiles from upto l ≡ true → suc i < length l → getD l (suc i) blank .base ≡ getD l i blank .base + getD l i blank .length
 tiled-next upto [] from i e h = absurd (omega arith)

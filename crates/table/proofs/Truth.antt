@@ -1,6 +1,7 @@
 -- Laws of Bool tests. Assumes nothing.
 use mathlib.Core.Bool.{Bool, true, false, _&&_, _||_, true≢false, false≢true}
-use mathlib.Core.Path.{_≡_, refl, sym}
+use mathlib.Core.Path.{_≡_, refl}
+pub use Rattle.capabilities.proofs.Choice.{both, same-test}
 
 pub and-yes : (a b : Bool) → a ≡ true → a && b ≡ b
 and-yes true b e = refl
@@ -9,10 +10,6 @@ and-yes false b e = absurd (false≢true e)
 pub and-no : (a b : Bool) → a ≡ false → a && b ≡ false
 and-no true b e = absurd (true≢false e)
 and-no false b e = refl
-
-pub both : (a b : Bool) → a ≡ true → b ≡ true → a && b ≡ true
-both true b p q = q
-both false b p q = p
 
 pub or-left : (a b : Bool) → a || b ≡ false → a ≡ false
 or-left true b e = e
@@ -29,9 +26,3 @@ or-first false b e = absurd (false≢true e)
 pub or-second : (a b : Bool) → b ≡ true → a || b ≡ true
 or-second true b e = refl
 or-second false b e = e
-
--- Two tests that hold together are one.
-pub same-test : (a b : Bool) → (a ≡ true → b ≡ true) → (b ≡ true → a ≡ true) → a ≡ b
-same-test true b f g = sym (f refl)
-same-test false true f g = g refl
-same-test false false f g = refl

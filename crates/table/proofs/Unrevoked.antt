@@ -51,7 +51,7 @@ module _ (cells : ℕ) (t : Table) (s : Sound cells t) (i : ℕ) (h : i < length
   same-dyings a b =
       after-dyings ∙ ap (λ d. dyings (take i l) ++ d) (dyings-not n (drop (i + 1) l) b ∙ sym (dyings-not (getD l i blank) (drop (i + 1) l) a)) ∙ sym before-dyings
 
-alike-still : (a b : ReservationState) → alike a b ≡ true → (isRevoking a ≡ false) × (isRevoking b ≡ false)
+pub alike-still : (a b : ReservationState) → alike a b ≡ true → (isRevoking a ≡ false) × (isRevoking b ≡ false)
 alike-still Open Open e = (refl, refl)
 alike-still Open Taken e = (refl, refl)
 alike-still Open Revoking e = absurd (false≢true e)

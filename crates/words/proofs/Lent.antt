@@ -2,13 +2,13 @@
 use Prim.Native.Nat.{ℕ, zero, suc, _+_, _*_, _<_, _≤_, min}
 use native.Mathlib.Numerals.{add-one}
 use native.Mathlib.Omega.{arith}
-use mathlib.Core.Bool.{Bool, true, false, not, _&&_, true≢false, false≢true}
+use mathlib.Core.Bool.{Bool, true, false, not, _&&_}
 use mathlib.Core.List.{List, [], _∷_, map}
-use mathlib.Core.Path.{_≡_, refl, sym, ap, _∙_}
+use mathlib.Core.Path.{_≡_, refl, ap, _∙_}
 use mir.Val.{boolByte}
 use lib.ListN.{length, getD, set, take}
-use lib.Dec.{leb, eqb}
-use borrow.Author.Tests.{leb-true, le-leb, eqb-true, eqb-false}
+use lib.Dec.{leb}
+use borrow.Author.Tests.{leb-true}
 use Rattle.capabilities.specs.declared.Range.{Range}
 use Rattle.capabilities.specs.Capability.{baseOf}
 use Rattle.capabilities.specs.Lists.{pick, each}
@@ -18,7 +18,7 @@ use Rattle.words.specs.declared.Slot.{Slot}
 use Rattle.words.specs.Words.{slot, empty, keepTag, tagOf, byteOf, wordAt}
 use Rattle.words.specs.Lent.{slotsOf, cellsOf, bytesOf, bit, mapBeside, collectedMark, collectedCell, collectedMarks, collectedMail}
 
-tag-byte : (b : Bool) → tagOf (byteOf b) ≡ b
+pub tag-byte : (b : Bool) → tagOf (byteOf b) ≡ b
 tag-byte true = refl
 tag-byte false = refl
 
