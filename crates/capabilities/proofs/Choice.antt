@@ -1,7 +1,7 @@
 -- Laws of `pick`: what a choice by a test comes to, once the test is known. Assumes nothing.
-use Prim.Native.Nat.{ℕ, _≤_}
+use Prim.Native.Nat.{ℕ, _*_, _≤_}
 use native.Mathlib.Omega.{arith}
-use mathlib.Core.Bool.{Bool, true, false, _&&_, _||_, true≢false, false≢true}
+use mathlib.Core.Bool.{Bool, true, false, not, _&&_, _||_, true≢false, false≢true}
 use mathlib.Core.Path.{_≡_, refl, sym}
 use borrow.Author.Tests.{ne-eqb}
 use mir.Val.{boolByte}
@@ -37,6 +37,11 @@ and-right false b e = absurd (false≢true e)
 pub byte-pick : (b : Bool) → boolByte b ≡ pick b 1 0
 byte-pick true = refl
 byte-pick false = refl
+
+-- A number times a flag's opposite.
+pub times : (d : Bool) (n : ℕ) → n * boolByte (not d) ≡ pick d 0 n
+times true n = omega arith
+times false n = omega arith
 
 pub or-false : (a b : Bool) → a || b ≡ false → (a ≡ false) × (b ≡ false)
 or-false true b e = absurd (true≢false e)

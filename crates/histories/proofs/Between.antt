@@ -15,7 +15,7 @@ use Rattle.table.specs.Operations.{takeOf, takenRow, splitOf, mergeOf, giveOf}
 use Rattle.table.specs.Rows.{isOpen, live, rangeOf, reservation}
 use Rattle.table.proofs.Cells.{inside-made, no-shared-cell}
 use Rattle.table.proofs.Sound.{sound}
-use Rattle.table.proofs.Tiled.{tiled-row, row-some}
+use Rattle.table.proofs.Tiled.{tiled-some}
 use Rattle.reservations.specs.Core.{Core}
 use Rattle.reservations.specs.Revocation.{revoked, revokeOf, coreSound}
 use Rattle.reservations.proofs.CoreKept.{CoreFacts, core-facts}
@@ -100,7 +100,7 @@ collect-lent m c p r is w a = go (inside (rangeOf (rowAt t₁ (k .row))) b) refl
 
     mine : inside (rangeOf (rowAt t₁ (a .row))) b ≡ true
     mine =
-        let some = row-some (rowAt t₁ (a .row)) (tiled-row (16 * m .state .core .pages .v) (live t₁) 0 (a .row) (sound (16 * m .state .core .pages .v) t₁ (sure .rows) .tiled) (a .used)) in
+        let some = tiled-some (16 * m .state .core .pages .v) (live t₁) 0 (a .row) (sound (16 * m .state .core .pages .v) t₁ (sure .rows) .tiled) (a .used) in
         inside-made (rangeOf (rowAt t₁ (a .row))) b (omega arith) (omega arith)
 
     go : (x : Bool) → inside (rangeOf (rowAt t₁ (k .row))) b ≡ x → Around (next m c .state .core .table) r ⊎ Ending m c r

@@ -12,18 +12,16 @@ use Rattle.capabilities.specs.Range.{pageInside}
 use Rattle.capabilities.specs.Refusals.{first}
 use Rattle.capabilities.proofs.Choice.{pick-no}
 use Rattle.pages.specs.declared.Frame.{Frame}
-use Rattle.pages.specs.declared.FrameState.the-variants.{Dirty, Mapped as Shown}
-use Rattle.pages.specs.declared.PageState.{PageState}
-use Rattle.pages.specs.declared.PageState.the-variants.{Unmapped, Freed, Mapped}
+use Rattle.pages.specs.declared.PageState.the-variants.{Unmapped, Freed}
 use Rattle.pages.specs.declared.VirtualPage.{VirtualPage}
 use Rattle.pages.specs.Pages.{Pages}
 use Rattle.pages.specs.Entries.{isUnmapped, isMapped}
-use Rattle.pages.specs.Layer.{pageAt, withPage}
-use Rattle.pages.specs.Mapping.{mapped, mapReasons, unmapped, unmapReasons, soiled, freedOf}
+use Rattle.pages.specs.Layer.{pageAt}
+use Rattle.pages.specs.Mapping.{mapped, mapReasons, unmapReasons, freedOf}
 use Rattle.pages.proofs.Formed.{Sound as Layered, sound as layered}
 use Rattle.pages.proofs.Freeing.{freed-at, released-at}
 use Rattle.pages.proofs.Kept.{mappable, unmappable}
-use Rattle.pages.proofs.View.{page-put, page-kept, page-of-frame}
+use Rattle.pages.proofs.View.{page-of-frame}
 use Rattle.table.specs.declared.Reservation.{Reservation}
 use Rattle.table.specs.declared.ReservationState.the-variants.{Taken}
 use Rattle.table.specs.Find.{findOf}
@@ -47,28 +45,9 @@ use Rattle.histories.specs.Inv.{rowAt}
 use Rattle.histories.specs.Cleaning.{CleanedBetween}
 use Rattle.histories.proofs.Granted.{Went, went, went-or-not, went-next, went-core}
 use Rattle.histories.proofs.Findings.{Ends}
-use Rattle.histories.proofs.Layer.{map-done, unmap-done}
+use Rattle.histories.proofs.Layer.{map-done, unmap-done, map-other, unmap-other, unmap-here}
 use Rattle.histories.proofs.Between.{Ending, run-until}
 use Rattle.histories.proofs.Survivors.{collect-core, collect-ends}
-
--- A page other than the one that a map or an unmap names is as it was.
-map-other : (s : Pages) (page : VirtualPage) (frame : Frame) (n : ℕ) → (n ≡ page .0 → ⊥) → pageAt (mapped s page frame) n ≡ pageAt s n
-unfolding mapped
-map-other s page frame n other = page-of-frame (withPage s (page .0) (Mapped frame)) (frame .0) n Shown ∙ page-kept s (page .0) n (Mapped frame) other
-
-soiled-page : (s : Pages) (x : PageState) (n : ℕ) → pageAt (soiled s x) n ≡ pageAt s n
-unfolding soiled
-soiled-page s Unmapped n = refl
-soiled-page s Freed n = refl
-soiled-page s (Mapped frame) n = page-of-frame s (frame .0) n Dirty
-
-unmap-other : (s : Pages) (page : VirtualPage) (n : ℕ) → (n ≡ page .0 → ⊥) → pageAt (unmapped s page) n ≡ pageAt s n
-unfolding unmapped
-unmap-other s page n other = soiled-page (withPage s (page .0) Freed) (pageAt s (page .0)) n ∙ page-kept s (page .0) n Freed other
-
-unmap-here : (s : Pages) (page : VirtualPage) → page .0 < length (s .pages) → pageAt (unmapped s page) (page .0) ≡ Freed
-unfolding unmapped
-unmap-here s page h = soiled-page (withPage s (page .0) Freed) (pageAt s (page .0)) (page .0) ∙ page-put s (page .0) Freed h
 
 not-unmapped : Freed ≡ Unmapped → ⊥
 not-unmapped e = true≢false (sym (ap isUnmapped e))

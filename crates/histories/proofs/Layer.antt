@@ -27,10 +27,29 @@ use Rattle.pages.specs.Mapping.{lookupOf, placeIn, mapped, mapOf, mapReasons, u
 use Rattle.pages.proofs.Formed.{Sound as Layered, maps-low}
 use Rattle.pages.proofs.Freeing.{freed-at, released-at, none-mapped-at}
 use Rattle.pages.proofs.Kept.{Mappable, Unmappable}
-use Rattle.pages.proofs.View.{page-put, page-kept, frame-put, frame-kept, frame-of-page}
+use Rattle.pages.proofs.View.{page-put, page-kept, page-of-frame, frame-put, frame-kept, frame-of-page}
 use Rattle.table.proofs.Cells.{inside-bounds, inside-made}
 use Rattle.histories.proofs.View.{Seen, seen, looked, lookup-same}
 use Rattle.histories.proofs.Keep.{frame-lookup}
+
+-- A page other than the one that a map or an unmap names is as it was; an unmapped one is Freed.
+pub map-other : (s : Pages) (page : VirtualPage) (frame : Frame) (n : ℕ) → (n ≡ page .0 → ⊥) → pageAt (mapped s page frame) n ≡ pageAt s n
+unfolding mapped
+map-other s page frame n other = page-of-frame (withPage s (page .0) (Mapped frame)) (frame .0) n Shown ∙ page-kept s (page .0) n (Mapped frame) other
+
+soiled-page : (s : Pages) (x : PageState) (n : ℕ) → pageAt (soiled s x) n ≡ pageAt s n
+unfolding soiled
+soiled-page s Unmapped n = refl
+soiled-page s Freed n = refl
+soiled-page s (Mapped frame) n = page-of-frame s (frame .0) n Dirty
+
+pub unmap-other : (s : Pages) (page : VirtualPage) (n : ℕ) → (n ≡ page .0 → ⊥) → pageAt (unmapped s page) n ≡ pageAt s n
+unfolding unmapped
+unmap-other s page n other = soiled-page (withPage s (page .0) Freed) (pageAt s (page .0)) n ∙ page-kept s (page .0) n Freed other
+
+pub unmap-here : (s : Pages) (page : VirtualPage) → page .0 < length (s .pages) → pageAt (unmapped s page) (page .0) ≡ Freed
+unfolding unmapped
+unmap-here s page h = soiled-page (withPage s (page .0) Freed) (pageAt s (page .0)) (page .0) ∙ page-put s (page .0) Freed h
 
 no-place : (at : ℕ) → Nowhere ≡ At at → ⊥
 no-place at e = let z : _≡_ {A = ℕ} 0 1 = cc in omega arith

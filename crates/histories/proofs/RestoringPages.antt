@@ -8,15 +8,12 @@ use lib.Dec.{eqb}
 use lib.ListN.{length}
 use Rattle.capabilities.specs.Refusals.{first}
 use Rattle.capabilities.proofs.Refusals.{first-clear}
-use Rattle.pages.specs.declared.PageState.{PageState}
-use Rattle.pages.specs.declared.PageState.the-variants.{Unmapped, Freed, Mapped}
-use Rattle.pages.specs.declared.FrameState.the-variants.{Dirty}
+use Rattle.pages.specs.declared.PageState.the-variants.{Mapped}
 use Rattle.pages.specs.Pages.{Pages}
 use Rattle.pages.specs.Entries.{isMapped}
-use Rattle.pages.specs.Layer.{pageAt, withPage}
-use Rattle.pages.specs.Mapping.{unmapReasons, soiled, unmapped}
+use Rattle.pages.specs.Layer.{pageAt}
+use Rattle.pages.specs.Mapping.{unmapReasons, unmapped}
 use Rattle.pages.proofs.Formed.{sound as layered}
-use Rattle.pages.proofs.View.{page-put, page-kept, page-of-frame}
 use Rattle.table.specs.declared.ReservationState.the-variants.{Taken}
 use Rattle.reservations.specs.Core.{Core}
 use Rattle.calls.specs.declared.Call.the-variants.{Unmap}
@@ -29,26 +26,10 @@ use Rattle.histories.specs.Runs.{Machine, Granted, next}
 use Rattle.histories.specs.Forming.{Standing}
 use Rattle.histories.specs.Restoring.{eachBelow, mappedAt, unmapping}
 use Rattle.histories.proofs.Granted.{Went, went, went-next}
-use Rattle.histories.proofs.Layer.{unmap-done}
+use Rattle.histories.proofs.Layer.{unmap-done, unmap-other, unmap-here}
 use Rattle.histories.proofs.Forming.{standing-facts, standing-code, standing-next}
 use Rattle.histories.proofs.Leading.{Leads, leads-to, each-leads}
 use Rattle.histories.proofs.Losing.{WholeTable, Whole}
-
--- The states of pages after an unmap.
-soiled-page : (s : Pages) (x : PageState) (j : ℕ) → pageAt (soiled s x) j ≡ pageAt s j
-unfolding soiled
-soiled-page s Unmapped j = refl
-soiled-page s Freed j = refl
-soiled-page s (Mapped g) j = page-of-frame s (g .0) j Dirty
-
-module _ (s : Pages) (p : ℕ) where
-  unmapped-kept : (j : ℕ) → (j ≡ p → ⊥) → pageAt (unmapped s (page p)) j ≡ pageAt s j
-  unfolding unmapped
-  unmapped-kept j n = soiled-page (withPage s p Freed) (pageAt s p) j ∙ page-kept s p j Freed n
-
-  unmapped-here : p < length (s .pages) → pageAt (unmapped s (page p)) p ≡ Freed
-  unfolding unmapped
-  unmapped-here h = soiled-page (withPage s p Freed) (pageAt s p) p ∙ page-put s p Freed h
 
 module _ (m : Machine) (v f : ℕ) (k : Standing m v f) (p : ℕ) (h : p < v) (shown : isMapped (pageAt (m .state .core .pages) p) ≡ true) where
   abbrev c : Core
@@ -106,7 +87,7 @@ module _ (s₀ : Pages) (v f n : ℕ) (m : Machine) (q : UnmappedFrom s₀ v f (
       standing = standing-next m v f (Unmap 0 (page n)) (q .standing);
       one = subst (WholeTable v Taken 0) (sym (unmap-table m v f (q .standing) n low shown)) (q .one);
       within = omega (arith, q .within);
-      below = λ p b. ap (λ x. pageAt x p) now ∙ unmapped-kept s n p (λ z. omega arith) ∙ q .below p (omega arith);
+      below = λ p b. ap (λ x. pageAt x p) now ∙ unmap-other s (page n) p (λ z. omega arith) ∙ q .below p (omega arith);
       above = λ p a b. ap (λ x. isMapped (pageAt x p)) now ∙ go p a b (eqb p n) refl;
     },
   )
@@ -124,8 +105,8 @@ module _ (s₀ : Pages) (v f n : ℕ) (m : Machine) (q : UnmappedFrom s₀ v f (
       long = let l = layered s (standing-facts m v f (q .standing) .layer) in omega (arith, l .long-pages, l .v-most, q .standing .of-v)
 
       go : (p : ℕ) → n ≤ p → p < v → (b : Bool) → eqb p n ≡ b → isMapped (pageAt (unmapped s (page n)) p) ≡ false
-      go p a b true z = ap (λ j. isMapped (pageAt (unmapped s (page n)) j)) (eqb-true p n z) ∙ ap isMapped (unmapped-here s n long)
-      go p a b false z = ap isMapped (unmapped-kept s n p (eqb-false p n z)) ∙ q .above p (omega (arith, eqb-false p n z)) b
+      go p a b true z = ap (λ j. isMapped (pageAt (unmapped s (page n)) j)) (eqb-true p n z) ∙ ap isMapped (unmap-here s (page n) long)
+      go p a b false z = ap isMapped (unmap-other s (page n) p (eqb-false p n z)) ∙ q .above p (omega (arith, eqb-false p n z)) b
 
 -- One reservation is left, and no page is Mapped.
 pub record Bare (v : ℕ) (m : Machine) : Type 0 where

@@ -20,6 +20,7 @@ use Rattle.table.specs.Find.{findOf}
 use Rattle.table.specs.Operations.{openReasons, takeReasons, takenRow}
 use Rattle.table.specs.Rows.{isOpen, isRevoking, blank, live}
 use Rattle.table.specs.Tiling.{rowSound, revokings}
+use Rattle.table.proofs.Finding.{at-same}
 use Rattle.table.proofs.After.{Replaced}
 use Rattle.table.proofs.Kept.{row-live}
 use Rattle.table.proofs.Tiled.{revokings-first}
@@ -89,11 +90,8 @@ module _ (m : Machine) (v f : ℕ) (k : Standing m v f) (i : ℕ) (h : i < lengt
   take-rows : Replaced t (next m (Take (r .holder) (r .base) 0) .state .core .table) (r .holder) (r .base) i 1 (takenRow r (r .holder) ∷ [])
   take-rows =
       let l = lends m (Take (r .holder) (r .base) 0) (r .holder) (r .base) 0 plainPermissions refl (went m (Take (r .holder) (r .base) 0) take-goes) in
-      let n : l .row ≡ i = number (sym (l .now .found) ∙ found) in
+      let n : l .row ≡ i = at-same (sym (l .now .found) ∙ found) in
       subst (λ j. Replaced t (next m (Take (r .holder) (r .base) 0) .state .core .table) (r .holder) (r .base) j 1 (takenRow (rowAt t j) (r .holder) ∷ [])) n (l .now)
-    where
-      number : {a b : ℕ} → At a ≡ At b → a ≡ b
-      number e = cc
 
 -- The reservations from the n-th on are Taken, and those below are as they were in the table t₀.
 record TakenFrom (t₀ : Table) (v f n : ℕ) (m : Machine) : Type 0 where

@@ -1,7 +1,7 @@
 -- Revoke and collect keep the core well formed, granted or refused, and so does a sweep's new place. Assumes nothing.
 use Prim.Native.Nat.{ℕ, zero, _+_, _-_, _*_, _<_, _≤_, min}
 use native.Mathlib.Omega.{arith}
-use mathlib.Core.Bool.{Bool, true, false, not, _&&_, _||_, true≢false, false≢true}
+use mathlib.Core.Bool.{Bool, true, false, not, _&&_, _||_, true≢false}
 use mathlib.Core.List.{List, [], _∷_, _++_}
 use mathlib.Core.Path.{_≡_, refl, sym, ap, subst, _∙_}
 use borrow.Author.Tests.{eqb-true, eq-eqb, leb-true, le-leb, not-true, not-false, lt-ltb}
@@ -25,7 +25,7 @@ use Rattle.table.specs.Find.{missing, findOf, begins, revokingOf, rowOf, withRo
 use Rattle.table.specs.Tiling.{rowSound, revokings, weight}
 use Rattle.table.proofs.Truth.{both, or-left, or-right, or-second}
 use Rattle.table.proofs.Finding.{found-at}
-use Rattle.table.proofs.Dying.{dyings, none, revoking-none, dyings-length, dyings-not, dyings-yes, no-dyings}
+use Rattle.table.proofs.Dying.{dyings, none, none-is, revoking-none, dyings-length, dyings-not, dyings-yes, no-dyings}
 use Rattle.table.proofs.Tiled.{row-some, tiled-row, tiled-fits, revokings-append, revokings-first}
 use Rattle.table.proofs.Sound.{sound}
 use Rattle.table.proofs.Kept.{cut-one, row-live, row-kept}
@@ -49,10 +49,6 @@ parts l i h =
 
 silent : (l : List Reservation) → revokings l ≡ 0 → dyings l ≡ []
 silent l e = no-dyings l (sym (dyings-length l) ∙ e)
-
-none-is : (d : List Reservation) → none d ≡ true → d ≡ []
-none-is [] e = refl
-none-is (r ∷ d) e = absurd (false≢true e)
 
 -- What a granted revoke has found.
 pub record Revokes (c : Core) (f : Found) : Type 0 where

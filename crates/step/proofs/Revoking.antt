@@ -4,7 +4,7 @@ use native.Mathlib.Omega.{arith}
 use mathlib.Core.Bool.{Bool, true, false, not, true≢false, false≢true}
 use mathlib.Core.List.{List, [], _∷_, _++_, map}
 use mathlib.Core.Path.{_≡_, refl, sym, ap, subst, _∙_}
-use lib.ListN.{length, getD, set, take, drop}
+use lib.ListN.{length, set, take, drop}
 use lib.Dec.{eqb}
 use borrow.Author.Tests.{eq-eqb, ne-eqb, eqb-true, not-false}
 use Rattle.capabilities.specs.declared.Range.{Range}
@@ -23,8 +23,8 @@ use Rattle.table.specs.Find.{missing, begins, findOf, revokingOf, rowOf, withRo
 use Rattle.table.proofs.Sound.{Sound, sound}
 use Rattle.table.proofs.Finding.{found-at}
 use Rattle.table.proofs.Kept.{row-live}
-use Rattle.table.proofs.Tiled.{tiled-row, row-some}
-use Rattle.table.proofs.Dying.{dyings, none, firstOf, revoking-row, revoking-none, dyings-yes}
+use Rattle.table.proofs.Tiled.{tiled-some}
+use Rattle.table.proofs.Dying.{dyings, none, none-is, firstOf, revoking-row, revoking-none, dyings-yes}
 use Rattle.table.proofs.Unrevoked.{after-dyings, before-dyings}
 use Rattle.reservations.specs.Core.{Core}
 use Rattle.reservations.specs.Revocation.{core, running, revoked, wholePages, revokingRow, revokeReasonsAt, revokeReasons, revokeAt, revokeOf}
@@ -53,10 +53,6 @@ use Rattle.pages.specs.Numbers.{filled}
 use Rattle.step.specs.Parts.{around}
 use Rattle.pages.proofs.Filling.{freed-filled}
 
-none-is : (l : List Reservation) → none l ≡ true → l ≡ []
-none-is [] e = refl
-none-is (r ∷ l) e = absurd (false≢true e)
-
 append-none : (l m : List Reservation) → l ++ m ≡ [] → l ≡ []
 append-none [] m e = refl
 append-none (r ∷ l) m e = absurd (false≢true (ap none e))
@@ -82,7 +78,7 @@ module _ (b : Arrays) (f : Formed b) where
   found-long : (g : Found) → revokingOf t ≡ g → not (missing g) ≡ not (eqb (rowOf t g .length) 0)
   found-long (Row i) e =
       let h = found-at (λ r. isRevoking (r .state)) (live t) i blank (unfold revokingOf in e) .0 in
-      let p = row-some (getD (live t) i blank) (tiled-row (16 * c .pages .v) (live t) 0 i (ts .tiled) h) in
+      let p = tiled-some (16 * c .pages .v) (live t) 0 i (ts .tiled) h in
       let q : 0 < rowOf t (Row i) .length = subst (λ (r : Reservation). 0 < r .length) (sym (row-live t i h)) p in
       sym (ap not (ne-eqb (rowOf t (Row i) .length) 0 (λ z. omega (arith, q))))
   found-long None e = unfold rowOf in refl

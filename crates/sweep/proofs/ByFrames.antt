@@ -11,6 +11,7 @@ use lib.Dec.{leb, ltb, eqb}
 use mir.Val.{boolByte, Fits}
 use mir.Syntax.{w8}
 use borrow.Author.Tests.{eqb-true, eqb-false, leb-true, leb-false, ltb-true, ltb-false, le-leb, lt-leb, le-ltb}
+use Rattle.capabilities.proofs.Choice.{times}
 use Rattle.capabilities.specs.declared.Range.{Range}
 use Rattle.capabilities.specs.Capability.{baseOf}
 use Rattle.capabilities.specs.Lists.{pick}
@@ -30,11 +31,7 @@ to-last r x h k = ap (λ b. leb (r .base) x && b) (go (ltb x (r .base + r .lengt
     go true e = let z : x < r .base + r .length = ltb-true x (r .base + r .length) e in le-leb x (min (r .base + (r .length - 1)) 65535) (omega arith)
     go false e = let z : r .base + r .length ≤ x = ltb-false x (r .base + r .length) e in lt-leb x (min (r .base + (r .length - 1)) 65535) (omega arith)
 
--- A tag times 0 or 1.
-pub times : (d : Bool) (t : ℕ) → t * boolByte (not d) ≡ pick d 0 t
-times true t = omega arith
-times false t = omega arith
-
+-- A tag times 0 or 1 fits in its byte.
 pub times-fits : (d : Bool) (t : ℕ) → Fits w8 t → Fits w8 (t * boolByte d)
 times-fits true t h = omega arith
 times-fits false t h = omega arith

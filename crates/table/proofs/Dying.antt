@@ -2,7 +2,7 @@
 use Prim.Native.Nat.{ℕ, suc, _+_, _<_}
 use native.Mathlib.Nat.{add-zero, zero-add}
 use native.Mathlib.Omega.{arith}
-use mathlib.Core.Bool.{Bool, true, false}
+use mathlib.Core.Bool.{Bool, true, false, false≢true}
 use mathlib.Core.List.{List, [], _∷_, _++_}
 use mathlib.Core.Path.{_≡_, refl, sym, ap, _∙_}
 use lib.ListN.{length, getD}
@@ -24,6 +24,10 @@ dyings (r ∷ l) = pick (isRevoking (r .state)) (r ∷ dyings l) (dyings l)
 abbrev pub none : List Reservation → Bool
 none [] = true
 none (r ∷ l) = false
+
+pub none-is : (l : List Reservation) → none l ≡ true → l ≡ []
+none-is [] e = refl
+none-is (r ∷ l) e = absurd (false≢true e)
 
 abbrev pub firstOf : List Reservation → Reservation
 firstOf [] = blank

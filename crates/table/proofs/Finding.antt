@@ -13,13 +13,12 @@ use borrow.Author.Tests.{ltb-true, lt-ltb}
 use Rattle.capabilities.specs.Lists.{pick}
 use Rattle.capabilities.proofs.Choice.{pick-yes, pick-no}
 use Rattle.table.specs.declared.Reservation.{Reservation}
-use Rattle.table.specs.declared.Found.{Found}
 use Rattle.table.specs.declared.Found.the-variants.{At, Nowhere}
 use Rattle.table.specs.Table.{Table}
-use Rattle.table.specs.Rows.{live, blank}
-use Rattle.table.specs.Find.{seek, missing, nextOf, findOf, begins}
+use Rattle.table.specs.Rows.{live}
+use Rattle.table.specs.Find.{seek, missing, nextOf}
 
-at-same : {i j : ℕ} → At i ≡ At j → i ≡ j
+pub at-same : {i j : ℕ} → At i ≡ At j → i ≡ j
 at-same e = cc
 
 seek-at : (P : Reservation → Bool) (k : ℕ) (l : List Reservation) (i : ℕ) (d : Reservation) → seek P k l ≡ At i → (j : ℕ) × (i ≡ k + j) × (j < length l) × (P (getD l j d) ≡ true)

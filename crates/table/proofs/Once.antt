@@ -142,10 +142,10 @@ module _ (cells : ℕ) (fits : cells < 65536) (l : List Reservation) (tiled : ti
 
 -- The document's two numbers.
 pub split-number : SplitNumber
-split-number cells t party base i ok at = omega (arith, sound cells t ok, at)
+split-number cells t party base ok = omega (arith, sound cells t ok)
 
 pub merge-number : MergeNumber
-merge-number cells t party base i ok at = omega (arith, sound cells t ok, at)
+merge-number cells t party base ok = omega (arith, sound cells t ok)
 
 -- A granted call that replaces rows of a well-formed table and leaves a well-formed one: if every place from the named one's on that
 -- it counts reads otherwise afterwards, each is written once.

@@ -27,11 +27,11 @@ unfoldable pub placeOf : Found → ℕ
 placeOf (At i) = i
 placeOf Nowhere = 0
 
--- Of the first n entries those from the i-th on stand one higher, too; the i-th stays.
+-- Of the first n entries those from the i-th on stand one higher; the i-th stands in its old place besides.
 unfoldable pub raised : {A : Type 0} → List A → ℕ → ℕ → List A
 raised l i n = take (suc i) l ++ (drop i (take n l) ++ drop (suc n) l)
 
--- The entries above the i-th, up to the last one, stand one lower; the last one stays, too.
+-- The entries above the i-th, up to the last one, stand one lower; the last one stands in its old place besides.
 unfoldable pub lowered : {A : Type 0} → List A → ℕ → ℕ → List A
 lowered l i last = take i l ++ (drop (suc i) (take (suc last) l) ++ drop last l)
 

@@ -46,16 +46,13 @@ EachOnce i k ws = (j : ℕ) → writesTo j ws ≡ pick (leb i j && ltb j (i + k)
 
 -- The two numbers, of a well-formed table: n is its count.
 abbrev pub SplitNumber : Type 0
-SplitNumber =
-    (cells : ℕ) (t : Table) (party base i : ℕ)
-    → tableSound cells t ≡ true → named t party base ≡ i → splitWrites t party base 0 ≡ t .count - i + 1
+SplitNumber = (cells : ℕ) (t : Table) (party base : ℕ) → tableSound cells t ≡ true → splitWrites t party base 0 ≡ t .count - named t party base + 1
 
 abbrev pub MergeNumber : Type 0
-MergeNumber =
-    (cells : ℕ) (t : Table) (party base i : ℕ) → tableSound cells t ≡ true → named t party base ≡ i → mergeWrites t party base 0 ≡ t .count - i
+MergeNumber = (cells : ℕ) (t : Table) (party base : ℕ) → tableSound cells t ≡ true → mergeWrites t party base 0 ≡ t .count - named t party base
 
--- Of a granted call on a well-formed table, by a rule: whatever writes made of the numbers l what it leaves, if they are as many as it
--- answers, each of as many places from the i-th on was written once, and no other place was.
+-- A granted call on a well-formed table leaves the numbers m, by a rule, and answers a number of writes. Whatever writes made m of l: if
+-- they are as many, each of as many places from the i-th on was written once, and no other place was.
 abbrev pub WritesOnce : ℕ → List ℕ → ℕ → Tabled → ℕ → ℕ → Type 0
 WritesOnce cells l count rule i writes =
     (m : List ℕ) (after : ℕ) (ws : List Write) → cells < 65536

@@ -81,11 +81,7 @@ unfolding each
 bytes-bits n [] = refl
 bytes-bits n (w ∷ l) = rw (byte-bit (w .tag)) (bytes-bits (suc n) l)
 
--- A product with a flag.
-pub times-kept : (d : Bool) (n : ℕ) → n * boolByte (not d) ≡ pick d 0 n
-times-kept true n = omega arith
-times-kept false n = omega arith
-
+-- A product with a flag is no more than the number.
 pub times-most : (d : Bool) (n : ℕ) → n * boolByte (not d) ≤ n
 times-most true n = omega arith
 times-most false n = omega arith

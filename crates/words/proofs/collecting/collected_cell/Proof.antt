@@ -1,12 +1,11 @@
--- `words::collecting::collected_cell` meets its contract: a product with a flag is the number or 0 (`times-kept`).
+-- `words::collecting::collected_cell` meets its contract: a product with a flag is the number or 0 (`times`).
 use borrow.Author.Needs.{needs}
 use native.Mathlib.Omega.{arith}
-use mathlib.Core.Path.{_≡_, sym, ap, _∙_}
+use mathlib.Core.Path.{_∙_}
 use mathlib.Core.Bool.{not, _&&_}
 use lib.Dec.{eqb}
-use Rattle.capabilities.specs.Lists.{pick}
-use Rattle.words.specs.Words.{tagOf}
-use Rattle.words.proofs.Lent.{times-kept, times-most}
+use Rattle.capabilities.proofs.Choice.{times}
+use Rattle.words.proofs.Lent.{times-most}
 use Rattle.words.proofs.collecting.collected_cell.Statement.{statement}
 use Rattle.words.proofs.collecting.collected_cell.Tie as tie
 
@@ -26,7 +25,7 @@ mul-result : tie.Need-mul-result
 mul-result c = omega (arith, times-most ((not (eqb (c .before .before .args .flag) 0) && c .inside .result)) (c .before .before .args .cell))
 
 returns : tie.Need-returns
-returns c = times-kept ((not (eqb (c .before .before .args .flag) 0) && c .inside .result)) (c .before .before .args .cell) ∙ rw (c .inside .ensures, c .before .base-of .ensures)
+returns c = times ((not (eqb (c .before .before .args .flag) 0) && c .inside .result)) (c .before .before .args .cell) ∙ rw (c .inside .ensures, c .before .base-of .ensures)
 
 pub collected-cell-spec : {M : Type 1} → statement M
 collected-cell-spec = tie.close (tie.spec base-of-requires cast-inside inside-requires cast-result mul-result returns)

@@ -1,10 +1,9 @@
--- `words::collecting::collected_mark` meets its contract: a product with a flag is the number or 0 (`times-kept`).
+-- `words::collecting::collected_mark` meets its contract: a product with a flag is the number or 0 (`times`).
 use borrow.Author.Needs.{needs}
 use native.Mathlib.Omega.{arith}
-use mathlib.Core.Path.{_≡_, sym, ap, _∙_}
-use Rattle.capabilities.specs.Lists.{pick}
-use Rattle.words.specs.Words.{tagOf}
-use Rattle.words.proofs.Lent.{times-kept, times-most}
+use mathlib.Core.Path.{_∙_}
+use Rattle.capabilities.proofs.Choice.{times}
+use Rattle.words.proofs.Lent.{times-most}
 use Rattle.words.proofs.collecting.collected_mark.Statement.{statement}
 use Rattle.words.proofs.collecting.collected_mark.Tie as tie
 
@@ -24,7 +23,7 @@ mul-result : tie.Need-mul-result
 mul-result c = omega (arith, times-most (c .inside .result) (c .before .before .args .mark))
 
 returns : tie.Need-returns
-returns c = times-kept (c .inside .result) (c .before .before .args .mark) ∙ rw (c .inside .ensures, c .before .base-of .ensures)
+returns c = times (c .inside .result) (c .before .before .args .mark) ∙ rw (c .inside .ensures, c .before .base-of .ensures)
 
 pub collected-mark-spec : {M : Type 1} → statement M
 collected-mark-spec = tie.close (tie.spec base-of-requires cast-inside inside-requires cast-result mul-result returns)
