@@ -16,7 +16,8 @@ use Rattle.words.specs.Words.{byteOf}
 use Rattle.machine.specs.Edges.{same, all}
 use Rattle.machine.specs.Formed.{startOf}
 use Rattle.machine.specs.Step.{stepOf}
-use Rattle.machine.specs.WrongMachines.{Rule, instead, sweepBy, storeBy, untouched}
+use Rattle.machine.specs.Variants.{Rule, instead, sweepBy, storeBy}
+use Rattle.machine.specs.WrongMachines.{untouched}
 use Rattle.machine.proofs.Computing.{computing}
 use Rattle.histories.specs.Runs.{Machine, machine, begun, Begins}
 use Rattle.histories.specs.Live.{Spot, register, virtual, wordIn}

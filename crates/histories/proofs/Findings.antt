@@ -1,7 +1,7 @@
 -- What the calls find and make: confined capabilities, the place of a cell, the end of a revocation. Assumes nothing.
 use Prim.Native.Nat.{ℕ, _+_, _*_, _/_, _%_, _<_, _≤_}
 use native.Mathlib.Omega.{arith}
-use mathlib.Core.Bool.{Bool, true, false, not, _&&_, true≢false}
+use mathlib.Core.Bool.{Bool, true, false, _&&_, true≢false}
 use mathlib.Core.List.{List, _∷_, _++_}
 use mathlib.Core.Path.{_≡_, refl, sym, ap, subst, _∙_}
 use borrow.Author.Tests.{eqb-true, eq-eqb, not-true, not-false}
@@ -127,6 +127,26 @@ revoked-row : (c : Core) → revoked c ≡ rangeOf (rowOf (c .table) (revokingOf
 unfolding revoked
 revoked-row c = refl
 
+-- The reservation that is Revoking while a revocation runs.
+pub record Revoked (c : Core) : Type 0 where
+  pub row : ℕ
+  pub found : revokingOf (c .table) ≡ Row row
+  pub used : row < length (live (c .table))
+  pub dies : isRevoking (rowAt (c .table) row .state) ≡ true
+  pub is : rowOf (c .table) (revokingOf (c .table)) ≡ rowAt (c .table) row
+  pub range : revoked c ≡ rangeOf (rowAt (c .table) row)
+
+pub revoked-while : (c : Core) → running c ≡ true → Revoked c
+revoked-while c run = go (revokingOf (c .table)) refl
+  where
+    go : (f : Found) → revokingOf (c .table) ≡ f → Revoked c
+    go (Row i) e =
+        let t = c .table in
+        let here = found-at (λ r. isRevoking (r .state)) (live t) i blank (unfold revokingOf in e) in
+        let row : rowOf t (revokingOf t) ≡ rowAt t i = ap (rowOf t) e ∙ row-live t i (here .0) in
+        record { row = i; found = e; used = here .0; dies = here .1; is = row; range = revoked-row c ∙ ap (λ r. rangeOf r) row }
+    go NoRow e = absurd (true≢false (sym (ap (λ f. missing f) e) ∙ not-true (missing (revokingOf (c .table))) (unfold running in run)))
+
 -- What a granted collect has found and leaves.
 pub record Ends (c : Core) : Type 0 where
   pub row : ℕ
@@ -155,36 +175,26 @@ unfolding collected
 collected-parts c = refl
 
 pub ends : (c : Core) → coreSound c ≡ true → collectOf c .code ≡ 0 → Ends c
-ends c ok z = go (revokingOf (c .table)) refl
-  where
-    facts : CoreFacts c
-    facts = core-facts c ok
-
-    clear : (not (running c) ≡ false) × (16 * c .pages .f ≤ c .place)
-    clear = collect-clear c (unfold collectOf in z)
-
-    run : running c ≡ true
-    run = not-false (running c) (clear .0)
-
-    go : (f : Found) → revokingOf (c .table) ≡ f → Ends c
-    go (Row i) e =
-        let t = c .table in
-        let here = found-at (λ r. isRevoking (r .state)) (live t) i blank (unfold revokingOf in e) in
-        let row : rowOf t (revokingOf t) ≡ rowAt t i = ap (rowOf t) e ∙ row-live t i (here .0) in
-        let whole : wholePages (rowAt t i) ≡ true = sym (ap (λ r. wholePages r) row) ∙ whole-while c facts run in
-        let p = collect-parts c z in
-        record {
-          row = i;
-          used = here .0;
-          dies = here .1;
-          range = revoked-row c ∙ ap (λ r. rangeOf r) row;
-          now =
-              ap (λ x. live (x .table)) (p ∙ collected-at c (Row i) e) ∙ ap (λ r. live (withRow t (Row i) (collectedRow r))) (row-live t i (here .0))
-              ∙ with-live (16 * c .pages .v) t (sound (16 * c .pages .v) t (facts .rows)) i (here .0) (collectedRow (rowAt t i));
-          parts = p ∙ collected-parts c ∙ ap (λ x. core (releasedOf (c .pages) (revoked c)) (x .table) 0) (sym p);
-          over = clear .1;
-          whole-base = eqb-true (rowAt t i .base % 16) 0 (and-left (eqb (rowAt t i .base % 16) 0) (eqb (rowAt t i .length % 16) 0) whole);
-          whole-length = eqb-true (rowAt t i .length % 16) 0 (and-right (eqb (rowAt t i .base % 16) 0) (eqb (rowAt t i .length % 16) 0) whole);
-          freed = freed-none-mapped (c .pages) (revoked c) (freed-while c facts run);
-        }
-    go NoRow e = absurd (true≢false (sym (ap (λ f. missing f) e) ∙ not-true (missing (revokingOf (c .table))) (unfold running in run)))
+ends c ok z =
+    let facts = core-facts c ok in
+    let clear = collect-clear c (unfold collectOf in z) in
+    let run : running c ≡ true = not-false (running c) (clear .0) in
+    let k = revoked-while c run in
+    let t = c .table in
+    let i = k .row in
+    let whole : wholePages (rowAt t i) ≡ true = sym (ap (λ r. wholePages r) (k .is)) ∙ whole-while c facts run in
+    let p = collect-parts c z in
+    record {
+      row = i;
+      used = k .used;
+      dies = k .dies;
+      range = k .range;
+      now =
+          ap (λ x. live (x .table)) (p ∙ collected-at c (Row i) (k .found)) ∙ ap (λ r. live (withRow t (Row i) (collectedRow r))) (row-live t i (k .used))
+          ∙ with-live (16 * c .pages .v) t (sound (16 * c .pages .v) t (facts .rows)) i (k .used) (collectedRow (rowAt t i));
+      parts = p ∙ collected-parts c ∙ ap (λ x. core (releasedOf (c .pages) (revoked c)) (x .table) 0) (sym p);
+      over = clear .1;
+      whole-base = eqb-true (rowAt t i .base % 16) 0 (and-left (eqb (rowAt t i .base % 16) 0) (eqb (rowAt t i .length % 16) 0) whole);
+      whole-length = eqb-true (rowAt t i .length % 16) 0 (and-right (eqb (rowAt t i .base % 16) 0) (eqb (rowAt t i .length % 16) 0) whole);
+      freed = freed-none-mapped (c .pages) (revoked c) (freed-while c facts run);
+    }

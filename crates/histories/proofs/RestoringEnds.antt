@@ -1,10 +1,10 @@
 -- A revocation that runs is brought to its end by a sweep of all cells and a collect; so is the last one, of all cells. Assumes nothing.
 use Prim.Native.Nat.{ℕ, _+_, _*_, _%_, _<_, _≤_}
 use native.Mathlib.Omega.{arith}
-use mathlib.Core.Bool.{Bool, true, false, not, _&&_, false≢true}
+use mathlib.Core.Bool.{Bool, true, false, not, _&&_}
 use mathlib.Core.List.{List, [], _∷_, _++_}
 use mathlib.Core.Path.{_≡_, refl, sym, ap, subst, _∙_}
-use borrow.Author.Tests.{le-leb, not-false}
+use borrow.Author.Tests.{le-leb}
 use lib.ListN.{length, getD, take, drop}
 use Rattle.capabilities.specs.Lists.{pick}
 use Rattle.capabilities.specs.Range.{pageInside}
@@ -25,7 +25,7 @@ use Rattle.table.specs.Find.{findOf, rowOf}
 use Rattle.table.specs.Rows.{isRevoking, blank, live, rangeOf, reservation, noTaker}
 use Rattle.table.specs.Tiling.{revokings, weight}
 use Rattle.table.proofs.Cells.{inside-made}
-use Rattle.table.proofs.Dying.{dyings, none, revoking-none, dyings-length}
+use Rattle.table.proofs.Dying.{dyings, none}
 use Rattle.table.proofs.Kept.{cut-one, row-live}
 use Rattle.table.proofs.Sound.{sound}
 use Rattle.table.proofs.Tiled.{revokings-append, revokings-first}
@@ -48,15 +48,12 @@ use Rattle.histories.proofs.Granted.{went, went-next}
 use Rattle.histories.proofs.Findings.{Ends}
 use Rattle.histories.proofs.Survivors.{collect-core, collect-ends}
 use Rattle.histories.proofs.Forming.{standing-core, standing-facts, standing-code, standing-next}
+use Rattle.reservations.proofs.Revocations.{none-revoking}
+use Rattle.histories.proofs.Table.{running-by}
 use Rattle.histories.proofs.Leading.{Leads, leads-none, leads-more, leads-to}
 use Rattle.histories.proofs.Naming.{find-row}
 use Rattle.histories.proofs.Losing.{Whole, whole-table}
 use Rattle.histories.proofs.RestoringPages.{Bare}
-
--- A revocation runs if a reservation is Revoking.
-running-by : (c : Core) → running c ≡ not (none (dyings (live (c .table))))
-unfolding running
-running-by c = ap not (revoking-none (c .table))
 
 -- A core once its revocation has ended.
 pub record Finished (c : Core) (n : Machine) : Type 0 where
@@ -149,10 +146,6 @@ finished-still c n ok k =
       s .single,
     )
 
-none-empty : (d : List Reservation) → none d ≡ true → length d ≡ 0
-none-empty [] e = refl
-none-empty (r ∷ d) e = absurd (false≢true e)
-
 pub finishing-leads : (m : Machine) (v f : ℕ) → Standing m v f → Leads (λ n. revokings (live (n .state .core .table)) ≡ 0) m (finishing m)
 unfolding finishing
 finishing-leads m v f k = go (running (m .state .core)) refl
@@ -165,9 +158,7 @@ finishing-leads m v f k = go (running (m .state .core)) refl
         rw e
         (subst (λ x. Leads Q m (ending x)) (sym (k .of-f))
         (leads-to (Finished (m .state .core)) Q m (ending f) (ending-leads m v f k e) (finished-still (m .state .core) (run m (ending f)) (standing-core m v f k))))
-    go false e =
-        let l = live (m .state .core .table) in
-        rw e (leads-none Q m (dyings-length l ∙ none-empty (dyings l) (not-false (none (dyings l)) (sym (running-by (m .state .core)) ∙ e))))
+    go false e = rw e (leads-none Q m (none-revoking (m .state .core) e))
 
 -- The last revocation. The one reservation is Taken, and no page is Mapped.
 module _ (m : Machine) (v f : ℕ) (k : Standing m v f) (bare : Bare v m) where

@@ -15,7 +15,6 @@ use Rattle.table.specs.declared.Reservation.{Reservation}
 use Rattle.table.specs.declared.ReservationState.{ReservationState}
 use Rattle.table.specs.declared.ReservationState.the-variants.{Open, Taken, Revoking}
 use Rattle.table.specs.Table.{Table}
-use Rattle.table.specs.Find.{rowOf, revokingOf}
 use Rattle.table.specs.Rows.{isOpen, isRevoking, blank, live, rangeOf}
 use Rattle.table.specs.Operations.{alike, joined, lowerPart, upperPart, takenRow, givenRow}
 use Rattle.table.proofs.Cells.{inside-bounds, inside-made}
@@ -267,15 +266,22 @@ module _ (t u : Table) (party base i : ℕ) where
           (λ x. record { row = 1; used = omega arith; isopen = sym (alike-lent (one .state) (two .state) same) ∙ e; hit = x }) (joined-inside one two v seam fits c)
       back (suc j) v b e c = absurd (omega arith)
 
--- What dies is said by the Revoking reservations alone.
+-- Whether a revocation runs, its range, and what dies are said by the Revoking reservations alone.
+pub running-by : (c : Core) → running c ≡ not (none (dyings (live (c .table))))
+unfolding running
+running-by c = ap not (revoking-none (c .table))
+
+pub revoked-by : (c : Core) → revoked c ≡ rangeOf (firstOf (dyings (live (c .table))))
+unfolding revoked
+revoked-by c = ap rangeOf (revoking-row (c .table))
+
 abbrev diesBy : List Reservation → ℕ → Bool
 diesBy d cell = not (none d) && inside (rangeOf (firstOf d)) (baseOf cell)
 
 dies-by : (c : Core) (cell : ℕ) → dying c cell ≡ diesBy (dyings (live (c .table))) cell
-unfolding dying running revoked
+unfolding dying
 dies-by c cell =
-    ap (λ b. not b && inside (rangeOf (rowOf (c .table) (revokingOf (c .table)))) (baseOf cell)) (revoking-none (c .table))
-    ∙ ap (λ r. not (none (dyings (live (c .table)))) && inside (rangeOf r) (baseOf cell)) (revoking-row (c .table))
+    ap (λ b. b && inside (revoked c) (baseOf cell)) (running-by c) ∙ ap (λ r. not (none (dyings (live (c .table)))) && inside r (baseOf cell)) (revoked-by c)
 
 pub dies-same : (c d : Core) → dyings (live (d .table)) ≡ dyings (live (c .table)) → (cell : ℕ) → dying d cell ≡ dying c cell
 dies-same c d e cell = dies-by d cell ∙ ap (λ x. diesBy x cell) e ∙ sym (dies-by c cell)

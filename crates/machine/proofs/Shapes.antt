@@ -28,7 +28,7 @@ use Rattle.machine.specs.Roles.{plainPermissions}
 use Rattle.machine.specs.Reasons.{reasons}
 use Rattle.machine.specs.Effects.{effect}
 use Rattle.machine.specs.Step.{Outcome, refused, registersAfter, mailboxesAfter, cellsAfter, tagsAfter, wordAfter, done, effectOn, withCore}
-use Rattle.machine.specs.WrongMachines.{Obeys, instead, sweepBy, takeBy, maskBy, plainBy, splitBy, mergeBy, revokeBy, endBy, unmapBy, storeBy, collectBy}
+use Rattle.machine.specs.Variants.{Obeys, instead, sweepBy, takeBy, maskBy, plainBy, splitBy, mergeBy, revokeBy, endBy, unmapBy, storeBy, collectBy}
 use Rattle.machine.proofs.Found.{after-five}
 use Rattle.machine.proofs.Judging.{Granted, pick-by, step-by}
 

@@ -12,7 +12,8 @@ use Rattle.calls.specs.declared.Call.the-variants.{Take}
 use Rattle.machine.specs.Step.{Outcome, stepOf}
 use Rattle.machine.specs.Forgetting.{startBare}
 use Rattle.machine.specs.Edges.{same, all}
-use Rattle.machine.specs.WrongMachines.{Wrong, Rule, Obeys, instead, sweepBy, takeBy, maskBy, plainBy, splitBy, mergeBy, revokeBy, endBy, unmapBy, storeBy, collectBy, clearsAll, inventsLeft, inventsLength, pleadsFull, takesForNobody, takesForManager, keepsLower, saysSeveral, joinsOwn, revokesForNobody, collectsNoTaker, turnsDown, answersAlike, keepsState, releases, tagged, tellsTags, refusalWrites, after, from, lent, splits, neighbours, machines, numbers, leaves, differs, shown, startRefused, NoneObeys}
+use Rattle.machine.specs.Variants.{Rule, Obeys, instead, sweepBy, takeBy, maskBy, plainBy, splitBy, mergeBy, revokeBy, endBy, unmapBy, storeBy, collectBy}
+use Rattle.machine.specs.WrongMachines.{Wrong, clearsAll, inventsLeft, inventsLength, pleadsFull, takesForNobody, takesForManager, keepsLower, saysSeveral, joinsOwn, revokesForNobody, collectsNoTaker, turnsDown, answersAlike, keepsState, releases, tagged, tellsTags, refusalWrites, after, from, lent, splits, neighbours, machines, numbers, leaves, differs, shown, startRefused, NoneObeys}
 use Rattle.machine.proofs.Computing.{computing}
 
 pub all-shown : all shown machines ≡ true

@@ -8,4 +8,5 @@ pub mod Step
 pub mod Forgetting
 pub mod Command
 pub mod Edges
+pub mod Variants
 pub mod WrongMachines

@@ -3,10 +3,9 @@
 -- leaves something else than the rule. Since every contract is an equation with the rule for every input, no such program can be
 -- proved. Assumes nothing.
 use Prim.Native.Nat.{ℕ, zero, suc, _+_, _-_, _*_}
-use mathlib.Core.Bool.{Bool, false, not, _&&_}
+use mathlib.Core.Bool.{Bool, not, _&&_}
 use mathlib.Core.List.{List, [], _∷_, _++_, map}
-use mathlib.Core.Path.{_≡_}
-use lib.ListN.{getD, set, replicate}
+use lib.ListN.{set, replicate}
 use lib.Bits.{bitAnd}
 use lib.Dec.{leb, eqb}
 use Rattle.capabilities.specs.declared.Range.{Range}
@@ -27,118 +26,19 @@ use Rattle.table.specs.Find.{findOf, nextOf, revokingOf, rowOf, withRow}
 use Rattle.table.specs.Operations.{tabled, takeOf, splitOf, mergeOf}
 use Rattle.table.specs.Numbers.{numbersOf as rowNumbers}
 use Rattle.reservations.specs.Core.{Core, Cored}
-use Rattle.reservations.specs.Revocation.{core, revoked, revokeOf, collectOf}
+use Rattle.reservations.specs.Revocation.{core, revokeOf, collectOf}
 use Rattle.calls.specs.declared.Call.{Call}
 use Rattle.calls.specs.declared.Call.the-variants.{Take, Split, Merge, Give, Revoke, Sweep, Collect, Map, Unmap, Zero, Load, Store, Number, Grant, TakeMasked}
-use Rattle.calls.specs.Commands.{page, frame, operandsOf}
-use Rattle.calls.specs.Commands.{byteOf as kindOf}
+use Rattle.calls.specs.Commands.{page, frame}
 use Rattle.words.specs.declared.Slot.{Slot}
-use Rattle.words.specs.Words.{slot, empty, byteOf, tagOf, placeNumber, stored, collectedRegister, collectedMailbox}
+use Rattle.words.specs.Words.{slot, empty, byteOf, tagOf, stored, collectedRegister, collectedMailbox}
 use Rattle.words.specs.Lent.{cellsOf, bytesOf}
-use Rattle.machine.specs.State.{State}
 use Rattle.machine.specs.Formed.{answered, startOf}
 use Rattle.machine.specs.Roles.{plainPermissions}
-use Rattle.machine.specs.Reasons.{reads, addressed}
-use Rattle.machine.specs.Effects.{withTable, withPages, taking}
-use Rattle.machine.specs.Step.{Outcome, left, refused, done, withCore, stepOf}
+use Rattle.machine.specs.Step.{Outcome, left, refused, stepOf}
 use Rattle.machine.specs.Forgetting.{startBare}
 use Rattle.machine.specs.Edges.{same}
-
--- What a step is: the type of the rule `stepOf`.
-abbrev pub Rule : Type 0
-Rule = State → Call → List ℕ → List ℕ → Outcome
-
--- A machine that leaves what the rule leaves, of every state, call and lent memory.
-abbrev pub Obeys : Rule → Type 0
-Obeys m = (s : State) (c : Call) (cells tags : List ℕ) → m s c cells tags ≡ stepOf s c cells tags
-
--- The rule, but that a granted call of one kind leaves what is made of state, call, memory and the rule's own outcome.
-unfoldable pub instead : ℕ → (State → Call → List ℕ → List ℕ → Outcome → Outcome) → Rule
-instead kind made s c cells tags =
-    let o = stepOf s c cells tags in
-    pick (eqb (kindOf c) kind && eqb (o .answer .code) 0) (made s c cells tags o) o
-
-abbrev pub operand : Call → ℕ → ℕ
-operand c i = getD (operandsOf c) i 0
-
--- The rule, but with another sweep, take, split or unmap, of the type of `sweepOf`, `takeOf`, `splitOf` or `unmapOf`.
-unfoldable pub sweepBy : (Pages → Range → ℕ → ℕ → List ℕ → List ℕ → Passed) → Rule
-sweepBy sweep =
-    instead 0x06
-    (λ s c cells tags o.
-    let p = sweep (s .core .pages) (revoked (s .core)) (s .core .place) (operand c 1) cells tags in
-    let after = withCore s (core (s .core .pages) (s .core .table) (p .answer .place)) in
-    left (answered (p .answer .code) (slot (p .answer .left) false) after) cells (p .tags))
-
-unfoldable pub takeBy : (Table → ℕ → ℕ → Took) → Rule
-takeBy take =
-    instead 0x01
-    (λ s c cells tags o.
-    let t = take (s .core .table) (operand c 0) (operand c 1) in
-    left (answered (t .code) (slot (t .length) false) (withCore (o .answer .state) (withTable (s .core) (t .table)))) cells tags)
-
--- The rule, but that 11 gives other permissions for its mask, of the type of `permitted`, or 01 others.
-unfoldable pub maskBy : (ℕ → ℕ) → Rule
-maskBy given =
-    instead 0x11 (λ s c cells tags o. done s (taking (s .core) (operand c 0) (operand c 1) (operand c 2) (given (operand c 3))) cells tags)
-
-unfoldable pub plainBy : ℕ → Rule
-plainBy given = instead 0x01 (λ s c cells tags o. done s (taking (s .core) (operand c 0) (operand c 1) (operand c 2) given) cells tags)
-
-unfoldable pub splitBy : (Table → ℕ → ℕ → ℕ → Tabled) → Rule
-splitBy split =
-    instead 0x02
-    (λ s c cells tags o.
-    let t = split (s .core .table) (operand c 0) (operand c 1) (operand c 2) in
-    left (answered (t .code) empty (withCore s (withTable (s .core) (t .table)))) cells tags)
-
-unfoldable pub mergeBy : (Table → ℕ → ℕ → Tabled) → Rule
-mergeBy merge =
-    instead 0x03
-    (λ s c cells tags o.
-    let t = merge (s .core .table) (operand c 0) (operand c 1) in
-    left (answered (t .code) empty (withCore s (withTable (s .core) (t .table)))) cells tags)
-
--- With another core left by a revoke or a collect, of the type of `revokeOf` or `collectOf`.
-unfoldable pub revokeBy : (Core → ℕ → ℕ → Cored) → Rule
-revokeBy revoke =
-    instead 0x05
-    (λ s c cells tags o.
-    let r = revoke (s .core) (operand c 0) (operand c 1) in
-    left (answered (r .code) empty (withCore s (r .core))) cells tags)
-
-unfoldable pub endBy : (Core → Cored) → Rule
-endBy end =
-    instead 0x07
-    (λ s c cells tags o.
-    let r = end (s .core) in
-    left (answered (r .code) empty (withCore (o .answer .state) (r .core))) cells tags)
-
-unfoldable pub unmapBy : (Pages → VirtualPage → Paged) → Rule
-unmapBy unmap =
-    instead 0x09
-    (λ s c cells tags o.
-    let p = unmap (s .core .pages) (page (operand c 1)) in
-    left (answered (p .code) empty (withCore s (withPages (s .core) (p .pages)))) cells tags)
-
--- The rule, but with another word stored, of the type of `stored`; or other words left by a collect, in registers and in
--- mailboxes, of the type of `collectedRegister` and `collectedMailbox`.
-unfoldable pub storeBy : (Core → Slot → Slot) → Rule
-storeBy word =
-    instead 0x0C
-    (λ s c cells tags o.
-    let r = reads (s .registers) c in
-    let w = word (s .core) (r .two) in
-    let at = placeNumber (addressed (s .core) (r .one) (operand c 2)) in
-    left (o .answer) (set cells at (w .cell)) (set tags at (byteOf (w .tag))))
-
-unfoldable pub collectBy : (Core → Slot → Slot) → (Core → Slot → Slot) → Rule
-collectBy register mailbox =
-    instead 0x07
-    (λ s c cells tags o.
-    let words = map (register (s .core)) (s .registers) in
-    let mail = map (mailbox (s .core)) (s .mailboxes) in
-    left (answered 0 empty (record { core = o .answer .state .core; registers = words; mailboxes = mail })) cells tags)
+use Rattle.machine.specs.Variants.{Rule, Obeys, sweepBy, takeBy, maskBy, plainBy, splitBy, mergeBy, revokeBy, endBy, unmapBy, storeBy, collectBy}
 
 -- "A sweep that clears all on its first call and feigns the rest": it answers as the rule does.
 unfoldable pub clearsAll : Pages → Range → ℕ → ℕ → List ℕ → List ℕ → Passed

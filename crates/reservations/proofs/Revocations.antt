@@ -50,6 +50,13 @@ parts l i h =
 silent : (l : List Reservation) → revokings l ≡ 0 → dyings l ≡ []
 silent l e = no-dyings l (sym (dyings-length l) ∙ e)
 
+-- Where no revocation runs, no reservation is Revoking.
+pub none-revoking : (c : Core) → running c ≡ false → revokings (live (c .table)) ≡ 0
+unfolding running
+none-revoking c e =
+    let l = live (c .table) in
+    dyings-length l ∙ ap length (none-is (dyings l) (sym (revoking-none (c .table)) ∙ not-false _ e))
+
 -- What a granted revoke has found.
 pub record Revokes (c : Core) (f : Found) : Type 0 where
   pub found : missing f ≡ false
@@ -98,6 +105,20 @@ any-place p a b [] e = absurd (true≢false e)
 any-place p a b (r ∷ d) e = refl
 
 module _ (c : Core) (ok : coreSound c ≡ true) where
+  -- Where no revocation runs, the reservation that is revoked is the one Revoking.
+  pub revoking-dies : (i : ℕ) → i < length (live (c .table)) → running c ≡ false
+      → dyings (live (withRow (c .table) (At i) (revokingRow (rowOf (c .table) (At i))))) ≡ revokingRow (rowOf (c .table) (At i)) ∷ []
+  revoking-dies i h run =
+      let t = c .table in
+      let l = live t in
+      let q = drop (i + 1) l in
+      let n = revokingRow (rowOf t (At i)) in
+      let cells = 16 * c .pages .v in
+      let zero = none-revoking c run in
+      let sums = parts l i h in
+      after-dyings cells t (sound cells t (core-facts c ok .rows)) i h n ∙ ap (λ d. d ++ dyings (n ∷ q)) (silent (take i l) (omega arith))
+      ∙ dyings-yes n q refl ∙ ap (λ d. n ∷ d) (silent q (omega arith))
+
   revoke-at-kept : (party base : ℕ) (f : Found) → findOf (c .table) party base ≡ f → Revokes c f → coreSound (revokeAt c f) ≡ true
   unfolding revokeAt freedOf
   revoke-at-kept party base (At i) e k =
@@ -107,22 +128,16 @@ module _ (c : Core) (ok : coreSound c ≡ true) where
       let s = sound cells t (facts .rows) in
       let h = found-at (begins party base) (live t) i blank (unfold findOf in e) .0 in
       let l = live t in
-      let q = drop (i + 1) l in
       let r = rowOf t (At i) in
       let row = row-live t i h in
       let n = revokingRow r in
-      let quiet : dyings l ≡ [] = none-is (dyings l) (sym (revoking-none t) ∙ not-false _ (unfold running in k .free)) in
-      let zero : revokings l ≡ 0 = dyings-length l ∙ ap length quiet in
       let fit : r .base + r .length ≤ cells = subst (λ x. x .base + x .length ≤ cells) (sym row) (tiled-fits cells l 0 i (s .tiled) h) in
       let sound-n = zero-row (getD l i blank) n (tiled-row cells l 0 i (s .tiled) h) (ap (λ x. x .length) row) refl in
+      let zero = none-revoking c (k .free) in
       let rows = row-kept cells t s i n h (ap (λ x. x .base) row) (ap (λ x. x .length) row) sound-n (omega arith) in
       let x = core (freedOf (c .pages) (rangeOf r)) (withRow t (At i) n) 0 in
-      let sums = parts l i h in
-      let now : dyings (live (withRow t (At i) n)) ≡ n ∷ [] =
-      after-dyings cells t s i h n ∙ ap (λ d. d ++ dyings (n ∷ q)) (silent (take i l) (omega arith))
-      ∙ dyings-yes n q refl ∙ ap (λ d. n ∷ d) (silent q (omega arith)) in
       core-made x (freed-keeps (c .pages) (rangeOf r) fit (facts .layer)) rows (omega arith)
-      (dying-sound x ∙ ap (dyingSound (x .pages) 0) now ∙ (unfold dyingSound in both (wholePages r) (allFreed (freedOf (c .pages) (rangeOf r)) (rangeOf r)) (k .whole) (freed-all (c .pages) (rangeOf r) (k .unmapped))))
+      (dying-sound x ∙ ap (dyingSound (x .pages) 0) (revoking-dies i h (k .free)) ∙ (unfold dyingSound in both (wholePages r) (allFreed (freedOf (c .pages) (rangeOf r)) (rangeOf r)) (k .whole) (freed-all (c .pages) (rangeOf r) (k .unmapped))))
   revoke-at-kept party base Nowhere e k = absurd (true≢false (k .found))
 
   -- 05.
@@ -131,6 +146,18 @@ module _ (c : Core) (ok : coreSound c ≡ true) where
   core-revoke party base =
       let f = findOf (c .table) party base in
       core-pick c (revokeAt c f) (first (revokeReasonsAt c f)) ok (λ z. revoke-at-kept party base f refl (revoke-clear c f z))
+
+  -- After a granted one the reservation that it names is the one Revoking.
+  pub revoke-dies : (party base : ℕ) → revokeOf c party base .code ≡ 0 → dyings (live (revokeOf c party base .core .table)) ≡ revokingRow (rowOf (c .table) (findOf (c .table) party base)) ∷ []
+  unfolding revokeOf revokeReasons revokeAt
+  revoke-dies party base z =
+      let f = findOf (c .table) party base in
+      ap (λ x. dyings (live (x .table))) (pick-yes (eqb (first (revokeReasonsAt c f)) 0) (revokeAt c f) c (eq-eqb (first (revokeReasonsAt c f)) 0 z))
+      ∙ go f refl (revoke-clear c f z)
+    where
+      go : (f : Found) → findOf (c .table) party base ≡ f → Revokes c f → dyings (live (withRow (c .table) f (revokingRow (rowOf (c .table) f)))) ≡ revokingRow (rowOf (c .table) f) ∷ []
+      go (At i) e k = revoking-dies i (found-at (begins party base) (live (c .table)) i blank (unfold findOf in e) .0) (k .free)
+      go Nowhere e k = absurd (true≢false (k .found))
 
   collected-kept : (f : Found) → revokingOf (c .table) ≡ f → running c ≡ true → coreSound (collected c) ≡ true
   unfolding releasedOf dyingSound

@@ -1,10 +1,10 @@
 -- 05 in place. Assumes nothing.
 use Prim.Native.Nat.{ℕ, _+_, _*_, _/_, _%_, _<_}
 use native.Mathlib.Omega.{arith}
-use mathlib.Core.Bool.{Bool, true, false, not, true≢false, false≢true}
-use mathlib.Core.List.{List, [], _∷_, _++_, map}
+use mathlib.Core.Bool.{Bool, true, false, not, true≢false}
+use mathlib.Core.List.{List, [], map}
 use mathlib.Core.Path.{_≡_, refl, sym, ap, subst, _∙_}
-use lib.ListN.{length, set, take, drop}
+use lib.ListN.{length, set}
 use lib.Dec.{eqb}
 use borrow.Author.Tests.{eq-eqb, ne-eqb, eqb-true, not-false}
 use Rattle.capabilities.specs.declared.Range.{Range}
@@ -24,12 +24,11 @@ use Rattle.table.proofs.Sound.{Sound, sound}
 use Rattle.table.proofs.Finding.{found-at}
 use Rattle.table.proofs.Kept.{row-live}
 use Rattle.table.proofs.Tiled.{tiled-some}
-use Rattle.table.proofs.Dying.{dyings, none, none-is, firstOf, revoking-row, revoking-none, dyings-yes}
-use Rattle.table.proofs.Unrevoked.{after-dyings, before-dyings}
+use Rattle.table.proofs.Dying.{firstOf, revoking-row}
 use Rattle.reservations.specs.Core.{Core}
 use Rattle.reservations.specs.Revocation.{core, running, revoked, wholePages, revokingRow, revokeReasonsAt, revokeReasons, revokeAt, revokeOf}
 use Rattle.reservations.proofs.CoreKept.{CoreFacts, core-facts}
-use Rattle.reservations.proofs.Revocations.{Revokes, revoke-clear}
+use Rattle.reservations.proofs.Revocations.{Revokes, revoke-clear, revoking-dies}
 use Rattle.calls.specs.declared.Call.{Call}
 use Rattle.calls.specs.declared.Call.the-variants.{Revoke}
 use Rattle.words.specs.Words.{empty}
@@ -52,10 +51,6 @@ use Rattle.arrays.proofs.Writing.{same-arrays}
 use Rattle.pages.specs.Numbers.{filled}
 use Rattle.step.specs.Parts.{around}
 use Rattle.pages.proofs.Filling.{freed-filled}
-
-append-none : (l m : List Reservation) → l ++ m ≡ [] → l ≡ []
-append-none [] m e = refl
-append-none (r ∷ l) m e = absurd (false≢true (ap none e))
 
 found-below : (t : Table) (party base i : ℕ) → findOf t party base ≡ Row i → i < length (live t)
 unfolding findOf
@@ -93,13 +88,9 @@ module _ (b : Arrays) (f : Formed b) where
 
   -- The range after a revoke is the row's.
   revoked-after : (i : ℕ) → i < length (live t) → running c ≡ false → revoked (revokeAt c (Row i)) ≡ rangeOf (rowOf t (Row i))
-  unfolding revoked revokeAt running
+  unfolding revoked revokeAt
   revoked-after i h run =
-      let n = revokingRow (rowOf t (Row i)) in
-      let l = live t in
-      let quiet : dyings l ≡ [] = none-is (dyings l) (sym (revoking-none t) ∙ not-false (missing (revokingOf t)) run) in
-      let head : dyings (take i l) ≡ [] = append-none (dyings (take i l)) _ (sym (before-dyings (16 * c .pages .v) t ts i h n) ∙ quiet) in
-      ap rangeOf (revoking-row (withRow t (Row i) n) ∙ ap firstOf (after-dyings (16 * c .pages .v) t ts i h n ∙ ap (λ d. d ++ dyings (n ∷ drop (i + 1) l)) head ∙ dyings-yes n (drop (i + 1) l) refl))
+      ap rangeOf (revoking-row (withRow t (Row i) (revokingRow (rowOf t (Row i)))) ∙ ap firstOf (revoking-dies c (facts (stateOf b) (f .well) .core) i h run))
 
 abbrev pub numbersRevoking : Numbers → Reservation → Numbers
 numbersRevoking n r = record { v = n .v; f = n .f; count = n .count; place = 0; base = r .base; length = r .length }
