@@ -4,7 +4,8 @@
  * The functions of the library (section "The library") are total: they answer for all numbers,
  * bytes and lengths, and a refused call leaves every byte as it was. The inline functions after
  * them put pointers and lengths in their places; they are tested, not proved. "The document" is
- * document 01 with requests 2026-01 and 2026-04, whose numbers the commands and refusals bear.
+ * document 01 with requests 2026-01, 2026-04 and 2026-05, whose numbers the commands and refusals
+ * bear.
  *
  * What a caller owes, here as with all C: pointers are valid and aligned for the lengths that go
  * with them, and what a function writes overlaps nothing else that it is handed. Nothing is kept
@@ -27,7 +28,7 @@ extern "C" {
 
 /* ---- Sizes ---- */
 
-#define CETOMUHI_VERSION 3         /* of this boundary; cetomuhi_version() is the library's */
+#define CETOMUHI_VERSION 4         /* of this boundary; cetomuhi_version() is the library's */
 #define CETOMUHI_PAGES 256         /* V is 1 to 256 */
 #define CETOMUHI_FRAMES 128        /* F is 1 to 128 */
 #define CETOMUHI_PAGE_CELLS 16     /* cells of a page and of a frame */
@@ -43,7 +44,8 @@ extern "C" {
 
 /* ---- Commands and refusals, by the document's numbers ---- */
 
-/* The operands stand behind each, in the order of their bytes: one byte each, or /2 or /8. */
+/* The operands stand behind each, in the order of their bytes: one byte each, or /2 or /8. While a
+ * revocation runs, load and store drop the tag of a capability with base in its range. */
 enum cetomuhi_kind {
     CETOMUHI_TAKE = 0x01,    /* party base/2 reg: Taken, to load and store; answers its length */
     CETOMUHI_SPLIT = 0x02,   /* party base/2 len/2: two Open ones, the lower of len cells */

@@ -175,7 +175,7 @@ static void test_start(void) {
 
 static void test_sizes(void) {
     CHECK(cetomuhi_matches());
-    CHECK(cetomuhi_version() == 3);
+    CHECK(cetomuhi_version() == 4);
     for (uint64_t which = 10; which < 300; which++)
         CHECK(cetomuhi_size(which) == 0);
     CHECK(cetomuhi_size(UINT64_MAX) == 0);

@@ -1,9 +1,10 @@
 #!/usr/bin/env python3
-"""Shows that the checklist's sessions catch its faults, and those of command 11 its own.
+"""Shows that the checklist's sessions catch its faults, and those of requests 2026-01 and 2026-05 theirs.
 
 Puts one fault after another into a copy of the plain implementation in bench/ and runs sessions/
 over it. Each fault must make the sessions that are named with it print something else. No line
-shows a taker, so that none of these faults is about one: bench/tests/rules.rs looks at takers.
+shows a taker, or the tag that a load leaves in memory while a revocation runs, so that none of these
+faults is about one: bench/tests/rules.rs and bench/tests/loads.rs look at them.
 """
 
 import pathlib
@@ -180,9 +181,31 @@ FAULTS = [
     (
         "a load keeps the tag without permission 4",
         "step.rs",
-        "memory.tags[place] != 0 && cap::allows(through, cap::LOAD_CAPABILITY)",
-        "memory.tags[place] != 0",
-        ["take-masked-plain", "take-masked-each"],
+        "cap::allows(through, cap::LOAD_CAPABILITY) && !self.is_dying(cell)",
+        "!self.is_dying(cell)",
+        ["take-masked-plain", "take-masked-each", "load-filtered"],
+    ),
+    (
+        "a load keeps the tags of dying capabilities",
+        "step.rs",
+        "cap::allows(through, cap::LOAD_CAPABILITY) && !self.is_dying(cell)",
+        "cap::allows(through, cap::LOAD_CAPABILITY)",
+        ["load-filtered", "load-filtered-at-once", "survivor-behind", "survivor-two"],
+    ),
+    (
+        "a load drops the number of a dying capability, too",
+        "step.rs",
+        "let cell = memory.cells[place];",
+        "let cell = if self.is_dying(memory.cells[place]) { 0 } else { memory.cells[place] };",
+        ["load-filtered", "load-filtered-at-once", "survivor-behind", "survivor-two"],
+    ),
+    (
+        "a load filters by the first reservation when no revocation runs",
+        "step.rs",
+        "cap::allows(through, cap::LOAD_CAPABILITY) && !self.is_dying(cell)",
+        "{ let first = self.table.rows()[0].range();"
+        " cap::allows(through, cap::LOAD_CAPABILITY) && !self.revocation.map_or(first, |r| r.range).kills(cell) }",
+        ["load-filtered", "document"],
     ),
     (
         "a capability is stored without permission 8",

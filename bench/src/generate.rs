@@ -173,7 +173,7 @@ mod tests {
         assert!(tally.granted[1..].iter().all(|count| *count > 100));
         assert!(tally.codes[0] * 10 > tally.commands * 7);
         assert!(tally.stored_behind > 100 && tally.stored_ahead > 100 && tally.swept > 100);
-        assert!(tally.loaded > 100 && tally.loaded_untagged > 100);
+        assert!(tally.loaded > 100 && tally.loaded_unpermitted > 100 && tally.loaded_dying > 100);
         assert!(tally.joined_alike > 100 && tally.joined_unlike > 100 && tally.revoked_open > 100);
         assert!(tally.full_tables > 0 && tally.full_mailboxes > 0);
     }

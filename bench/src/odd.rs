@@ -237,7 +237,7 @@ mod tests {
     fn sorted(random: &mut Random) -> (Vec<State>, usize) {
         let sound = sound_states(random, 100);
         let (mut formed, mut ill_taken) = (Vec::new(), 0);
-        for _ in 0..4_000 {
+        for _ in 0..6_000 {
             let Some(state) = state(random, &sound).plain() else { continue };
             if state.is_well_formed() {
                 formed.push(state);

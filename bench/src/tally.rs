@@ -12,9 +12,14 @@ pub struct Tally {
     pub codes: [u64; 20],
     /// Commands granted, by the command's number.
     pub granted: [u64; 18],
-    /// Capabilities that loads put into a register, with their tag and without permission 4 for it.
+    /// Capabilities that loads put into a register: with their tag, without permission 4 for it, and
+    /// with permission 4 but dying.
     pub loaded: u64,
-    pub loaded_untagged: u64,
+    pub loaded_unpermitted: u64,
+    pub loaded_dying: u64,
+    /// Loads, and those of a capability, while a revocation runs.
+    pub running_loads: u64,
+    pub running_loads_of_capabilities: u64,
     /// Dying capabilities stored while a revocation runs, behind and ahead of the sweep place.
     pub stored_behind: u64,
     pub stored_ahead: u64,
@@ -55,16 +60,14 @@ impl Tally {
             };
             let dying = dying_store(&state, call);
             let taker = taker_change(&state, call);
-            let of_a_capability = loads_a_capability(&state, &tags, call);
+            let load = load_in(&state, &tags, call);
             let is_sweep = matches!(call.action, Action::Sweep { .. });
             let before = if is_sweep { count(&tags) } else { 0 };
             let mut memory = Memory { cells: &mut cells, tags: &mut tags };
             let answer = state.step(&mut memory, call);
             self.add_answer(input[0], answer, dying);
             self.add_taker_change(taker.filter(|_| answer.code == 0));
-            let is_loaded = of_a_capability && answer.code == 0;
-            self.loaded += u64::from(is_loaded && answer.tag);
-            self.loaded_untagged += u64::from(is_loaded && !answer.tag);
+            self.add_load(load.filter(|_| answer.code == 0), answer.tag);
             self.swept += if is_sweep { before - count(&tags) } else { 0 };
             table_full |= state.table.rows().len() == ROWS;
             mailboxes_full |= state.mailboxes.iter().all(|slot| slot.tag);
@@ -84,6 +87,20 @@ impl Tally {
             Some(Side::Behind) => self.stored_behind += 1,
             Some(Side::Ahead) => self.stored_ahead += 1,
             None => {}
+        }
+    }
+
+    fn add_load(&mut self, load: Option<Load>, tag: bool) {
+        let Some(load) = load else { return };
+        let while_running = u64::from(load.while_running);
+        self.running_loads += while_running;
+        if load.of_a_capability {
+            self.running_loads_of_capabilities += while_running;
+            match (tag, load.permitted) {
+                (true, _) => self.loaded += 1,
+                (false, true) => self.loaded_dying += 1,
+                (false, false) => self.loaded_unpermitted += 1,
+            }
         }
     }
 
@@ -142,10 +159,24 @@ fn taker_change(state: &State, call: Call) -> Option<TakerChange> {
     }
 }
 
-/// Whether the call is a load of a tagged cell.
-fn loads_a_capability(state: &State, tags: &[u8], call: Call) -> bool {
-    let Action::Load { a, off, .. } = call.action else { return false };
-    addressed(state, call.party, a, off).is_some_and(|place| tags[place] != 0)
+/// A load: whether a revocation runs, whether the cell is tagged, and whether the register has
+/// permission 4.
+struct Load {
+    while_running: bool,
+    of_a_capability: bool,
+    permitted: bool,
+}
+
+/// The load that the call is, if it is one of a cell in lent memory.
+fn load_in(state: &State, tags: &[u8], call: Call) -> Option<Load> {
+    let Action::Load { a, off, .. } = call.action else { return None };
+    let place = addressed(state, call.party, a, off)?;
+    let through = state.registers.get(usize::from(call.party))?.get(usize::from(a))?;
+    Some(Load {
+        while_running: state.revocation.is_some(),
+        of_a_capability: tags[place] != 0,
+        permitted: cap::allows(through.cell, cap::LOAD_CAPABILITY),
+    })
 }
 
 /// The lent cell at a register's base and an offset, if there is one.
@@ -168,8 +199,13 @@ impl fmt::Display for Tally {
         }
         writeln!(
             out,
-            "capabilities loaded: {} with their tag, {} without permission 4 for it",
-            self.loaded, self.loaded_untagged
+            "capabilities loaded: {} with their tag, {} without permission 4 for it, {} dying",
+            self.loaded, self.loaded_unpermitted, self.loaded_dying
+        )?;
+        writeln!(
+            out,
+            "loads while a revocation runs: {}, of a capability {}",
+            self.running_loads, self.running_loads_of_capabilities
         )?;
         writeln!(
             out,

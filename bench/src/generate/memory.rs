@@ -7,13 +7,19 @@ use crate::plain::pages::{Frame, Page, CELLS_A_PAGE};
 use crate::plain::{Action, Call};
 
 impl Author {
-    /// Half of them from a cell with something in it, so that a sweep's work is seen.
+    /// While a revocation runs, mostly of a dying capability. Of the others half from a cell with
+    /// something in it, so that a sweep's work is seen.
     pub(super) fn load(&mut self) -> Option<Call> {
-        let written = match self.random.one_in(2) {
-            true => self.load_of_a_written_cell(),
-            false => None,
+        let dying = match self.random.one_in(4) {
+            true => None,
+            false => self.dying_place(),
         };
-        written.or_else(|| self.load_of_any())
+        let written = match dying.is_none() && self.random.one_in(2) {
+            true => self.written_place(),
+            false => dying,
+        };
+        let at_place = written.and_then(|place| self.load_of_place(place));
+        at_place.or_else(|| self.load_of_any())
     }
 
     fn load_of_any(&mut self) -> Option<Call> {
@@ -23,8 +29,8 @@ impl Author {
         by(party, Action::Load { a, off, d })
     }
 
-    fn load_of_a_written_cell(&mut self) -> Option<Call> {
-        let place = self.written_place()?;
+    /// A load of a lent cell, where a Mapped page shows it and a register reaches it.
+    fn load_of_place(&mut self, place: usize) -> Option<Call> {
         let frame = Page::Mapped(Frame((place / CELLS_A_PAGE) as u8));
         let page = self.state.pages.pages().iter().position(|page| *page == frame)?;
         let cell = (page * CELLS_A_PAGE + place % CELLS_A_PAGE) as u16;
@@ -48,6 +54,14 @@ impl Author {
         let memory = self.tags.iter().zip(&self.cells).enumerate();
         let written = memory.filter(|(_, pair)| is_written(*pair));
         self.random.pick_any(written.map(|(place, _)| place))
+    }
+
+    /// A lent cell with a capability that dies with the revocation that runs.
+    fn dying_place(&mut self) -> Option<usize> {
+        let range = self.state.revocation?.range;
+        let memory = self.tags.iter().zip(&self.cells).enumerate();
+        let dying = memory.filter(|(_, (tag, cell))| **tag != 0 && range.kills(**cell));
+        self.random.pick_any(dying.map(|(place, _)| place))
     }
 
     /// While a revocation runs, mostly a store of a dying capability.

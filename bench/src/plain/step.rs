@@ -290,10 +290,9 @@ impl State {
         let through = self.capability(party, a)?;
         refuse_if(!cap::allows(through, cap::LOAD), Refusal::NoPermission)?;
         let place = self.addressed(through, off)?;
-        let loaded = Slot {
-            cell: memory.cells[place],
-            tag: memory.tags[place] != 0 && cap::allows(through, cap::LOAD_CAPABILITY),
-        };
+        let cell = memory.cells[place];
+        let keeps_tag = cap::allows(through, cap::LOAD_CAPABILITY) && !self.is_dying(cell);
+        let loaded = Slot { cell, tag: memory.tags[place] != 0 && keeps_tag };
         *self.register(party, d) = loaded;
         Ok(Answer::slot(loaded))
     }

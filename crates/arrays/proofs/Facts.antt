@@ -1,25 +1,20 @@
 -- What well-formed arrays are known by: their lengths, and what stands in an entry of the state read. Assumes nothing.
 use Prim.Native.Nat.{ℕ, _*_, _≤_}
-use native.Mathlib.Omega.{arith}
-use mathlib.Core.Bool.{true}
-use mathlib.Core.List.{List, map}
-use mathlib.Core.Path.{_≡_, refl, sym, ap, _∙_}
+use mathlib.Core.List.{List}
+use mathlib.Core.Path.{_≡_, sym, ap, _∙_}
 use lib.ListN.{length, getD, List·getD-map}
 use Rattle.pages.specs.Pages.{PageEntry}
 use Rattle.pages.specs.Pages.{FrameEntry}
 use Rattle.pages.specs.Layer.{pageAt, frameAt}
 use Rattle.table.proofs.Sound as sound
-use Rattle.reservations.specs.Core.{Core}
 use Rattle.reservations.proofs.CoreKept.{core-facts}
 use Rattle.words.specs.declared.Slot.{Slot}
 use Rattle.words.specs.Words.{byteOf}
-use Rattle.machine.specs.State.{State}
 use Rattle.machine.proofs.Keeps.{facts, arrays}
 use Rattle.arrays.specs.declared.Numbers.{Numbers}
 use Rattle.arrays.specs.declared.Arrays.{Arrays}
 use Rattle.pages.specs.Numbers.{pageFrom, frameFrom}
-use Rattle.table.specs.Numbers.{stateFrom, rowFrom, rowCode}
-use Rattle.words.specs.Lent.{slotsOf}
+use Rattle.table.specs.Numbers.{rowFrom}
 use Rattle.pages.specs.Numbers.{pageIn, frameIn}
 use Rattle.arrays.specs.Reading.{coreOf, stateOf, arraysOf, Formed}
 use Rattle.arrays.proofs.Lists.{length-map}

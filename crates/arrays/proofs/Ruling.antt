@@ -1,8 +1,7 @@
 -- The ways in which a call on arrays returns: turned down, or done. Assumes nothing.
 use Prim.Native.Nat.{ℕ, _+_, _*_}
-use mathlib.Core.Bool.{Bool, true}
 use mathlib.Core.List.{List}
-use mathlib.Core.Path.{_≡_, refl, sym, ap, _∙_}
+use mathlib.Core.Path.{_≡_, sym, ap, _∙_}
 use lib.ListN.{set}
 use Rattle.capabilities.specs.Refusals.{first}
 use Rattle.reservations.specs.Core.{Core}
@@ -12,12 +11,11 @@ use Rattle.words.specs.Words.{empty, byteOf}
 use Rattle.machine.specs.State.{State}
 use Rattle.machine.specs.Formed.{answered}
 use Rattle.machine.specs.Effects.{effectOf, keepRegisters, putRegister, fetchInto, keepMailboxes, putMailbox, keepMemory, writeWord}
-use Rattle.machine.specs.Step.{Outcome, left, fetched, done, reasonsOn, effectOn, ruled, judged, withCore}
+use Rattle.machine.specs.Step.{left, fetched, done, reasonsOn, effectOn, ruled, withCore}
 use Rattle.machine.proofs.Ruled.{ruled-down, ruled-done, done-core, done-register, done-mailbox, done-both, done-fetch, done-write}
 use Rattle.arrays.specs.declared.Arrays.{Arrays}
-use Rattle.arrays.specs.declared.Answer.{Answer}
 use Rattle.arrays.specs.Reading.{stateOf, arraysOf, Formed}
-use Rattle.arrays.specs.Steps.{Left, answer, leaving, leftOf, withWords, withMail, withMails}
+use Rattle.arrays.specs.Steps.{answer, leaving, leftOf, withWords, withMail, withMails}
 use Rattle.arrays.proofs.Writing.{put-register, put-mailbox, put-words, write-core-register}
 
 -- What an outcome with a state is written as.
@@ -56,15 +54,15 @@ module _ (a : Arrays) (f : Formed a) (c : Call) (k : ℕ) (e : k ≡ first (reas
       ∙ ap leftOf (ruled-done (stateOf a) c k e z cells tags _ (done-register (stateOf a) y w cells tags p r x ∙ sym (ap (λ y. done (stateOf a) y cells tags) g)))
 
   -- One that fetches a word from lent memory into a register.
-  pub fetching : (p r at : ℕ) (keep : Bool) → k ≡ 0 → effectOn (stateOf a) c ≡ effectOf (stateOf a .core) (fetchInto p r at keep) keepMailboxes keepMemory empty
-      → (x : Slot) → x ≡ fetched cells tags at keep
+  pub fetching : (p r at : ℕ) (through : Slot) → k ≡ 0 → effectOn (stateOf a) c ≡ effectOf (stateOf a .core) (fetchInto p r at through) keepMailboxes keepMemory empty
+      → (x : Slot) → x ≡ fetched (stateOf a .core) cells tags at through
       → leaving (answer 0 x) (withWords a (set (a .words) (8 * p + r) (x .cell)) (set (a .marks) (8 * p + r) (byteOf (x .tag)))) cells tags
       ≡ leftOf (ruled (stateOf a) c cells tags)
-  fetching p r at keep z g x d =
-      let y = fetched cells tags at keep in
+  fetching p r at through z g x d =
+      let y = fetched (stateOf a .core) cells tags at through in
       ap (λ v. leaving (answer 0 v) (withWords a (set (a .words) (8 * p + r) (v .cell)) (set (a .marks) (8 * p + r) (byteOf (v .tag)))) cells tags) d
       ∙ wrote 0 y _ _ cells tags (put-register a (f .kept) (8 * p + r) y)
-      ∙ ap leftOf (ruled-done (stateOf a) c k e z cells tags _ (done-fetch (stateOf a) (stateOf a .core) empty cells tags p r at keep ∙ sym (ap (λ y. done (stateOf a) y cells tags) g)))
+      ∙ ap leftOf (ruled-done (stateOf a) c k e z cells tags _ (done-fetch (stateOf a) (stateOf a .core) empty cells tags p r at through ∙ sym (ap (λ y. done (stateOf a) y cells tags) g)))
 
   -- One that puts a word into a mailbox, or into a register and a mailbox.
   pub mailed : (p : ℕ) (x : Slot) (w : Slot) → k ≡ 0 → effectOn (stateOf a) c ≡ effectOf (stateOf a .core) keepRegisters (putMailbox p x) keepMemory w

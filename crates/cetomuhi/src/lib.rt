@@ -78,9 +78,9 @@ fn at_end(
 // The number of this boundary; another layout has another one, and so have rules under which a call that was there does something else.
 #[no_mangle]
 pub extern "C" fn cetomuhi_version() -> u64
-    ensures { λ r. ⌜ r ≡ 3 ⌝ }
+    ensures { λ r. ⌜ r ≡ 4 ⌝ }
 {
-    3
+    4
 }
 
 const SIZES: [usize; 10] = [6, 64, 64, 8, 8, 64, 256, 128, 4, 7];

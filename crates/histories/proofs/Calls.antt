@@ -38,11 +38,11 @@ use Rattle.reservations.specs.Revocation.{core, revoked, dying, revokeReasons, 
 use Rattle.reservations.proofs.CoreAfter.{dying-inside}
 use Rattle.reservations.proofs.CoreKept.{CoreFacts, core-facts}
 use Rattle.words.specs.declared.Slot.{Slot}
-use Rattle.words.specs.Words.{slot, empty, registerOf, mailboxOf, keepTag, wordAt, stored, collectedRegister, collectedMailbox}
+use Rattle.words.specs.Words.{slot, empty, registerOf, mailboxOf, wordAt, stored, collectedRegister, collectedMailbox}
 use Rattle.machine.specs.State.{State}
 use Rattle.machine.specs.Roles.{Sources, Asked}
 use Rattle.machine.specs.Effects.{Effect, withTable, withPages, sweptTo, taking}
-use Rattle.machine.specs.Step.{done, registersAfter, mailboxesAfter, cellsAfter, tagsAfter}
+use Rattle.machine.specs.Step.{fetched, done, registersAfter, mailboxesAfter, cellsAfter, tagsAfter}
 use Rattle.machine.proofs.Deeds.{coreAlone, sweeping, collecting, zeroing, putting, loading, storing, granting, receiving, Recored, splits, merges, gives, revokes, maps, unmaps, Filling, narrows, numbers, aimedAt, Deed, took, recored, swept, collectedAll, zeroed, filled, loaded, wrote, mailed, received}
 use Rattle.machine.proofs.Found.{Addressing}
 use Rattle.machine.proofs.PagesKept.{zero-clear}
@@ -194,8 +194,9 @@ module _ (s : State) (cells tags : List ℕ) (inv : Inv (machine s cells tags)) 
     unfolding done registersAfter mailboxesAfter cellsAfter tagsAfter
     keep-load p a off d g =
         let w = registerOf (s .registers) p a in
-        register-change p d (keepTag (wordAt cells tags (aimedAt s p a off)) (permits (w .cell) 4))
-        (kept-sound t (wordAt cells tags (aimedAt s p a off)) (permits (w .cell) 4) (place-sound c cells tags (inv .memory) (baseOf (w .cell) + off) (aimedAt s p a off) (g .place)))
+        let x = wordAt cells tags (aimedAt s p a off) in
+        register-change p d (fetched c cells tags (aimedAt s p a off) w)
+        (kept-sound t x (permits (w .cell) 4 && not (dying c (x .cell))) (place-sound c cells tags (inv .memory) (baseOf (w .cell) + off) (aimedAt s p a off) (g .place)))
 
     -- 0C store.
     keep-store : (p a off r : ℕ) → Addressing c (registerOf (s .registers) p a) off

@@ -24,17 +24,18 @@ use Rattle.histories.specs.Survivors.{Untaken, NoSurvivorUntilTaken}
 use Rattle.histories.proofs.Granted.{Went, went-core}
 use Rattle.histories.proofs.Findings.{less-of}
 use Rattle.histories.proofs.Always.{inv-reached, inv-step}
-use Rattle.histories.proofs.Origins.{All, Narrows, step-came}
+use Rattle.histories.proofs.Held.{Narrows}
+use Rattle.histories.proofs.Origins.{All, step-came}
 use Rattle.histories.proofs.Lending.{lends, named-range, take-number}
 use Rattle.histories.proofs.Between.{went-granted}
 use Rattle.histories.proofs.Carrying.{row-fits}
 use Rattle.histories.proofs.Survivors.{no-survivor}
 
 -- A capability has no cell in a range.
-abbrev Outside : Range → ℕ → Type 0
+abbrev pub Outside : Range → ℕ → Type 0
 Outside r c = Into r c → ⊥
 
-outside-narrows : (r : Range) → Narrows (Outside r)
+pub outside-narrows : (r : Range) → Narrows (Outside r)
 outside-narrows r c off len mask some ends starts out k =
     let short : len < 65536 = omega (arith, less-of c) in
     let b = narrowed-base c off len mask short (omega arith) in
@@ -42,7 +43,7 @@ outside-narrows r c off len mask some ends starts out k =
     out (record { cell = k .cell; from = omega (arith, k .from, b); upto = omega (arith, k .upto, b, l, ends); hit = k .hit })
 
 -- What a granted take makes has its cells in the named range.
-taken-outside : (m : Machine) (take : Call) (p base reg permissions : ℕ) → IsTake take p base reg permissions → Went m take → (r : Range)
+pub taken-outside : (m : Machine) (take : Call) (p base reg permissions : ℕ) → IsTake take p base reg permissions → Went m take → (r : Range)
     → ((v : ℕ) → inside (namedRange m p base) v ≡ true → inside r v ≡ true → ⊥) → Outside r (capability base (takeOf (m .state .core .table) p base .length) permissions)
 taken-outside m take p base reg permissions is w r apart k =
     let f = lends m take p base reg permissions is w in
@@ -62,7 +63,7 @@ run-outside r [] m inv all none = all
 run-outside r (c ∷ calls) m inv all none =
     run-outside r calls (next m c) (inv-step m c inv)
     (step-came (Outside r) (outside-narrows r) m c inv all
-    (λ p base reg permissions is w. taken-outside m c p base reg permissions is w r (none [] c calls refl p base reg permissions is (went-granted m c w))))
+    (λ w p base reg permissions is. taken-outside m c p base reg permissions is w r (none [] c calls refl p base reg permissions is (went-granted m c w))))
     (λ before take after e. none (c ∷ before) take after (ap (λ l. c ∷ l) e))
 
 pub no-survivor-until-taken : NoSurvivorUntilTaken

@@ -7,6 +7,7 @@ pub mod Layer
 pub mod Findings
 pub mod Calls
 pub mod Showing
+pub mod Held
 pub mod Origins
 pub mod Always
 pub mod Crossing
@@ -21,6 +22,7 @@ pub mod Between
 pub mod TakersKept
 pub mod Takers
 pub mod Later
+pub mod DeadAtOnce
 pub mod Losing
 pub mod RestoringTakes
 pub mod RestoringPages

@@ -6,6 +6,7 @@ pub mod Crossing
 pub mod Confining
 pub mod Lending
 pub mod Survivors
+pub mod DeadAtOnce
 pub mod Cleaning
 pub mod Forming
 pub mod Losing

@@ -8,7 +8,7 @@ use mathlib.Core.List.{[], _∷_}
 use mathlib.Core.Path.{_≡_, refl, subst}
 use borrow.Author.Tests.{not-false}
 use lib.Bits.{and-le-l}
-use Rattle.capabilities.specs.Capability.{narrowed, permitted, permits}
+use Rattle.capabilities.specs.Capability.{narrowed, permitted}
 use Rattle.capabilities.specs.Refusals.{first, reason}
 use Rattle.capabilities.proofs.Refusals.{first-clear}
 use Rattle.pages.specs.declared.Frame.{Frame}
@@ -58,7 +58,7 @@ aimedAt s p a off = placeNumber (addressed (s .core) (registerOf (s .registers) 
 
 -- 0B, 0C, 0F, 10.
 abbrev pub loading : State → ℕ → ℕ → ℕ → ℕ → Effect
-loading s p a off d = effectOf (s .core) (fetchInto p d (aimedAt s p a off) (permits (registerOf (s .registers) p a .cell) 4)) keepMailboxes keepMemory empty
+loading s p a off d = effectOf (s .core) (fetchInto p d (aimedAt s p a off) (registerOf (s .registers) p a)) keepMailboxes keepMemory empty
 
 abbrev pub storing : State → ℕ → ℕ → ℕ → ℕ → Effect
 storing s p a off x = effectOf (s .core) keepRegisters keepMailboxes (writeWord (aimedAt s p a off) (stored (s .core) (registerOf (s .registers) p x))) empty

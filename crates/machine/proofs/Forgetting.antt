@@ -1,11 +1,11 @@
 -- Document 02, 2026-04: a step of the machine, its takers forgotten, is the step of the machine without takers. For no reason against a
 -- call and no effect of one looks at a taker but to write a taker, and what is written so is forgotten on both sides. Assumes nothing.
-use Prim.Native.Nat.{ℕ, _*_}
+use Prim.Native.Nat.{ℕ, _+_, _*_}
 use mathlib.Core.Bool.{Bool, true, false, not, _&&_, _||_, and-true}
 use mathlib.Core.List.{List, [], _∷_, map}
 use mathlib.Core.Path.{_≡_, refl, sym, ap, subst, _∙_}
-use lib.ListN.{length, replicate}
-use Rattle.capabilities.specs.Capability.{capability, permitted}
+use lib.ListN.{length, set, replicate}
+use Rattle.capabilities.specs.Capability.{capability, permitted, permits}
 use Rattle.capabilities.specs.Lists.{pick}
 use Rattle.capabilities.specs.Refusals.{reason, first}
 use Rattle.capabilities.proofs.Choice.{pick-no, and-left, and-right}
@@ -25,13 +25,13 @@ use Rattle.calls.specs.declared.Call.{Call}
 use Rattle.calls.specs.declared.Call.the-variants.{Take, Split, Merge, Give, Revoke, Sweep, Collect, Map, Unmap, Zero, Load, Store, Narrow, Number, Grant, Receive, TakeMasked}
 use Rattle.words.specs.declared.Slot.{Slot}
 use Rattle.words.specs.WordReasons.{unnamed, notManager}
-use Rattle.words.specs.Words.{slot, empty, keepTag, placeNumber}
+use Rattle.words.specs.Words.{slot, empty, keepTag, wordAt, placeNumber}
 use Rattle.machine.specs.State.{State}
 use Rattle.machine.specs.Roles.{plainPermissions}
 use Rattle.machine.specs.Formed.{mailboxesSound, sized, formedBare, wellFormed, fresh, startOf}
 use Rattle.machine.specs.Reasons.{Reads, reads, addressed, reasons}
 use Rattle.machine.specs.Effects.{RegisterChange, keepRegisters, putRegister, fetchInto, collectRegisters, MailboxChange, keepMailboxes, putMailbox, collectMailboxes, MemoryChange, keepMemory, writeWord, clearFrame, sweepCells, Effect, effectOf, sweptTo, taking, effect}
-use Rattle.machine.specs.Step.{refused, registersAfter, mailboxesAfter, tagsAfter, done, reasonsOn, effectOn, ruled, judged, stepOf}
+use Rattle.machine.specs.Step.{refused, fetched, registersAfter, mailboxesAfter, tagsAfter, wordAfter, done, reasonsOn, effectOn, ruled, judged, stepOf}
 use Rattle.machine.specs.Forgetting.{forget, forgetOutcome, stepBare}
 use Rattle.machine.proofs.Keeps.{step-keeps, start-formed}
 
@@ -102,12 +102,24 @@ module _ (c : Core) (mail : List Slot) (r : Reads) where
 
 -- What is done to a state does not go by its takers: by its core go only the capabilities that die, and the frames.
 module _ (s : State) where
+  fetched-forgets : (cells tags : List ℕ) (at : ℕ) (a : Slot) → fetched (forgetCore (s .core)) cells tags at a ≡ fetched (s .core) cells tags at a
+  fetched-forgets cells tags at a =
+      let w = wordAt cells tags at in
+      ap (λ die. keepTag w (permits (a .cell) 4 && not (die (w .cell)))) (dying-forgets (s .core))
+
   registers-forget : (ch : RegisterChange) (cells tags : List ℕ) → registersAfter ch (forget s) cells tags ≡ registersAfter ch s cells tags
   unfolding registersAfter
   registers-forget keepRegisters cells tags = refl
   registers-forget (putRegister p r w) cells tags = refl
-  registers-forget (fetchInto p r at keep) cells tags = refl
+  registers-forget (fetchInto p r at a) cells tags = ap (λ w. set (s .registers) (8 * p + r) w) (fetched-forgets cells tags at a)
   registers-forget collectRegisters cells tags = ap (λ die. map (λ w. keepTag w (not (die (w .cell)))) (s .registers)) (dying-forgets (s .core))
+
+  word-forgets : (ch : RegisterChange) (w : Slot) (cells tags : List ℕ) → wordAfter ch w (forgetCore (s .core)) cells tags ≡ wordAfter ch w (s .core) cells tags
+  unfolding wordAfter
+  word-forgets keepRegisters w cells tags = refl
+  word-forgets (putRegister p r x) w cells tags = refl
+  word-forgets (fetchInto p r at a) w cells tags = fetched-forgets cells tags at a
+  word-forgets collectRegisters w cells tags = refl
 
   mailboxes-forget : (ch : MailboxChange) → mailboxesAfter ch (forget s) ≡ mailboxesAfter ch s
   unfolding mailboxesAfter
@@ -142,7 +154,7 @@ module _ (s : State) (c : Call) (cells tags : List ℕ) where
   done-forgets =
       let e = effectOn s c in
       ap (λ x. done (forget s) x cells tags) (effect-forgets (s .core) (s .mailboxes) (reads (s .registers) c) c)
-      ∙ cc (registers-forget s (e .registers) cells tags, mailboxes-forget s (e .mailboxes), tags-forget s (e .memory) cells tags)
+      ∙ cc (word-forgets s (e .registers) (e .answer) cells tags, registers-forget s (e .registers) cells tags, mailboxes-forget s (e .mailboxes), tags-forget s (e .memory) cells tags)
 
   refused-forgets : (k : ℕ) → forgetOutcome (refused k (forget s) cells tags) ≡ forgetOutcome (refused k s cells tags)
   refused-forgets k = ap (λ x. refused k x cells tags) (state-twice s)

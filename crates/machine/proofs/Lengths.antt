@@ -30,7 +30,7 @@ pub length-registers : (ch : RegisterChange) (s : State) (cells tags : List ℕ)
 unfolding registersAfter
 length-registers keepRegisters s cells tags = refl
 length-registers (putRegister p r w) s cells tags = length-set (s .registers) (8 * p + r) w
-length-registers (fetchInto p r at keep) s cells tags = length-set (s .registers) (8 * p + r) (fetched cells tags at keep)
+length-registers (fetchInto p r at a) s cells tags = length-set (s .registers) (8 * p + r) (fetched (s .core) cells tags at a)
 length-registers collectRegisters s cells tags = length-map (s .registers) (collectedRegister (s .core))
 
 pub length-mailboxes : (ch : MailboxChange) (s : State) → length (mailboxesAfter ch s) ≡ length (s .mailboxes)

@@ -21,7 +21,7 @@ use Rattle.machine.specs.State.{State}
 use Rattle.machine.specs.State.{Answered}
 use Rattle.machine.specs.Formed.{answered}
 use Rattle.machine.specs.Effects.{effectOf, keepRegisters, putRegister, fetchInto, collectRegisters, keepMailboxes, putMailbox, collectMailboxes, keepMemory, writeWord, clearFrame, sweepCells}
-use Rattle.machine.specs.Step.{Outcome, left, fetched, done, registersAfter, mailboxesAfter, cellsAfter, tagsAfter, wordAfter, reasonsOn, effectOn, ruled, judged, refused, withCore}
+use Rattle.machine.specs.Step.{Outcome, left, fetched, done, registersAfter, mailboxesAfter, cellsAfter, tagsAfter, wordAfter, reasonsOn, effectOn, ruled, withCore}
 
 module _ (s : State) (c : Call) (k : ℕ) (e : k ≡ first (reasonsOn s c)) where
   pub ruled-down : (k ≡ 0 → ⊥) → (cells tags : List ℕ) → left (answered k empty s) cells tags ≡ ruled s c cells tags
@@ -56,11 +56,11 @@ module _ (s : State) (c : Core) (w : Slot) (cells tags : List ℕ) where
   unfolding done registersAfter mailboxesAfter cellsAfter tagsAfter wordAfter
   done-both p r x q y = refl
 
-  pub done-fetch : (p r at : ℕ) (keep : Bool)
-      → left (answered 0 (fetched cells tags at keep) (record { core = c; registers = set (s .registers) (8 * p + r) (fetched cells tags at keep); mailboxes = s .mailboxes })) cells tags
-      ≡ done s (effectOf c (fetchInto p r at keep) keepMailboxes keepMemory w) cells tags
+  pub done-fetch : (p r at : ℕ) (a : Slot)
+      → left (answered 0 (fetched (s .core) cells tags at a) (record { core = c; registers = set (s .registers) (8 * p + r) (fetched (s .core) cells tags at a); mailboxes = s .mailboxes })) cells tags
+      ≡ done s (effectOf c (fetchInto p r at a) keepMailboxes keepMemory w) cells tags
   unfolding done registersAfter mailboxesAfter cellsAfter tagsAfter wordAfter
-  done-fetch p r at keep = refl
+  done-fetch p r at a = refl
 
   pub done-write : (at : ℕ) (x : Slot)
       → left (answered 0 w (withCore s c)) (set cells at (x .cell)) (set tags at (byteOf (x .tag)))

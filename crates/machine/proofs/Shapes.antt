@@ -1,11 +1,11 @@
 -- The shapes of the wrong machines: with the rule in the place of what is wrong, each is the rule, for every input. A granted
 -- call of the kind leaves what the rule leaves, and every other outcome is the rule's own.
-use Prim.Native.Nat.{ℕ}
+use Prim.Native.Nat.{ℕ, zero, suc}
 use native.Mathlib.Omega.{arith}
 use mathlib.Core.Bool.{_&&_, _||_}
-use mathlib.Core.List.{List}
+use mathlib.Core.List.{List, [], _∷_}
 use mathlib.Core.Path.{_≡_, refl, sym, ap, subst, _∙_}
-use lib.ListN.{getD}
+use lib.ListN.{getD, set}
 use lib.Dec.{eqb}
 use borrow.Author.Tests.{eqb-true}
 use Rattle.capabilities.specs.Capability.{permitted}
@@ -21,14 +21,15 @@ use Rattle.calls.specs.declared.Call.the-variants.{Take, Split, Merge, Revoke, 
 use Rattle.calls.specs.Commands.{page, commandOf, operandsOf}
 use Rattle.calls.specs.Commands.{byteOf as kindOf}
 use Rattle.calls.proofs.Table.{listed}
-use Rattle.words.specs.Words.{stored, collectedRegister, collectedMailbox}
+use Rattle.words.specs.Words.{loaded, stored, collectedRegister, collectedMailbox}
 use Rattle.words.specs.WordReasons.{unnamed, notManager}
 use Rattle.machine.specs.State.{State}
 use Rattle.machine.specs.Roles.{plainPermissions}
 use Rattle.machine.specs.Reasons.{reasons}
 use Rattle.machine.specs.Effects.{effect}
-use Rattle.machine.specs.Step.{Outcome, refused, registersAfter, mailboxesAfter, cellsAfter, tagsAfter, wordAfter, done, effectOn, withCore}
-use Rattle.machine.specs.Variants.{Obeys, instead, sweepBy, takeBy, maskBy, plainBy, splitBy, mergeBy, revokeBy, endBy, unmapBy, storeBy, collectBy}
+use Rattle.machine.specs.Step.{Outcome, left, refused, registersAfter, mailboxesAfter, cellsAfter, tagsAfter, wordAfter, done, effectOn, withCore}
+use Rattle.machine.specs.Variants.{Obeys, instead, sweepBy, takeBy, maskBy, plainBy, splitBy, mergeBy, revokeBy, endBy, unmapBy, storeBy, loadBy, collectBy}
+use Rattle.machine.specs.WrongMachines.{keptByte}
 use Rattle.machine.proofs.Found.{after-five}
 use Rattle.machine.proofs.Judging.{Granted, pick-by, step-by}
 
@@ -65,6 +66,20 @@ sweep-obeys = obeys-by 0x06 _ (λ s x cells tags g. rw (g .served))
 pub store-obeys : Obeys (storeBy stored)
 unfolding storeBy done effect registersAfter mailboxesAfter cellsAfter tagsAfter wordAfter
 store-obeys = obeys-by 0x0C _ (λ s x cells tags g. refl)
+
+-- What stands in a list, written there again.
+set-self : (l : List ℕ) (i : ℕ) → set l i (getD l i 0) ≡ l
+set-self [] i = refl
+set-self (x ∷ l) zero = refl
+set-self (x ∷ l) (suc i) = ap (λ k. x ∷ k) (set-self l i)
+
+pub load-obeys : Obeys (loadBy loaded loaded keptByte)
+unfolding loadBy done effect registersAfter mailboxesAfter cellsAfter tagsAfter wordAfter
+load-obeys =
+    obeys-by 0x0B _
+    (λ s x cells tags g.
+    let o = done s (effectOn s (commandOf 0x0B .make x)) cells tags in
+    ap (λ l. left (o .answer) cells l) (set-self tags _))
 
 pub collect-obeys : Obeys (collectBy collectedRegister collectedMailbox)
 unfolding collectBy done effect registersAfter mailboxesAfter cellsAfter tagsAfter wordAfter

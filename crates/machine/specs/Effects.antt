@@ -2,10 +2,10 @@
 -- mailboxes and memory, and the answer. It depends on the core, the mailboxes and the registers that the call reads, and on
 -- nothing else. Assumes nothing.
 use Prim.Native.Nat.{ℕ}
-use mathlib.Core.Bool.{Bool, true, false}
+use mathlib.Core.Bool.{true, false}
 use mathlib.Core.List.{List}
 use Rattle.capabilities.specs.declared.Range.{Range}
-use Rattle.capabilities.specs.Capability.{capability, narrowed, permitted, permits}
+use Rattle.capabilities.specs.Capability.{capability, narrowed, permitted}
 use Rattle.pages.specs.declared.Frame.{Frame}
 use Rattle.pages.specs.declared.FrameState.the-variants.{Free}
 use Rattle.pages.specs.Pages.{Pages}
@@ -23,12 +23,12 @@ use Rattle.words.specs.Words.{slot, empty, mailboxOf, placeNumber, stored}
 use Rattle.machine.specs.Roles.{plainPermissions}
 use Rattle.machine.specs.Reasons.{Reads, addressed}
 
--- What becomes of the registers: nothing; a word is put into one of a party's; the word at a place of lent memory is,
--- its tag kept or not; or the capabilities that die lose their tags.
+-- What becomes of the registers: nothing; a word is put into one of a party's; the word at a place of lent memory is, as a load
+-- through a capability makes it; or the capabilities that die lose their tags.
 pub data RegisterChange : Type 0 where
   keepRegisters : RegisterChange
   putRegister : ℕ → ℕ → Slot → RegisterChange
-  fetchInto : ℕ → ℕ → ℕ → Bool → RegisterChange
+  fetchInto : ℕ → ℕ → ℕ → Slot → RegisterChange
   collectRegisters : RegisterChange
 
 -- What becomes of the mailboxes: nothing; a word is put into a party's; or the capabilities that die are gone.
@@ -101,10 +101,10 @@ effect c mail r (Map p page frame) = pageChange c (mapOf (c .pages) page frame .
 effect c mail r (Unmap p page) = pageChange c (unmapOf (c .pages) page .pages)
 effect c mail r (Zero p frame) =
     effectOf (withPages c (withFrame (c .pages) (frame .0) Free)) keepRegisters keepMailboxes (clearFrame frame) empty
--- 0B load: "The cell at base + off of the capability in a goes to d and is the answer; its tag is dropped without permission 4." Of a
--- word that is fetched the answer is that word (Step, wordAfter); the empty one here is not looked at.
+-- 0B load: "The cell at base + off of the capability in a goes to d and is the answer". Of a word that is fetched the answer is that
+-- word (Step, wordAfter); the empty one here is not looked at.
 effect c mail r (Load p a off d) =
-    effectOf c (fetchInto p d (placeNumber (addressed c (r .one) off)) (permits (r .one .cell) 4)) keepMailboxes keepMemory empty
+    effectOf c (fetchInto p d (placeNumber (addressed c (r .one) off)) (r .one)) keepMailboxes keepMemory empty
 -- 0C store: "Register s goes to that cell."
 effect c mail r (Store p a off s) =
     effectOf c keepRegisters keepMailboxes (writeWord (placeNumber (addressed c (r .one) off)) (stored c (r .two))) empty

@@ -1,6 +1,5 @@
 -- One call: the reasons against it are judged in order, and if none applies its effect is done. Assumes nothing.
 use Prim.Native.Nat.{ℕ, _+_, _*_}
-use mathlib.Core.Bool.{Bool}
 use mathlib.Core.List.{List, map}
 use lib.ListN.{length, set}
 use lib.Dec.{eqb}
@@ -12,7 +11,7 @@ use Rattle.sweep.specs.Sweep.{sweptTags}
 use Rattle.reservations.specs.Core.{Core}
 use Rattle.calls.specs.declared.Call.{Call}
 use Rattle.words.specs.declared.Slot.{Slot}
-use Rattle.words.specs.Words.{empty, byteOf, wordAt, keepTag, collectedRegister, collectedMailbox}
+use Rattle.words.specs.Words.{empty, byteOf, wordAt, loaded, collectedRegister, collectedMailbox}
 use Rattle.machine.specs.State.{State}
 use Rattle.machine.specs.State.{Answered}
 use Rattle.machine.specs.Formed.{wellFormed, answered}
@@ -32,14 +31,14 @@ left answer cells tags = record { answer = answer; cells = cells; tags = tags }
 abbrev pub refused : ℕ → State → List ℕ → List ℕ → Outcome
 refused code s cells tags = left (answered code empty s) cells tags
 
--- The word that is fetched from a place.
-abbrev pub fetched : List ℕ → List ℕ → ℕ → Bool → Slot
-fetched cells tags at keep = keepTag (wordAt cells tags at) keep
+-- The word that a load through a fetches from a place.
+abbrev pub fetched : Core → List ℕ → List ℕ → ℕ → Slot → Slot
+fetched c cells tags at a = loaded c a (wordAt cells tags at)
 
 unfoldable pub registersAfter : RegisterChange → State → List ℕ → List ℕ → List Slot
 registersAfter keepRegisters s cells tags = s .registers
 registersAfter (putRegister p r w) s cells tags = set (s .registers) (8 * p + r) w
-registersAfter (fetchInto p r at keep) s cells tags = set (s .registers) (8 * p + r) (fetched cells tags at keep)
+registersAfter (fetchInto p r at a) s cells tags = set (s .registers) (8 * p + r) (fetched (s .core) cells tags at a)
 registersAfter collectRegisters s cells tags = map (collectedRegister (s .core)) (s .registers)
 
 unfoldable pub mailboxesAfter : MailboxChange → State → List Slot
@@ -60,17 +59,17 @@ tagsAfter (clearFrame f) c cells tags = cleared f tags
 tagsAfter (sweepCells r from upto) c cells tags = sweptTags (c .pages .frames) r from upto cells tags
 
 -- The answer's number and tag.
-unfoldable pub wordAfter : RegisterChange → Slot → List ℕ → List ℕ → Slot
-wordAfter keepRegisters w cells tags = w
-wordAfter (putRegister p r x) w cells tags = w
-wordAfter (fetchInto p r at keep) w cells tags = fetched cells tags at keep
-wordAfter collectRegisters w cells tags = w
+unfoldable pub wordAfter : RegisterChange → Slot → Core → List ℕ → List ℕ → Slot
+wordAfter keepRegisters w c cells tags = w
+wordAfter (putRegister p r x) w c cells tags = w
+wordAfter (fetchInto p r at a) w c cells tags = fetched c cells tags at a
+wordAfter collectRegisters w c cells tags = w
 
 -- An effect, done to a state and its lent memory.
 unfoldable pub done : State → Effect → List ℕ → List ℕ → Outcome
 done s e cells tags =
     left
-    (answered 0 (wordAfter (e .registers) (e .answer) cells tags)
+    (answered 0 (wordAfter (e .registers) (e .answer) (s .core) cells tags)
     (record { core = e .core; registers = registersAfter (e .registers) s cells tags; mailboxes = mailboxesAfter (e .mailboxes) s }))
     (cellsAfter (e .memory) cells) (tagsAfter (e .memory) (s .core) cells tags)
 

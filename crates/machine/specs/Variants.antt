@@ -1,6 +1,6 @@
 -- The rule with one part replaced by another of the same type. The wrong machines have these shapes; with the rule's own part each is
 -- the rule (`Shapes`). Assumes nothing.
-use Prim.Native.Nat.{ℕ}
+use Prim.Native.Nat.{ℕ, _+_, _*_}
 use mathlib.Core.Bool.{false, _&&_}
 use mathlib.Core.List.{List, map}
 use mathlib.Core.Path.{_≡_}
@@ -19,7 +19,7 @@ use Rattle.calls.specs.declared.Call.{Call}
 use Rattle.calls.specs.Commands.{page, operandsOf}
 use Rattle.calls.specs.Commands.{byteOf as kindOf}
 use Rattle.words.specs.declared.Slot.{Slot}
-use Rattle.words.specs.Words.{slot, empty, byteOf, placeNumber}
+use Rattle.words.specs.Words.{slot, empty, byteOf, placeNumber, wordAt}
 use Rattle.machine.specs.State.{State}
 use Rattle.machine.specs.Formed.{answered}
 use Rattle.machine.specs.Reasons.{reads, addressed}
@@ -102,6 +102,19 @@ unmapBy unmap =
     (λ s c cells tags o.
     let p = unmap (s .core .pages) (page (operand c 1)) in
     left (answered (p .code) empty (withCore s (withPages (s .core) (p .pages)))) cells tags)
+
+-- The rule, but with another word put into the register by a load, or answered, of the type of `loaded`; or another tag byte left at the
+-- place that is read, where the rule leaves it.
+unfoldable pub loadBy : (Core → Slot → Slot → Slot) → (Core → Slot → Slot → Slot) → (Core → Slot → ℕ → ℕ) → Rule
+loadBy register answer byte =
+    instead 0x0B
+    (λ s c cells tags o.
+    let a = reads (s .registers) c .one in
+    let at = placeNumber (addressed (s .core) a (operand c 2)) in
+    let w = wordAt cells tags at in
+    let registers = set (s .registers) (8 * operand c 0 + operand c 3) (register (s .core) a w) in
+    left (answered 0 (answer (s .core) a w) (record { core = s .core; registers = registers; mailboxes = s .mailboxes })) cells
+    (set tags at (byte (s .core) w (getD tags at 0))))
 
 -- The rule, but with another word stored, of the type of `stored`; or other words left by a collect, in registers and in
 -- mailboxes, of the type of `collectedRegister` and `collectedMailbox`.

@@ -9,7 +9,8 @@ use lib.ListN.{set, replicate}
 use lib.Bits.{bitAnd}
 use lib.Dec.{leb, eqb}
 use Rattle.capabilities.specs.declared.Range.{Range}
-use Rattle.capabilities.specs.Capability.{permitted}
+use Rattle.capabilities.specs.Capability.{baseOf, permitted, permits}
+use Rattle.capabilities.specs.Range.{inside}
 use Rattle.capabilities.specs.Lists.{pick}
 use Rattle.pages.specs.declared.VirtualPage.{VirtualPage}
 use Rattle.pages.specs.declared.PageState.the-variants.{Unmapped}
@@ -21,24 +22,25 @@ use Rattle.sweep.specs.Sweep.{Passed, swept, passing, sweepOf}
 use Rattle.table.specs.Table.{Table, Tabled}
 use Rattle.table.specs.Table.{Taken as Took}
 use Rattle.table.specs.declared.Found.{Found}
-use Rattle.table.specs.Rows.{noTaker, severalTakers, reservation}
+use Rattle.table.specs.declared.Found.the-variants.{At}
+use Rattle.table.specs.Rows.{noTaker, severalTakers, reservation, rangeOf}
 use Rattle.table.specs.Find.{findOf, nextOf, revokingOf, rowOf, withRow}
 use Rattle.table.specs.Operations.{tabled, takeOf, splitOf, mergeOf}
 use Rattle.table.specs.Numbers.{numbersOf as rowNumbers}
 use Rattle.reservations.specs.Core.{Core, Cored}
-use Rattle.reservations.specs.Revocation.{core, revokeOf, collectOf}
+use Rattle.reservations.specs.Revocation.{core, running, dying, revokeOf, collectOf}
 use Rattle.calls.specs.declared.Call.{Call}
 use Rattle.calls.specs.declared.Call.the-variants.{Take, Split, Merge, Give, Revoke, Sweep, Collect, Map, Unmap, Zero, Load, Store, Number, Grant, TakeMasked}
 use Rattle.calls.specs.Commands.{page, frame}
 use Rattle.words.specs.declared.Slot.{Slot}
-use Rattle.words.specs.Words.{slot, empty, byteOf, tagOf, stored, collectedRegister, collectedMailbox}
+use Rattle.words.specs.Words.{slot, empty, byteOf, tagOf, keepTag, loaded, stored, collectedRegister, collectedMailbox}
 use Rattle.words.specs.Lent.{cellsOf, bytesOf}
 use Rattle.machine.specs.Formed.{answered, startOf}
 use Rattle.machine.specs.Roles.{plainPermissions}
 use Rattle.machine.specs.Step.{Outcome, left, refused, stepOf}
 use Rattle.machine.specs.Forgetting.{startBare}
 use Rattle.machine.specs.Edges.{same}
-use Rattle.machine.specs.Variants.{Rule, Obeys, sweepBy, takeBy, maskBy, plainBy, splitBy, mergeBy, revokeBy, endBy, unmapBy, storeBy, collectBy}
+use Rattle.machine.specs.Variants.{Rule, Obeys, sweepBy, takeBy, maskBy, plainBy, splitBy, mergeBy, revokeBy, endBy, unmapBy, storeBy, loadBy, collectBy}
 
 -- "A sweep that clears all on its first call and feigns the rest": it answers as the rule does.
 unfoldable pub clearsAll : Pages → Range → ℕ → ℕ → List ℕ → List ℕ → Passed
@@ -122,6 +124,27 @@ revokesForNobody c party base = leavesIn c (findOf (c .table) party base) (revok
 
 unfoldable pub collectsNoTaker : Core → Cored
 collectsNoTaker c = leavesIn c (revokingOf (c .table)) (collectOf c)
+
+-- Document 02, 2026-05. A load without the filter, as document 01 had it.
+abbrev pub loadsDying : Core → Slot → Slot → Slot
+loadsDying c a w = keepTag w (permits (a .cell) 4)
+
+-- One that filters when no revocation runs: by the first reservation, where none is Revoking.
+unfoldable pub filtersAtRest : Core → Slot → Slot → Slot
+filtersAtRest c a w =
+    let range = rangeOf (rowOf (c .table) (pick (running c) (revokingOf (c .table)) (At 0))) in
+    keepTag w (permits (a .cell) 4 && not (inside range (baseOf (w .cell))))
+
+-- One that drops the number of a dying capability with its tag.
+unfoldable pub dropsNumber : Core → Slot → Slot → Slot
+dropsNumber c a w = pick (w .tag && dying c (w .cell)) empty (loaded c a w)
+
+-- The tag byte at the place that a load reads, kept; and by one that clears the tag in memory too.
+abbrev pub keptByte : Core → Slot → ℕ → ℕ
+keptByte c w byte = byte
+
+unfoldable pub clearsByte : Core → Slot → ℕ → ℕ
+clearsByte c w byte = pick (dying c (w .cell)) 0 byte
 
 -- "A machine that turns down every call": those that the rule refuses as the rule does, the others under 19.
 unfoldable pub turnsDown : Rule
@@ -240,7 +263,14 @@ machines =
     ∷ entry mergeBy saysSeveral mergeOf (from 2 (neighbours 0)) (Merge 0 0)
     ∷ entry mergeBy joinsOwn mergeOf (from 2 (neighbours 3)) (Merge 0 0)
     ∷ entry revokeBy revokesForNobody revokeOf (from 2 []) (Revoke 0 0)
-    ∷ entry endBy collectsNoTaker collectOf (from 2 (revoking 16)) (Collect 0) ∷ []
+    ∷ entry endBy collectsNoTaker collectOf (from 2 (revoking 16)) (Collect 0)
+    -- The new board filters loads. Offset 5 of register 1 holds the capability to cells 0 to 15, which are revoked.
+    ∷ entry (λ f. loadBy f f keptByte) loadsDying loaded (from 2 (revoking 0)) (Load 0 1 5 3)
+    ∷ entry (λ f. loadBy f loaded keptByte) loadsDying loaded (from 2 (revoking 0)) (Load 0 1 5 3)
+    ∷ entry (λ f. loadBy loaded f keptByte) loadsDying loaded (from 2 (revoking 0)) (Load 0 1 5 3)
+    ∷ entry (λ f. loadBy loaded loaded f) clearsByte keptByte (from 2 (revoking 0)) (Load 0 1 5 3)
+    ∷ entry (λ f. loadBy f f keptByte) filtersAtRest loaded (from 2 lent) (Load 0 1 5 3)
+    ∷ entry (λ f. loadBy f f keptByte) dropsNumber loaded (from 2 (revoking 0)) (Load 0 1 5 3) ∷ []
 
 -- All numbers of an outcome, so that outcomes with different numbers differ.
 unfoldable pub numbers : Outcome → List ℕ

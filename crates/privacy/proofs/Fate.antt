@@ -60,7 +60,7 @@ next-down m c k q = ap (λ o. machine (o .answer .state) (o .cells) (o .tags)) q
 
 -- What is told of a granted call.
 pub told-done : (m : Machine) (c : Call) (e : Effect) → outcome m c ≡ done (m .state) e (m .cells) (m .tags)
-    → told (outcome m c .answer) ≡ record { code = 0; number = wordAfter (e .registers) (e .answer) (m .cells) (m .tags) .cell; tag = wordAfter (e .registers) (e .answer) (m .cells) (m .tags) .tag }
+    → told (outcome m c .answer) ≡ record { code = 0; number = wordAfter (e .registers) (e .answer) (m .state .core) (m .cells) (m .tags) .cell; tag = wordAfter (e .registers) (e .answer) (m .state .core) (m .cells) (m .tags) .tag }
 unfolding done
 told-done m c e q = ap (λ o. told (o .answer)) q
 

@@ -128,7 +128,7 @@ pub record Housed (house : ℕ) (r : Range) (m : Machine) : Type 0 where
 abbrev pub RegisterSafe : ℕ → Range → Machine → RegisterChange → Type 0
 RegisterSafe house r m keepRegisters = Unit {0}
 RegisterSafe house r m (putRegister p d w) = (d < 8) × Good r (eqb p house) w
-RegisterSafe house r m (fetchInto p d at keep) = (d < 8) × Good r (eqb p house) (wordAt (m .cells) (m .tags) at)
+RegisterSafe house r m (fetchInto p d at a) = (d < 8) × Good r (eqb p house) (wordAt (m .cells) (m .tags) at)
 RegisterSafe house r m collectRegisters = Unit {0}
 
 abbrev pub MailboxSafe : Range → MailboxChange → Type 0
@@ -147,8 +147,8 @@ registers-good : (house : ℕ) (r : Range) (m : Machine) (x : RegisterChange) �
 unfolding registersAfter
 registers-good house r m keepRegisters h s = h .registers
 registers-good house r m (putRegister p d w) h s = put-register (λ q y. Good r (eqb q house) y) (m .state .registers) p d w (s .0) (s .1) (h .registers)
-registers-good house r m (fetchInto p d at keep) h s =
-    put-register (λ q y. Good r (eqb q house) y) (m .state .registers) p d (fetched (m .cells) (m .tags) at keep) (s .0) (keep-good r (eqb p house) (wordAt (m .cells) (m .tags) at) keep (s .1)) (h .registers)
+registers-good house r m (fetchInto p d at a) h s =
+    put-register (λ q y. Good r (eqb q house) y) (m .state .registers) p d (fetched (m .state .core) (m .cells) (m .tags) at a) (s .0) (keep-good r (eqb p house) (wordAt (m .cells) (m .tags) at) _ (s .1)) (h .registers)
 registers-good house r m collectRegisters h s =
     λ p d. subst (Good r (eqb p house)) (sym (collect-register (m .state .core) (m .state .registers) p d))
     (keep-good r (eqb p house) (registerOf (m .state .registers) p d) (not (dying (m .state .core) (registerOf (m .state .registers) p d .cell))) (h .registers p d))

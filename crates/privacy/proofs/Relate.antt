@@ -13,7 +13,7 @@ use Rattle.pages.specs.Layer.{frameAt}
 use Rattle.pages.specs.Mapping.{lookupOf}
 use Rattle.pages.proofs.Formed.{Sound}
 use Rattle.words.specs.declared.Slot.{Slot}
-use Rattle.words.specs.Words.{registerOf, mailboxOf, wordAt, keepTag, collectedRegister, collectedMailbox}
+use Rattle.words.specs.Words.{registerOf, mailboxOf, wordAt, loaded, collectedRegister, collectedMailbox}
 use Rattle.machine.specs.Effects.{RegisterChange, keepRegisters, putRegister, fetchInto, collectRegisters, MailboxChange, keepMailboxes, putMailbox, collectMailboxes, MemoryChange, keepMemory, Effect}
 use Rattle.machine.specs.Step.{registersAfter, mailboxesAfter, cellsAfter, tagsAfter, wordAfter, fetched}
 use Rattle.histories.specs.Runs.{Machine}
@@ -73,8 +73,12 @@ alike house t g h r =
 abbrev pub FetchSame : RegisterChange → Machine → Machine → Type 0
 FetchSame keepRegisters g h = Unit {0}
 FetchSame (putRegister p d w) g h = Unit {0}
-FetchSame (fetchInto p d at keep) g h = wordAt (g .cells) (g .tags) at ≡ wordAt (h .cells) (h .tags) at
+FetchSame (fetchInto p d at a) g h = wordAt (g .cells) (g .tags) at ≡ wordAt (h .cells) (h .tags) at
 FetchSame collectRegisters g h = Unit {0}
+
+fetched-same : (g h : Machine) (at : ℕ) (a : Slot) → g .state .core ≡ h .state .core → wordAt (g .cells) (g .tags) at ≡ wordAt (h .cells) (h .tags) at
+    → fetched (g .state .core) (g .cells) (g .tags) at a ≡ fetched (h .state .core) (h .cells) (h .tags) at a
+fetched-same g h at a k f = ap (λ c. loaded c a (wordAt (g .cells) (g .tags) at)) k ∙ ap (loaded (h .state .core) a) f
 
 registers-same : (x : RegisterChange) (g h : Machine) (p r : ℕ) → g .state .core ≡ h .state .core → length (g .state .registers) ≡ length (h .state .registers)
     → registerOf (g .state .registers) p r ≡ registerOf (h .state .registers) p r → FetchSame x g h
@@ -82,9 +86,9 @@ registers-same : (x : RegisterChange) (g h : Machine) (p r : ℕ) → g .state .
 unfolding registersAfter
 registers-same keepRegisters g h p r k l e f = e
 registers-same (putRegister q d w) g h p r k l e f = put-same (g .state .registers) (h .state .registers) (8 * q + d) w p r l e
-registers-same (fetchInto q d at keep) g h p r k l e f =
-    put-same (g .state .registers) (h .state .registers) (8 * q + d) (fetched (g .cells) (g .tags) at keep) p r l e
-    ∙ ap (λ w. registerOf (set (h .state .registers) (8 * q + d) (keepTag w keep)) p r) f
+registers-same (fetchInto q d at a) g h p r k l e f =
+    put-same (g .state .registers) (h .state .registers) (8 * q + d) (fetched (g .state .core) (g .cells) (g .tags) at a) p r l e
+    ∙ ap (λ w. registerOf (set (h .state .registers) (8 * q + d) w) p r) (fetched-same g h at a k f)
 registers-same collectRegisters g h p r k l e f =
     collect-register (g .state .core) (g .state .registers) p r ∙ ap (collectedRegister (g .state .core)) e
     ∙ ap (λ c. collectedRegister c (registerOf (h .state .registers) p r)) k ∙ sym (collect-register (h .state .core) (h .state .registers) p r)
@@ -93,7 +97,7 @@ registers-long : (x : RegisterChange) (m : Machine) → length (registersAfter x
 unfolding registersAfter
 registers-long keepRegisters m = refl
 registers-long (putRegister q d w) m = length-set (m .state .registers) (8 * q + d) w
-registers-long (fetchInto q d at keep) m = length-set (m .state .registers) (8 * q + d) (fetched (m .cells) (m .tags) at keep)
+registers-long (fetchInto q d at a) m = length-set (m .state .registers) (8 * q + d) (fetched (m .state .core) (m .cells) (m .tags) at a)
 registers-long collectRegisters m = simp length-map
 
 mailboxes-same : (x : MailboxChange) (g h : Machine) → g .state .core ≡ h .state .core → g .state .mailboxes ≡ h .state .mailboxes → mailboxesAfter x (g .state) ≡ mailboxesAfter x (h .state)
@@ -103,12 +107,13 @@ mailboxes-same (putMailbox p w) g h k e = ap (λ l. set l p w) e
 mailboxes-same collectMailboxes g h k e = ap (λ l. map (collectedMailbox (g .state .core)) l) e ∙ ap (λ c. map (collectedMailbox c) (h .state .mailboxes)) k
 
 -- The answer's word.
-pub answer-same : (x : RegisterChange) (w : Slot) (g h : Machine) → FetchSame x g h → wordAfter x w (g .cells) (g .tags) ≡ wordAfter x w (h .cells) (h .tags)
+pub answer-same : (x : RegisterChange) (w : Slot) (g h : Machine) → g .state .core ≡ h .state .core → FetchSame x g h
+    → wordAfter x w (g .state .core) (g .cells) (g .tags) ≡ wordAfter x w (h .state .core) (h .cells) (h .tags)
 unfolding wordAfter
-answer-same keepRegisters w g h f = refl
-answer-same (putRegister q d x) w g h f = refl
-answer-same (fetchInto q d at keep) w g h f = ap (λ y. keepTag y keep) f
-answer-same collectRegisters w g h f = refl
+answer-same keepRegisters w g h k f = refl
+answer-same (putRegister q d x) w g h k f = refl
+answer-same (fetchInto q d at a) w g h k f = fetched-same g h at a k f
+answer-same collectRegisters w g h k f = refl
 
 -- The place of a Mapped cell lies in memory.
 pub place-low : (s : Pages) → Sound s → (v at : ℕ) → lookupOf s v ≡ At at → at < 16 * s .f

@@ -7,7 +7,6 @@ use borrow.Author.Tests.{eqb-true, eqb-false, eq-eqb, ne-eqb}
 use lib.Dec.{eqb}
 use lib.ListN.{length, set, length-set}
 use Rattle.capabilities.specs.declared.Range.{Range}
-use Rattle.capabilities.specs.Capability.{permits}
 use Rattle.capabilities.specs.Lists.{pick}
 use Rattle.capabilities.specs.Range.{inside}
 use Rattle.capabilities.proofs.Choice.{and-left, and-right}
@@ -155,7 +154,7 @@ module _ (house : ℕ) (r : Range) (g h : Machine) (own : Housed house r g) (rel
   alone-up (zeroed p frame z) e f = absurd (false≢true f)
   alone-up (filled p d from w low k) e f = own-register house (lasting r) g h p d w rel (eqb-true p house e) low
   alone-up (loaded p a off d low k) e f =
-      own-register house (lasting r) g h p d (fetched (g .cells) (g .tags) (aimedAt s p a off) (permits (registerOf (s .registers) p a .cell) 4)) rel (eqb-true p house e) low
+      own-register house (lasting r) g h p d (fetched (s .core) (g .cells) (g .tags) (aimedAt s p a off) (registerOf (s .registers) p a)) rel (eqb-true p house e) low
   alone-up (wrote p a off x low-p low-a k) e f =
       own-write house (lasting r) g h (aimedAt s p a off) (stored (s .core) (registerOf (s .registers) p x)) rel (store-alone p a off x (eqb-true p house e) f k)
   alone-up (mailed p x to t) e f = absurd (false≢true f)

@@ -205,7 +205,7 @@ both-left house t g h c ok₁ ok₂ rel s e = go (fate g c) (fate h c)
               (λ v at. hides t g c v at (granted-core g c q) (q .clear))));
           answer =
               λ n. told-done g c (effectOn (g .state) c) (q .comes)
-              ∙ ap (λ i. record { code = 0; number = i .cell; tag = i .tag }) (answer-same (effectOn (g .state) c .registers) (effectOn (g .state) c .answer) g h seen)
-              ∙ ap (λ i. record { code = 0; number = wordAfter (i .registers) (i .answer) (h .cells) (h .tags) .cell; tag = wordAfter (i .registers) (i .answer) (h .cells) (h .tags) .tag }) z
+              ∙ ap (λ i. record { code = 0; number = i .cell; tag = i .tag }) (answer-same (effectOn (g .state) c .registers) (effectOn (g .state) c .answer) g h (rel .core) seen)
+              ∙ ap (λ i. record { code = 0; number = wordAfter (i .registers) (i .answer) (h .state .core) (h .cells) (h .tags) .cell; tag = wordAfter (i .registers) (i .answer) (h .state .core) (h .cells) (h .tags) .tag }) z
               ∙ sym (told-done h c (effectOn (h .state) c) (w .comes));
         }

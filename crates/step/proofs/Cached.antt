@@ -10,11 +10,13 @@ use Rattle.capabilities.specs.Capability.{baseOf}
 use Rattle.capabilities.specs.Range.{inside}
 use Rattle.reservations.specs.Revocation.{running, revoked, dying}
 use Rattle.arrays.specs.declared.Arrays.{Arrays}
+use Rattle.arrays.specs.declared.Numbers.{Numbers}
 use Rattle.arrays.specs.Reading.{numbersOf, stateOf, arraysOf, Formed}
+use Rattle.step.specs.Parts.{rangeIn, diesIn}
 use Rattle.step.proofs.Revoking.{running-cached}
 
 abbrev pub cachedRange : Arrays → Range
-cachedRange a = record { base = a .nums .base; length = a .nums .length }
+cachedRange a = rangeIn (a .nums)
 
 -- An empty range holds no cell.
 none-inside : (r : Range) (x : ℕ) → r .length ≡ 0 → inside r x ≡ false
@@ -39,3 +41,7 @@ module _ (b : Arrays) (f : Formed b) where
       go : (z : Bool) → eqb (b .nums .length) 0 ≡ z → (not z && inside (cachedRange b) (baseOf cell)) ≡ inside (cachedRange b) (baseOf cell)
       go true e = sym (none-inside (cachedRange b) (baseOf cell) (eqb-true (b .nums .length) 0 e))
       go false e = refl
+
+  -- So for small numbers that are the arrays' own.
+  pub dies-cached : (n : Numbers) → b .nums ≡ n → (cell : ℕ) → diesIn n cell ≡ dying (stateOf b .core) cell
+  dies-cached n e cell = ap (λ (o : Numbers). diesIn o cell) (sym e) ∙ sym (dying-cached cell)

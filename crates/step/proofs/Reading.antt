@@ -13,6 +13,7 @@ use Rattle.words.specs.Lent.{registerIn}
 use Rattle.words.proofs.Lent.{slots-get}
 use Rattle.machine.specs.Reasons.{addressed}
 use Rattle.arrays.specs.declared.Arrays.{Arrays}
+use Rattle.arrays.specs.declared.Numbers.{Numbers}
 use Rattle.arrays.specs.Reading.{coreOf, stateOf, Formed}
 use Rattle.arrays.proofs.Facts.{lengths}
 use Rattle.step.specs.Parts.{lookupIn}
@@ -32,6 +33,10 @@ module _ (a : Arrays) where
   unfolding stateOf coreOf
   lookup-read cell = layer.lookup-read (a .nums .v) (a .nums .f) (a .pages) (a .frames) cell ∙ sym (layer.lookup-read (a .nums .v) 0 (a .pages) [] cell)
 
-  pub addressed-read : (w : Slot) (off : ℕ) → addressed (stateOf a .core) w off ≡ lookupIn (a .nums .v) (a .pages) (baseOf (w .cell) + off)
+  -- The place that a call looks up, of small numbers and pages that are the arrays' own.
+  pub addressed-by : (n : Numbers) (pages : List ℕ) → a .nums ≡ n → a .pages ≡ pages → (w : Slot) (off : ℕ)
+      → lookupIn (n .v) pages (baseOf (w .cell) + off) ≡ addressed (stateOf a .core) w off
   unfolding addressed
-  addressed-read w off = lookup-read (baseOf (w .cell) + off)
+  addressed-by n pages en ep w off =
+      let cell = baseOf (w .cell) + off in
+      ap (λ (o : Numbers). lookupIn (o .v) pages cell) (sym en) ∙ ap (λ (l : List ℕ). lookupIn (a .nums .v) l cell) (sym ep) ∙ sym (lookup-read cell)

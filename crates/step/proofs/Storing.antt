@@ -1,15 +1,12 @@
 -- 0C in place. Assumes nothing.
-use Prim.Native.Nat.{ℕ, _+_, _*_}
+use Prim.Native.Nat.{ℕ, _+_}
 use mathlib.Core.Bool.{Bool, not}
 use mathlib.Core.List.{List}
-use mathlib.Core.Path.{_≡_, refl, sym, ap, _∙_}
+use mathlib.Core.Path.{_≡_, sym, ap, _∙_}
 use lib.ListN.{set}
 use Rattle.capabilities.specs.Capability.{baseOf}
-use Rattle.capabilities.specs.declared.Range.{Range}
-use Rattle.capabilities.specs.Range.{inside}
 use Rattle.capabilities.specs.Refusals.{first}
 use Rattle.pages.specs.declared.Place.{Place}
-use Rattle.reservations.specs.Revocation.{dying}
 use Rattle.calls.specs.declared.Call.{Call}
 use Rattle.calls.specs.declared.Call.the-variants.{Store}
 use Rattle.words.specs.declared.Slot.{Slot}
@@ -24,9 +21,9 @@ use Rattle.arrays.specs.declared.Numbers.{Numbers}
 use Rattle.arrays.specs.Reading.{stateOf, Formed}
 use Rattle.arrays.specs.Steps.{answer, leaving, leftOf}
 use Rattle.arrays.proofs.Ruling.{down, written}
-use Rattle.step.specs.Parts.{lookupIn}
-use Rattle.step.proofs.Reading.{register-read, addressed-read}
-use Rattle.step.proofs.Cached.{cachedRange, dying-cached}
+use Rattle.step.specs.Parts.{lookupIn, diesIn}
+use Rattle.step.proofs.Reading.{register-read, addressed-by}
+use Rattle.step.proofs.Cached.{dies-cached}
 
 module _ (b : Arrays) (f : Formed b) (n : Numbers) (pages words marks : List ℕ)
     (en : b .nums ≡ n) (ep : b .pages ≡ pages) (ew : b .words ≡ words) (em : b .marks ≡ marks)
@@ -39,9 +36,7 @@ module _ (b : Arrays) (f : Formed b) (n : Numbers) (pages words marks : List ℕ
   register-is r = ap (λ (l : List ℕ). registerIn l marks p r) (sym ew) ∙ ap (λ (l : List ℕ). registerIn (b .words) l p r) (sym em) ∙ sym (register-read b f p r)
 
   place-is : place ≡ addressed (stateOf b .core) (registerOf (stateOf b .registers) p a) off
-  place-is =
-      e3 ∙ ap (λ (o : Numbers). lookupIn (o .v) pages (baseOf (to .cell) + off)) (sym en) ∙ ap (λ (l : List ℕ). lookupIn (b .nums .v) l (baseOf (to .cell) + off)) (sym ep)
-      ∙ sym (addressed-read b to off) ∙ ap (λ w. addressed (stateOf b .core) w off) (e1 ∙ register-is a)
+  place-is = e3 ∙ addressed-by b n pages en ep to off ∙ ap (λ w. addressed (stateOf b .core) w off) (e1 ∙ register-is a)
 
   code-is : first (storeReasons p a s to from off place) ≡ first (reasonsOn (stateOf b) call)
   unfolding reasons
@@ -50,17 +45,11 @@ module _ (b : Arrays) (f : Formed b) (n : Numbers) (pages words marks : List ℕ
       ∙ ap (λ w. first (storeReasons p a s (registerOf (stateOf b .registers) p a) w off place)) (e2 ∙ register-is s)
       ∙ ap (λ q. first (storeReasons p a s (registerOf (stateOf b .registers) p a) (registerOf (stateOf b .registers) p s) off q)) place-is
 
-  abbrev range : Numbers → Range
-  range o = record { base = o .base; length = o .length }
-
-  dies-is : (cell : ℕ) → inside (range n) (baseOf cell) ≡ dying (stateOf b .core) cell
-  dies-is cell = ap (λ (o : Numbers). inside (range o) (baseOf cell)) (sym en) ∙ sym (dying-cached b f cell)
-
   abbrev word : Slot
-  word = keepTag from (not (inside (range n) (baseOf (from .cell))))
+  word = keepTag from (not (diesIn n (from .cell)))
 
   word-is : word ≡ stored (stateOf b .core) (registerOf (stateOf b .registers) p s)
-  word-is = ap (λ (q : Bool). keepTag from (not q)) (dies-is (from .cell)) ∙ ap (stored (stateOf b .core)) (e2 ∙ register-is s)
+  word-is = ap (λ (q : Bool). keepTag from (not q)) (dies-cached b f n en (from .cell)) ∙ ap (stored (stateOf b .core)) (e2 ∙ register-is s)
 
   effect-is : effectOn (stateOf b) call ≡ effectOf (stateOf b .core) keepRegisters keepMailboxes (writeWord (placeNumber place) word) empty
   unfolding effect

@@ -5,7 +5,7 @@ use Rattle.capabilities.specs.Lists.{pick}
 use Rattle.calls.specs.declared.Call.{Call}
 use Rattle.words.specs.Words.{empty}
 use Rattle.machine.specs.Formed.{startOf}
-use Rattle.machine.specs.Step.{Outcome, left, ruled, judged}
+use Rattle.machine.specs.Step.{left, ruled, judged}
 use Rattle.machine.specs.Command.{Ran, commandJudged}
 use Rattle.arrays.specs.declared.Arrays.{Arrays}
 use Rattle.arrays.specs.declared.Answer.{Answer}

@@ -1,38 +1,38 @@
 -- What stands in the arrays, entry by entry, and what a call on some of them promises. Assumes nothing.
-use Prim.Native.Nat.{ℕ, _+_, _*_, _/_, _%_}
-use mathlib.Core.Bool.{Bool, _&&_}
+use Prim.Native.Nat.{ℕ, _+_, _*_, _/_}
+use mathlib.Core.Bool.{Bool}
 use mathlib.Core.List.{List, []}
 use mathlib.Core.Path.{_≡_}
-use lib.ListN.{length, getD, set}
-use lib.Dec.{leb, ltb}
+use lib.ListN.{length}
 use Rattle.capabilities.specs.declared.Range.{Range}
-use Rattle.capabilities.specs.Lists.{pick, mapEach}
+use Rattle.capabilities.specs.Capability.{baseOf}
+use Rattle.capabilities.specs.Range.{inside}
 use Rattle.pages.specs.declared.Place.{Place}
-use Rattle.pages.specs.declared.Place.the-variants.{At, Nowhere}
 use Rattle.pages.specs.Mapping.{lookupOf}
-use Rattle.table.specs.declared.Reservation.{Reservation}
-use Rattle.table.specs.declared.Found.{Found}
-use Rattle.table.specs.declared.Found.the-variants.{At as Row, Nowhere as None}
-use Rattle.table.specs.Rows.{blank}
 use Rattle.table.specs.Find.{revokingOf, rowOf}
 use Rattle.reservations.specs.Revocation.{collectedRow}
 use Rattle.calls.specs.declared.Call.{Call}
-use Rattle.words.specs.declared.Slot.{Slot}
-use Rattle.words.specs.Words.{empty, named, wordAt}
-use Rattle.machine.specs.Step.{Outcome, left, ruled}
+use Rattle.machine.specs.Step.{ruled}
 use Rattle.arrays.specs.declared.Arrays.{Arrays}
 use Rattle.arrays.specs.declared.Answer.{Answer}
 use Rattle.arrays.specs.declared.Numbers.{Numbers}
 use Rattle.step.specs.declared.Stepped.{Stepped}
 use Rattle.pages.specs.Numbers.{layerOf, filled}
-use Rattle.table.specs.Numbers.{rowFrom, rowCode, tableOf}
+use Rattle.table.specs.Numbers.{rowCode, tableOf}
 use Rattle.table.specs.Lent.{putAt}
-use Rattle.arrays.specs.Reading.{arrays, Formed, stateOf, arraysOf}
+use Rattle.arrays.specs.Reading.{arrays, Formed, stateOf}
 use Rattle.arrays.specs.Steps.{Does, leaving, leftOf, withWords, withRows, withPages, withMails, withTable}
 
 -- The place of a virtual cell in lent memory; F and the frames do not matter.
 abbrev pub lookupIn : ℕ → List ℕ → ℕ → Place
 lookupIn v pages cell = lookupOf (layerOf v 0 pages []) cell
+
+-- The revoked range as the small numbers have it, empty where no revocation runs; and whether a capability's base lies in it.
+abbrev pub rangeIn : Numbers → Range
+rangeIn n = record { base = n .base; length = n .length }
+
+abbrev pub diesIn : Numbers → ℕ → Bool
+diesIn n cell = inside (rangeIn n) (baseOf cell)
 
 -- A call on the registers, whatever the rest of the arrays is.
 abbrev pub OnWords : Answer → List ℕ → List ℕ → List ℕ → List ℕ → Call → Type 0
@@ -62,13 +62,13 @@ OnRowsAndWords n r rows words marks rows′ words′ marks′ c =
 abbrev pub OnTable : Numbers → Stepped → List ℕ → List ℕ → Call → Type 0
 OnTable n r rows rows′ c = (m : Arrays) → Does (r .answer) (withTable m n rows) (withTable m (r .nums) rows′) c
 
--- One that reads pages and lent memory and changes the registers.
-abbrev pub OnMemory : ℕ → List ℕ → Answer → List ℕ → List ℕ → List ℕ → List ℕ → List ℕ → List ℕ → Call → Type 0
-OnMemory v pages r words marks words′ marks′ cells tags c =
-    (m : Arrays) → m .nums .v ≡ v → m .pages ≡ pages → Formed (withWords m words marks)
+-- One that reads the small numbers, pages and lent memory, and changes the registers.
+abbrev pub OnMemory : Numbers → List ℕ → Answer → List ℕ → List ℕ → List ℕ → List ℕ → List ℕ → List ℕ → Call → Type 0
+OnMemory n pages r words marks words′ marks′ cells tags c =
+    (m : Arrays) → m .nums ≡ n → m .pages ≡ pages → Formed (withWords m words marks)
     → leaving r (withWords m words′ marks′) cells tags ≡ leftOf (ruled (stateOf (withWords m words marks)) c cells tags)
 
--- One that reads them and the small numbers, and changes lent memory.
+-- One that reads them and the registers, and changes lent memory.
 abbrev pub OnStore : Numbers → List ℕ → List ℕ → List ℕ → Answer → List ℕ → List ℕ → List ℕ → List ℕ → Call → Type 0
 OnStore n pages words marks r cells tags cells′ tags′ c =
     (m : Arrays) → m .nums ≡ n → m .pages ≡ pages → m .words ≡ words → m .marks ≡ marks → Formed m

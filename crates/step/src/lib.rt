@@ -111,7 +111,7 @@ fn step(
         Call::Unmap { party, page } => on(nums, unmap(nums, pages, frames, party, page)),
         Call::Zero { party, frame } => on(nums, zero(nums.f, frames, party, frame, cells, tags)),
         Call::Load { party, a, off, d } => {
-            let answer = load(words, marks, nums.v, pages, party, a, off, d, cells, tags);
+            let answer = load(words, marks, nums, pages, party, a, off, d, cells, tags);
             on(nums, answer)
         }
         Call::Store { party, a, off, s } => {

@@ -24,7 +24,7 @@ ghost use mathlib.Core.Path.{_≡_};
 ghost use Rattle.words.specs.Words.{empty};
 ghost use Rattle.calls.specs.declared.Call.the-variants.{Load, Store, Narrow, Number, Grant, Receive};
 ghost use Rattle.arrays.specs.Steps.{answer};
-ghost use Rattle.step.specs.Parts.{OnWords, OnMemory, OnStore, OnMail};
+ghost use Rattle.step.specs.Parts.{OnWords, OnMemory, OnStore, OnMail, diesIn};
 
 pub(crate) fn refused(code: u8) -> Answer
     ensures { λ r. ⌜ r ≡ answer code empty ⌝ }
@@ -63,11 +63,23 @@ pub(crate) fn number(words: &mut [u64], marks: &mut [u8], party: u8, d: u8, valu
     granted(empty())
 }
 
+// Whether a capability dies: its base lies in the range of the small numbers, the revoked one, which is empty where no
+// revocation runs.
+fn dies(nums: Numbers, cell: u64) -> bool
+    ensures { λ r. ⌜ r ≡ diesIn nums cell ⌝ }
+{
+    let range = Range {
+        base: nums.base,
+        length: nums.length,
+    };
+    inside(range, base_of(cell) as u32)
+}
+
 // 0B.
 pub(crate) fn load(
     words: &mut [u64],
     marks: &mut [u8],
-    v: u16,
+    nums: Numbers,
     pages: &[u16],
     party: u8,
     a: u8,
@@ -76,21 +88,22 @@ pub(crate) fn load(
     cells: &[u64],
     tags: &[u8],
 ) -> Answer
-    ensures { λ r. ⌜ OnMemory v (now (pages .entry)) r (now (words .entry)) (now (marks .entry)) (now (words .exit)) (now (marks .exit)) (now (cells .entry)) (now (tags .entry)) (Load party a off d) ⌝ }
+    ensures { λ r. ⌜ OnMemory nums (now (pages .entry)) r (now (words .entry)) (now (marks .entry)) (now (words .exit)) (now (marks .exit)) (now (cells .entry)) (now (tags .entry)) (Load party a off d) ⌝ }
 {
     let from = register_in(words, marks, party, a);
-    let place = lookup(v, pages, base_of(from.cell) as u32 + off as u32);
+    let place = lookup(nums.v, pages, base_of(from.cell) as u32 + off as u32);
     let code = load_code(party, a, d, from, off, place);
     if code != 0 {
         return refused(code);
     }
-    let word = loaded(from, word_at(cells, tags, place_number(place)));
+    let fetched = word_at(cells, tags, place_number(place));
+    let word = loaded(from, fetched, dies(nums, fetched.cell));
     let at = 8 * (party as usize) + d as usize;
     put_word(words, marks, at, word);
     granted(word)
 }
 
-// 0C. The range of the small numbers is the revoked one, empty where no revocation runs.
+// 0C.
 pub(crate) fn store(
     words: &[u64],
     marks: &[u8],
@@ -112,12 +125,12 @@ pub(crate) fn store(
     if code != 0 {
         return refused(code);
     }
-    let range = Range {
-        base: nums.base,
-        length: nums.length,
-    };
-    let dies = inside(range, base_of(from.cell) as u32);
-    put_word(cells, tags, place_number(place), stored(from, dies));
+    put_word(
+        cells,
+        tags,
+        place_number(place),
+        stored(from, dies(nums, from.cell)),
+    );
     granted(empty())
 }
 

@@ -5,6 +5,7 @@ use mathlib.Core.Bool.{Bool, true, false, not, _&&_}
 use mathlib.Core.List.{List}
 use lib.ListN.{getD}
 use lib.Dec.{ltb, eqb}
+use Rattle.capabilities.specs.Capability.{permits}
 use Rattle.capabilities.specs.Lists.{pick}
 use Rattle.pages.specs.declared.Place.{Place}
 use Rattle.pages.specs.declared.Place.the-variants.{At, Nowhere}
@@ -54,6 +55,11 @@ nowhere Nowhere = true
 abbrev pub placeNumber : Place → ℕ
 placeNumber (At at) = at
 placeNumber Nowhere = 0
+
+-- 0B, of the word at the cell that a addresses: "its tag is dropped without permission 4"; and by document 02, 2026-05, "while a revocation
+-- runs, a load of a capability with base in the range puts it in the register, and answers, with tag 0".
+abbrev pub loaded : Core → Slot → Slot → Slot
+loaded c a w = keepTag w (permits (a .cell) 4 && not (dying c (w .cell)))
 
 -- 0C: "While a revocation runs, a capability with base in the range is stored with tag 0."
 abbrev pub stored : Core → Slot → Slot

@@ -1,6 +1,6 @@
 // Words: a cell and its tag, in registers, mailboxes and lent memory; what refuses a call on them, and what becomes of them.
 use capabilities::capability::may_load_capability;
-ghost use mathlib.Core.Bool.{not};
+ghost use mathlib.Core.Bool.{not, _&&_};
 ghost use mathlib.Core.Path.{_≡_};
 ghost use Rattle.capabilities.specs.Capability.{permits};
 ghost use Rattle.words.specs.Words.{empty, keepTag};
@@ -34,11 +34,11 @@ pub fn keep_tag(word: Slot, keep: bool) -> Slot
     }
 }
 
-// 0B: what a load through `from` makes of a word of lent memory.
-pub fn loaded(from: Slot, word: Slot) -> Slot
-    ensures { λ r. ⌜ r ≡ keepTag word (permits (from .cell) 4) ⌝ }
+// 0B: what a load through `from` makes of a word of lent memory, by whether it dies with the revocation that runs.
+pub fn loaded(from: Slot, word: Slot, dies: bool) -> Slot
+    ensures { λ r. ⌜ r ≡ keepTag word (permits (from .cell) 4 && not dies) ⌝ }
 {
-    keep_tag(word, may_load_capability(from.cell))
+    keep_tag(word, may_load_capability(from.cell) & !dies)
 }
 
 // 0C: what a store writes of a word, by whether it dies with the revocation that runs.

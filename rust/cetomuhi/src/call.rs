@@ -52,9 +52,11 @@ pub enum Call {
     Unmap { party: u8, page: VirtualPage },
     /// 0A: the frame is all 0 and Free.
     Zero { party: u8, frame: Frame },
-    /// 0B: register `d` gets the cell at `off` of the capability in `a`. Answers it.
+    /// 0B: register `d` gets the cell at `off` of the capability in `a`. Answers it. Its tag is
+    /// dropped without permission 4, and while a revocation runs whose range holds its base.
     Load { party: u8, a: u8, off: u16, d: u8 },
-    /// 0C: register `s` goes to the cell at `off` of the capability in `a`.
+    /// 0C: register `s` goes to the cell at `off` of the capability in `a`. Its tag is dropped while
+    /// a revocation runs whose range holds its base.
     Store { party: u8, a: u8, off: u16, s: u8 },
     /// 0D: register `d` gets a part of the capability in `s`, with the permissions also in `mask`.
     Narrow { party: u8, s: u8, off: u16, len: u16, mask: u8, d: u8 },

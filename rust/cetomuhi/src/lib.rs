@@ -72,7 +72,7 @@ pub use state::State;
 pub use word::{Capability, Word};
 
 /// The version of the library that this crate is for.
-pub const VERSION: u64 = 3;
+pub const VERSION: u64 = 4;
 
 /// The exported functions over slices of any lengths, one for one. They are safe; the rest of the
 /// crate is more convenient.

@@ -41,13 +41,16 @@ returns c =
     let base = c .before .before .before .before .base-of in
     let place = c .before .before .before .lookup in
     let code = c .before .before .load-code in
-    λ m ev ep f. rw (c .refused .ensures) (load-down (withWords m (a .words .now) (a .marks .now)) f (a .v) (a .pages .now) ev ep (a .party) (a .a) (a .off) (a .d) (from .result) (place .result) (from .ensures) (place .ensures ∙ ap (λ n. lookupIn (a .v) (a .pages .now) (n + a .off)) (base .ensures)) (code .result) (code .ensures) (a .cells .now) (a .tags .now) (c .before .if1 .taken))
+    λ m en ep f. rw (c .refused .ensures) (load-down (withWords m (a .words .now) (a .marks .now)) f (a .nums) (a .pages .now) en ep (a .party) (a .a) (a .off) (a .d) (from .result) (place .result) (from .ensures) (place .ensures ∙ ap (λ n. lookupIn (a .nums .v) (a .pages .now) (n + a .off)) (base .ensures)) (code .result) (code .ensures) (a .cells .now) (a .tags .now) (c .before .if1 .taken))
 
 place-number-requires : tie.Need-place-number-requires
 place-number-requires c κs = search needs
 
 word-at-requires : tie.Need-word-at-requires
 word-at-requires c κs = search needs
+
+dies-requires : tie.Need-dies-requires
+dies-requires c κs = search needs
 
 loaded-requires : tie.Need-loaded-requires
 loaded-requires c κs = search needs
@@ -72,13 +75,18 @@ same-length-4 c = search needs
 
 returns-2 : tie.Need-returns-2
 returns-2 c =
-    let a = c .before .before .before .before .before .before .before .before .before .before .before .before .before .before .before .before .before .before .before .before .before .before .before .args in
-    let from = c .before .before .before .before .before .before .before .before .before .before .before .before .before .before .before .register-in in
-    let base = c .before .before .before .before .before .before .before .before .before .before .before .before .before .before .base-of in
-    let place = c .before .before .before .before .before .before .before .before .before .before .before .before .before .lookup in
-    let code = c .before .before .before .before .before .before .before .before .before .before .before .before .load-code in
-    λ m ev ep f. rw (c .granted .ensures, c .before .before .before .before .before .put-word .ensures .0, c .before .before .before .before .before .put-word .ensures .1)
-    (load-done (withWords m (a .words .now) (a .marks .now)) f (a .v) (a .pages .now) ev ep (a .party) (a .a) (a .off) (a .d) (from .result) (place .result) (from .ensures) (place .ensures ∙ ap (λ n. lookupIn (a .v) (a .pages .now) (n + a .off)) (base .ensures)) (code .result) (code .ensures) (a .cells .now) (a .tags .now) (c .before .before .before .before .before .before .before .before .before .before .before .if1 .left) (c .before .before .before .before .before .before .before .before .loaded .result) (rw (c .before .before .before .before .before .before .before .before .loaded .ensures, c .before .before .before .before .before .before .before .before .before .word-at .ensures, c .before .before .before .before .before .before .before .before .before .before .place-number .ensures)))
+    let a = c .before .before .before .before .before .before .before .before .before .before .before .before .before .before .before .before .before .before .before .before .before .before .before .before .args in
+    let from = c .before .before .before .before .before .before .before .before .before .before .before .before .before .before .before .before .register-in in
+    let base = c .before .before .before .before .before .before .before .before .before .before .before .before .before .before .before .base-of in
+    let place = c .before .before .before .before .before .before .before .before .before .before .before .before .before .before .lookup in
+    let code = c .before .before .before .before .before .before .before .before .before .before .before .before .before .load-code in
+    let at = c .before .before .before .before .before .before .before .before .before .before .before .place-number in
+    let word = c .before .before .before .before .before .before .before .before .before .before .word-at in
+    let dies = c .before .before .before .before .before .before .before .before .before .dies in
+    let loaded = c .before .before .before .before .before .before .before .before .loaded in
+    let put = c .before .before .before .before .before .put-word .ensures in
+    λ m en ep f. rw (c .granted .ensures, put .0, put .1)
+    (load-done (withWords m (a .words .now) (a .marks .now)) f (a .nums) (a .pages .now) en ep (a .party) (a .a) (a .off) (a .d) (from .result) (place .result) (from .ensures) (place .ensures ∙ ap (λ n. lookupIn (a .nums .v) (a .pages .now) (n + a .off)) (base .ensures)) (code .result) (code .ensures) (a .cells .now) (a .tags .now) (c .before .before .before .before .before .before .before .before .before .before .before .before .if1 .left) (word .result) (loaded .result) (rw (word .ensures, at .ensures)) (rw (loaded .ensures, dies .ensures)))
 
 pub load-spec : {M : Type 1} → statement M
 load-spec =
@@ -96,6 +104,7 @@ load-spec =
     returns
     place-number-requires
     word-at-requires
+    dies-requires
     loaded-requires
     mul-at
     add-at

@@ -41,17 +41,11 @@ returns c =
     let code = c .before .before .store-code in
     λ m en ep ew em f. rw (c .refused .ensures) (store-down m f (a .nums) (a .pages .now) (a .words .now) (a .marks .now) en ep ew em (a .party) (a .a) (a .off) (a .s) (to .result) (from .result) (place .result) (to .ensures) (from .ensures) (place .ensures ∙ ap (λ n. lookupIn (a .nums .v) (a .pages .now) (n + a .off)) (base .ensures)) (code .result) (code .ensures) (a .cells .now) (a .tags .now) (c .before .if1 .taken))
 
-base-of-requires-2 : tie.Need-base-of-requires-2
-base-of-requires-2 c κs = search needs
-
-cast-inside : tie.Need-cast-inside
-cast-inside c = search needs
-
-inside-requires : tie.Need-inside-requires
-inside-requires c κs = search needs
-
 place-number-requires : tie.Need-place-number-requires
 place-number-requires c κs = search needs
+
+dies-requires : tie.Need-dies-requires
+dies-requires c κs = search needs
 
 stored-requires : tie.Need-stored-requires
 stored-requires c κs = search needs
@@ -73,15 +67,15 @@ same-length-2 c = search needs
 
 returns-2 : tie.Need-returns-2
 returns-2 c =
-    let a = c .before .before .before .before .before .before .before .before .before .before .before .before .before .before .before .before .before .before .before .before .before .before .before .before .args in
-    let to = c .before .before .before .before .before .before .before .before .before .before .before .before .before .before .before .before .before .before .register-in in
-    let from = c .before .before .before .before .before .before .before .before .before .before .before .before .before .before .before .before .before .register-in2 in
-    let base = c .before .before .before .before .before .before .before .before .before .before .before .before .before .before .before .before .base-of in
-    let place = c .before .before .before .before .before .before .before .before .before .before .before .before .before .before .before .lookup in
-    let code = c .before .before .before .before .before .before .before .before .before .before .before .before .before .before .store-code in
+    let a = c .before .before .before .before .before .before .before .before .before .before .before .before .before .before .before .before .before .before .before .before .before .before .before .args in
+    let to = c .before .before .before .before .before .before .before .before .before .before .before .before .before .before .before .before .before .register-in in
+    let from = c .before .before .before .before .before .before .before .before .before .before .before .before .before .before .before .before .register-in2 in
+    let base = c .before .before .before .before .before .before .before .before .before .before .before .before .before .before .before .base-of in
+    let place = c .before .before .before .before .before .before .before .before .before .before .before .before .before .before .lookup in
+    let code = c .before .before .before .before .before .before .before .before .before .before .before .before .before .store-code in
     let put = c .before .before .before .before .before .before .put-word .ensures in
-    λ m en ep ew em f. rw (c .granted .ensures, c .before .empty .ensures, put .0, put .1, c .before .before .before .before .before .before .before .stored .ensures, c .before .before .before .before .before .before .before .before .before .before .before .inside .ensures, c .before .before .before .before .before .before .before .before .before .before .before .before .base-of2 .ensures, c .before .before .before .before .before .before .before .before .place-number .ensures)
-    (store-done m f (a .nums) (a .pages .now) (a .words .now) (a .marks .now) en ep ew em (a .party) (a .a) (a .off) (a .s) (to .result) (from .result) (place .result) (to .ensures) (from .ensures) (place .ensures ∙ ap (λ n. lookupIn (a .nums .v) (a .pages .now) (n + a .off)) (base .ensures)) (code .result) (code .ensures) (a .cells .now) (a .tags .now) (c .before .before .before .before .before .before .before .before .before .before .before .before .before .if1 .left))
+    λ m en ep ew em f. rw (c .granted .ensures, c .before .empty .ensures, put .0, put .1, c .before .before .before .before .before .before .before .stored .ensures, c .before .before .before .before .before .before .before .before .dies .ensures, c .before .before .before .before .before .before .before .before .before .place-number .ensures)
+    (store-done m f (a .nums) (a .pages .now) (a .words .now) (a .marks .now) en ep ew em (a .party) (a .a) (a .off) (a .s) (to .result) (from .result) (place .result) (to .ensures) (from .ensures) (place .ensures ∙ ap (λ n. lookupIn (a .nums .v) (a .pages .now) (n + a .off)) (base .ensures)) (code .result) (code .ensures) (a .cells .now) (a .tags .now) (c .before .before .before .before .before .before .before .before .before .before .before .before .if1 .left))
 
 pub store-spec : {M : Type 1} → statement M
 store-spec =
@@ -96,10 +90,8 @@ store-spec =
     store-code-requires
     refused-requires
     returns
-    base-of-requires-2
-    cast-inside
-    inside-requires
     place-number-requires
+    dies-requires
     stored-requires
     put-word-requires
     empty-requires
