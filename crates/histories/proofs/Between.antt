@@ -151,7 +151,8 @@ run-until P r step (c ∷ calls) m a =
 pub run-lent : (calls : List Call) (m : Machine) (r : Reservation) → Around (m .state .core .table) r → Around (run m calls .state .core .table) r ⊎ Ended m calls (rangeOf r)
 run-lent calls m r a = run-until (λ n. Around (n .state .core .table) r) r (λ n c b. step-lent n c r b) calls m a
 
-abbrev lentAs : Range → Reservation
+-- A range as one lent reservation.
+abbrev pub lentAs : Range → Reservation
 lentAs r = reservation (r .base) (r .length) Taken 0 0
 
 lent-around : (m : Machine) (take : Call) (p base : ℕ) → Lends m take p base → Around (next m take .state .core .table) (lentAs (lentRange m take base))

@@ -1,14 +1,14 @@
 -- Whatever a granted call does keeps the invariant. Assumes nothing.
 use Prim.Native.Nat.{ℕ, _+_, _*_, _%_, _<_, _≤_}
 use native.Mathlib.Omega.{arith}
-use mathlib.Core.Bool.{Bool, true, false, not, _&&_, true≢false, false≢true}
+use mathlib.Core.Bool.{Bool, true, false, not, _&&_, true≢false}
 use mathlib.Core.List.{List, [], _∷_, map}
 use mathlib.Core.Logic.{inl, inr, ⊎-elim}
 use mathlib.Core.Path.{_≡_, refl, sym, ap, subst, _∙_}
 use borrow.Author.Tests.{eqb-true, not-true}
 use lib.Dec.{eqb}
 use lib.ListN.{length, getD, set}
-use Rattle.capabilities.specs.Capability.{baseOf, lengthOf, capability, permits}
+use Rattle.capabilities.specs.Capability.{baseOf, lengthOf, capability}
 use Rattle.capabilities.specs.Lists.{pick}
 use Rattle.capabilities.specs.Range.{inside}
 use Rattle.capabilities.specs.Refusals.{first}
@@ -40,10 +40,10 @@ use Rattle.reservations.proofs.CoreKept.{CoreFacts, core-facts}
 use Rattle.words.specs.declared.Slot.{Slot}
 use Rattle.words.specs.Words.{slot, empty, registerOf, mailboxOf, wordAt, stored, collectedRegister, collectedMailbox}
 use Rattle.machine.specs.State.{State}
-use Rattle.machine.specs.Roles.{Sources, Asked}
-use Rattle.machine.specs.Effects.{Effect, withTable, withPages, sweptTo, taking}
-use Rattle.machine.specs.Step.{fetched, done, registersAfter, mailboxesAfter, cellsAfter, tagsAfter}
-use Rattle.machine.proofs.Deeds.{coreAlone, sweeping, collecting, zeroing, putting, loading, storing, granting, receiving, Recored, splits, merges, gives, revokes, maps, unmaps, Filling, narrows, numbers, aimedAt, Deed, took, recored, swept, collectedAll, zeroed, filled, loaded, wrote, mailed, received}
+use Rattle.machine.specs.Roles.{Asked}
+use Rattle.machine.specs.Effects.{Effect, withTable, withPages, sweptTo, taking, RegisterChange, keepRegisters, putRegister, fetchInto, MailboxChange, keepMailboxes, putMailbox, keepMemory, effectOf}
+use Rattle.machine.specs.Step.{done, registersAfter, mailboxesAfter, cellsAfter, tagsAfter}
+use Rattle.machine.proofs.Deeds.{coreAlone, sweeping, collecting, zeroing, loading, storing, Recored, splits, merges, gives, revokes, maps, unmaps, aimedAt, Deed, took, recored, swept, collectedAll, zeroed, filled, loaded, wrote, mailed, received}
 use Rattle.machine.proofs.Found.{Addressing}
 use Rattle.machine.proofs.PagesKept.{zero-clear}
 use Rattle.histories.specs.Runs.{Machine, machine}
@@ -54,7 +54,8 @@ use Rattle.histories.proofs.Carrying.{row-fits, split-kept, merge-kept,
 use Rattle.histories.proofs.Keep.{Blank, none-sound, carried-sound, place-sound, place-below, keep-table, keep-begun, keep-pages, keep-write, keep-clear, keep-sweep, collect-sound, keep-ended}
 use Rattle.histories.proofs.Granted.{handed}
 use Rattle.histories.proofs.Layer.{map-done, map-view, map-free, unmap-done, unmap-view, unmap-free, freed-shows, freed-free, released-shows, released-free, none-shown}
-use Rattle.histories.proofs.Findings.{Ends, ends, further, kept-sound, made-confined, mailbox-sound, narrowed-confined, register-sound, revoke-parts, row-first, short-of, take-length}
+use Rattle.histories.proofs.Held.{Narrows, Holds, InRegister, InMailbox, none, kept, of-register, of-mailbox, registers-hold, mailboxes-hold, filling-holds}
+use Rattle.histories.proofs.Findings.{Ends, ends, further, made-confined, narrowed-confined, revoke-parts, row-first, short-of, take-length}
 
 module _ (s : State) (cells tags : List ℕ) (inv : Inv (machine s cells tags)) where
   abbrev c : Core
@@ -93,9 +94,6 @@ module _ (s : State) (cells tags : List ℕ) (inv : Inv (machine s cells tags)) 
           mailboxes = λ i. carried-sound t u (getD (s .mailboxes) i empty) k (inv .mailboxes i);
           memory = keep-table c cells tags (inv .memory) u k d;
         }
-
-    register-change : (p r : ℕ) (w : Slot) → Sound t w → Inv (machine (record { core = c; registers = set (s .registers) (8 * p + r) w; mailboxes = s .mailboxes }) cells tags)
-    register-change p r w k = record { registers = put-each (Sound t) (s .registers) (8 * p + r) w k (inv .registers); mailboxes = inv .mailboxes; memory = inv .memory }
 
     -- 01 take.
     take-change : (p base reg x i : ℕ) (u : Table) (n : ℕ) → x ≤ 15 → isOpen (rowAt t i .state) ≡ true → Replaced t u p base i 1 (takenRow (rowAt t i) p ∷ []) → n ≡ rowAt t i .length
@@ -159,44 +157,23 @@ module _ (s : State) (cells tags : List ℕ) (inv : Inv (machine s cells tags)) 
         table-change u (give-kept c ok p base to code)
         (dies-same c (core (c .pages) u (c .place)) (dyings-one t u i (givenRow (rowAt t i) to ∷ []) h (r .now) still (open-no-dying (givenRow (rowAt t i) to) still)))
 
-    -- 0D narrow, 0E number.
-    filling-sound : (p : ℕ) {from : Sources} {w : Slot} → Filling s p from w → Sound t w
-    filling-sound p (narrows x off len mask g) =
-        λ e. narrowed-confined t (registerOf (s .registers) p x .cell) off len mask (register-sound t (s .registers) p x (inv .registers) (g .tagged)) (g .some) (g .ends) (g .starts)
-    filling-sound p (numbers value) = λ e. absurd (false≢true e)
+    -- 0B, 0D, 0E, 0F, 10: registers and mailboxes alone.
+    confined : Holds (Confined t) s
+    confined = record { registers = inv .registers; mailboxes = inv .mailboxes }
 
-    keep-filled : (p d : ℕ) (from : Sources) (w : Slot) → Filling s p from w → Inv (after (putting c p d w))
-    unfolding done registersAfter mailboxesAfter cellsAfter tagsAfter
-    keep-filled p d from w g = register-change p d w (filling-sound p g)
+    held-change : (x : RegisterChange) (b : MailboxChange) (w : Slot) → InRegister (Confined t) s confined cells tags x → InMailbox (Confined t) s confined cells tags b → Inv (after (effectOf c x b keepMemory w))
+    unfolding done cellsAfter tagsAfter
+    held-change x b w r m =
+        record { registers = registers-hold (Confined t) s confined cells tags x r; mailboxes = mailboxes-hold (Confined t) s confined cells tags b m; memory = inv .memory }
 
-    -- 0F grant, 10 receive.
-    keep-grant : (p x to : ℕ) → Inv (after (granting s p x to))
-    unfolding done registersAfter mailboxesAfter cellsAfter tagsAfter
-    keep-grant p x to =
-        record {
-          registers = inv .registers;
-          mailboxes = put-each (Sound t) (s .mailboxes) to (registerOf (s .registers) p x) (register-sound t (s .registers) p x (inv .registers)) (inv .mailboxes);
-          memory = inv .memory;
-        }
+    narrower : Narrows (Confined t)
+    narrower x off len mask some ends starts k = narrowed-confined t x off len mask k some ends starts
 
-    keep-receive : (p d : ℕ) → Inv (after (receiving s p d))
-    unfolding done registersAfter mailboxesAfter cellsAfter tagsAfter
-    keep-receive p d =
-        record {
-          registers = put-each (Sound t) (s .registers) (8 * p + d) (mailboxOf (s .mailboxes) p) (mailbox-sound t (s .mailboxes) p (inv .mailboxes)) (inv .registers);
-          mailboxes = put-each (Sound t) (s .mailboxes) p empty (none-sound t) (inv .mailboxes);
-          memory = inv .memory;
-        }
-
-    -- 0B load.
-    keep-load : (p a off d : ℕ) → Addressing c (registerOf (s .registers) p a) off
-        → Inv (after (loading s p a off d))
-    unfolding done registersAfter mailboxesAfter cellsAfter tagsAfter
+    keep-load : (p a off d : ℕ) → Addressing c (registerOf (s .registers) p a) off → Inv (after (loading s p a off d))
     keep-load p a off d g =
         let w = registerOf (s .registers) p a in
-        let x = wordAt cells tags (aimedAt s p a off) in
-        register-change p d (fetched c cells tags (aimedAt s p a off) w)
-        (kept-sound t x (permits (w .cell) 4 && not (dying c (x .cell))) (place-sound c cells tags (inv .memory) (baseOf (w .cell) + off) (aimedAt s p a off) (g .place)))
+        held-change (fetchInto p d (aimedAt s p a off) w) keepMailboxes empty
+        (kept (Confined t) (wordAt cells tags (aimedAt s p a off)) _ (place-sound c cells tags (inv .memory) (baseOf (w .cell) + off) (aimedAt s p a off) (g .place))) tt
 
     -- 0C store.
     keep-store : (p a off r : ℕ) → Addressing c (registerOf (s .registers) p a) off
@@ -210,9 +187,9 @@ module _ (s : State) (cells tags : List ℕ) (inv : Inv (machine s cells tags)) 
           mailboxes = inv .mailboxes;
           memory =
               keep-write c cells tags (inv .memory) layer of-cells of-tags (baseOf (w .cell) + off) (aimedAt s p a off) (stored c x) (g .place)
-              (kept-sound t x (not (dying c (x .cell))) (register-sound t (s .registers) p r (inv .registers)))
+              (kept (Confined t) x (not (dying c (x .cell))) (of-register (Confined t) s confined p r))
               (λ e. not-true (dying c (x .cell)) (and-right (x .tag) (not (dying c (x .cell))) e))
-              (λ i b o h. lent-not-open (register-sound t (s .registers) p a (inv .registers) (g .tagged)) off (g .short) i b o h);
+              (λ i b o h. lent-not-open (of-register (Confined t) s confined p a (g .tagged)) off (g .short) i b o h);
         }
 
     -- 06 sweep.
@@ -271,7 +248,7 @@ module _ (s : State) (cells tags : List ℕ) (inv : Inv (machine s cells tags)) 
           registers = λ j.
               let w = getD (s .registers) j empty in
               subst (Sound u) (sym (collected-registers c (s .registers) j))
-              (collect-sound t u (k .row) (k .used) (k .now) (collectedRegister c w) (kept-sound t w (not (dying c (w .cell))) (inv .registers j))
+              (collect-sound t u (k .row) (k .used) (k .now) (collectedRegister c w) (kept (Confined t) w (not (dying c (w .cell))) (inv .registers j))
               (λ e. out (w .cell) (not-true (dying c (w .cell)) (and-right (w .tag) (not (dying c (w .cell))) e))));
           mailboxes = λ j. subst (Sound u) (sym (collected-mailboxes c (s .mailboxes) j)) (mail (getD (s .mailboxes) j empty) (inv .mailboxes j));
           memory =
@@ -331,8 +308,8 @@ module _ (s : State) (cells tags : List ℕ) (inv : Inv (machine s cells tags)) 
     keep-deed (swept p n runs) = keep-swept n
     keep-deed (collectedAll p z) = keep-collect z
     keep-deed (zeroed p frame z) = keep-zero frame z
-    keep-deed (filled p d from w low g) = keep-filled p d from w g
+    keep-deed (filled p d from w low g) = held-change (putRegister p d w) keepMailboxes empty (filling-holds (Confined t) s confined cells tags narrower p g) tt
     keep-deed (loaded p a off d low g) = keep-load p a off d g
     keep-deed (wrote p a off x low-p low-a g) = keep-store p a off x g
-    keep-deed (mailed p x to t) = keep-grant p x to
-    keep-deed (received p d low) = keep-receive p d
+    keep-deed (mailed p x to e) = held-change keepRegisters (putMailbox to (registerOf (s .registers) p x)) empty tt (of-register (Confined t) s confined p x)
+    keep-deed (received p d low) = held-change (putRegister p d (mailboxOf (s .mailboxes) p)) (putMailbox p empty) (mailboxOf (s .mailboxes) p) (of-mailbox (Confined t) s confined p) (none (Confined t) empty refl)

@@ -4,7 +4,6 @@
 use Prim.Native.Nat.{ℕ, _+_, _≤_, _<_}
 use native.Mathlib.Omega.{arith}
 use mathlib.Core.Bool.{Bool, true, false, not, _&&_, true≢false}
-use mathlib.Core.List.{[], _∷_}
 use mathlib.Core.Logic.{_⊎_, inl, inr, ⊎-elim}
 use mathlib.Core.Path.{_≡_, refl, sym, ap, subst, _∙_}
 use borrow.Author.Tests.{not-true}
@@ -13,29 +12,24 @@ use Rattle.capabilities.specs.declared.Range.{Range}
 use Rattle.capabilities.specs.Capability.{baseOf, lengthOf, permits}
 use Rattle.capabilities.specs.Range.{inside}
 use Rattle.capabilities.proofs.Choice.{and-left, and-right}
-use Rattle.table.specs.declared.ReservationState.the-variants.{Taken}
-use Rattle.table.specs.Find.{findOf, rowOf}
-use Rattle.table.specs.Rows.{isRevoking, live, rangeOf, reservation}
+use Rattle.table.specs.Find.{findOf}
+use Rattle.table.specs.Rows.{isRevoking, live, rangeOf}
 use Rattle.table.proofs.Cells.{no-shared-cell}
 use Rattle.table.proofs.Dying.{dyings, none, firstOf}
 use Rattle.table.proofs.Kept.{open-still}
 use Rattle.table.proofs.Unrevoked.{take-still, give-still, split-still, merge-still}
 use Rattle.reservations.specs.Core.{Core}
-use Rattle.reservations.specs.Revocation.{running, revoked, dying, revokeReasons, revokingRow, revokeOf, coreSound}
+use Rattle.reservations.specs.Revocation.{running, revoked, dying, revokeReasons, coreSound}
 use Rattle.reservations.proofs.CoreAfter.{dying-inside}
 use Rattle.reservations.proofs.CoreKept.{core-facts}
-use Rattle.reservations.proofs.Revocations.{revoke-clear, core-revoke, revoke-dies}
+use Rattle.reservations.proofs.Revocations.{revoke-clear}
 use Rattle.calls.specs.declared.Call.{Call}
 use Rattle.calls.specs.declared.Call.the-variants.{Revoke}
 use Rattle.words.specs.Words.{registerOf, wordAt}
-use Rattle.words.specs.WordReasons.{unnamed, notManager}
 use Rattle.machine.specs.State.{State}
 use Rattle.machine.specs.Roles.{collects, Asked, asked, roleOf, callerOf}
-use Rattle.machine.specs.Reasons.{reasons}
-use Rattle.machine.specs.Effects.{Effect, effect}
-use Rattle.machine.specs.Step.{done}
+use Rattle.machine.specs.Effects.{Effect}
 use Rattle.machine.proofs.Deeds.{Recored, splits, merges, gives, revokes, maps, unmaps, aimedAt, Deed, took, recored, swept, collectedAll, zeroed, filled, loaded, wrote, mailed, received, deed}
-use Rattle.machine.proofs.Found.{after-five}
 use Rattle.histories.specs.Runs.{Machine, next, run}
 use Rattle.histories.specs.Live.{Spot, register, mailbox, virtual, wordIn, Live, Into}
 use Rattle.histories.specs.Inv.{Inv, rowAt, Confined}
@@ -44,11 +38,12 @@ use Rattle.histories.specs.DeadAtOnce.{OfParty, NoneDying, Dead, DeadAtO
 use Rattle.histories.proofs.Table.{running-by, revoked-by}
 use Rattle.histories.proofs.Granted.{Went, went, went-or-not, went-next, went-core}
 use Rattle.histories.proofs.Findings.{revoked-while}
+use Rattle.histories.proofs.Revokes.{revoke-runs, revoke-range, revoke-sound}
 use Rattle.histories.proofs.Always.{inv-reached, inv-step}
 use Rattle.histories.proofs.Keep.{place-sound}
 use Rattle.histories.proofs.Confining.{cell-in, live-confined}
 use Rattle.histories.proofs.Lending.{lends, named-range}
-use Rattle.histories.proofs.Between.{Ending, done-table, run-until}
+use Rattle.histories.proofs.Between.{Ending, done-table, run-until, lentAs}
 use Rattle.histories.proofs.Held.{Tagged, Holds, OfTake, OfLoad, deed-holds}
 use Rattle.histories.proofs.Later.{Outside, outside-narrows, taken-outside}
 
@@ -126,7 +121,7 @@ module _ (r : Range) (m : Machine) (q : Quiet r m) where
       (living-outside c ok (q .runs) (x .cell) (place-sound c (m .cells) (m .tags) (q .inv .memory) (baseOf (w .cell) + off) at (g .place) (and-left (x .tag) keep t))
       (not-true (dying c (x .cell)) (and-right (permits (w .cell) 4) (not (dying c (x .cell))) (and-right (x .tag) keep t))))
 
-  step-quiet : (call : Call) → Quiet r (next m call) ⊎ Ending m call (reservation (r .base) (r .length) Taken 0 0)
+  step-quiet : (call : Call) → Quiet r (next m call) ⊎ Ending m call (lentAs r)
   step-quiet call =
       ⊎-elim
       (λ w.
@@ -164,33 +159,20 @@ module _ (r : Range) (m : Machine) (q : Quiet r m) where
       apart (mailbox p) h e = q .out .mailboxes p e
       apart (virtual v) h e = absurd h
 
--- A granted revoke: the reservation that it names is the one Revoking.
-module _ (m : Machine) (p base : ℕ) (w : Went m (Revoke p base)) where
-  revoke-core : next m (Revoke p base) .state .core ≡ revokeOf (m .state .core) p base .core
-  unfolding done effect
-  revoke-core = ap (λ n. n .state .core) (went-next m (Revoke p base) w)
-
-  revoke-code : revokeOf (m .state .core) p base .code ≡ 0
-  unfolding revokeOf reasons
-  revoke-code = after-five (unnamed p) (notManager p) (revokeReasons (m .state .core) p base) (w .clear)
-
-  one : dyings (live (next m (Revoke p base) .state .core .table)) ≡ revokingRow (rowOf (m .state .core .table) (findOf (m .state .core .table) p base)) ∷ []
-  one = ap (λ k. dyings (live (k .table))) revoke-core ∙ revoke-dies (m .state .core) (went-core m (Revoke p base) w) p base revoke-code
-
-  begun : Inv m → NoneDying (next m (Revoke p base)) → Quiet (namedRange m p base) (next m (Revoke p base))
-  begun inv quiet =
-      let n = next m (Revoke p base) in
-      let after = inv-step m (Revoke p base) inv in
-      let ok : coreSound (n .state .core) ≡ true = ap coreSound revoke-core ∙ core-revoke (m .state .core) (went-core m (Revoke p base) w) p base in
-      let runs : running (n .state .core) ≡ true = running-by (n .state .core) ∙ ap (λ l. not (none l)) one in
-      let range : revoked (n .state .core) ≡ namedRange m p base = revoked-by (n .state .core) ∙ ap (λ l. rangeOf (firstOf l)) one in
-      let out : (x : Spot) → OfParty x → Tagged (Outside (namedRange m p base)) (wordIn n x) =
-      λ x h e. subst (λ y. Outside y (wordIn n x .cell)) range (living-outside (n .state .core) ok runs (wordIn n x .cell) (live-confined n after x e) (quiet x h e)) in
-      record { inv = after; runs = runs; range = range; out = record { registers = λ i. out (register i) tt; mailboxes = λ i. out (mailbox i) tt } }
+-- After a granted revoke, where no register and no mailbox holds a dying capability.
+begun : (m : Machine) (p base : ℕ) → Went m (Revoke p base) → Inv m → NoneDying (next m (Revoke p base)) → Quiet (namedRange m p base) (next m (Revoke p base))
+begun m p base w inv quiet =
+    let n = next m (Revoke p base) in
+    let after = inv-step m (Revoke p base) inv in
+    let runs = revoke-runs m p base w in
+    let range = revoke-range m p base w in
+    let out : (x : Spot) → OfParty x → Tagged (Outside (namedRange m p base)) (wordIn n x) =
+    λ x h e. subst (λ y. Outside y (wordIn n x .cell)) range (living-outside (n .state .core) (revoke-sound m p base w) runs (wordIn n x .cell) (live-confined n after x e) (quiet x h e)) in
+    record { inv = after; runs = runs; range = range; out = record { registers = λ i. out (register i) tt; mailboxes = λ i. out (mailbox i) tt } }
 
 pub dead-at-once : DeadAtOnce
 dead-at-once m r p base g quiet calls =
     let range = namedRange m p base in
     let start = begun m p base (went m (Revoke p base) g) (inv-reached m r) quiet in
     ⊎-elim (λ q. inl (dead range (run (next m (Revoke p base)) calls) q)) inr
-    (run-until (Quiet range) (reservation (range .base) (range .length) Taken 0 0) (λ n c q. step-quiet range n q c) calls (next m (Revoke p base)) start)
+    (run-until (Quiet range) (lentAs range) (λ n c q. step-quiet range n q c) calls (next m (Revoke p base)) start)

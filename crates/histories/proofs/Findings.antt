@@ -1,15 +1,14 @@
 -- What the calls find and make: confined capabilities, the place of a cell, the end of a revocation. Assumes nothing.
 use Prim.Native.Nat.{ℕ, _+_, _*_, _/_, _%_, _<_, _≤_}
 use native.Mathlib.Omega.{arith}
-use mathlib.Core.Bool.{Bool, true, false, _&&_, true≢false}
+use mathlib.Core.Bool.{true, false, _&&_, true≢false}
 use mathlib.Core.List.{List, _∷_, _++_}
 use mathlib.Core.Path.{_≡_, refl, sym, ap, subst, _∙_}
 use borrow.Author.Tests.{eqb-true, eq-eqb, not-true, not-false}
 use lib.Bits.{bitAnd, and-le-l}
 use lib.Dec.{eqb}
-use lib.ListN.{length, getD, take, drop}
+use lib.ListN.{length, take, drop}
 use Rattle.capabilities.specs.Capability.{baseOf, lengthOf, permissionsOf, capability, narrowed}
-use Rattle.capabilities.specs.Lists.{pick}
 use Rattle.capabilities.specs.Refusals.{first}
 use Rattle.capabilities.proofs.Capabilities.{made-base, made-length, made-permissions, made-small}
 use Rattle.capabilities.proofs.Choice.{pick-yes, and-left, and-right}
@@ -32,33 +31,14 @@ use Rattle.reservations.specs.Core.{Core}
 use Rattle.reservations.specs.Revocation.{core, running, revoked, wholePages, revokeReasons, revokeAt, revokeOf, collectReasons, collectedRow, collected, collectOf, coreSound, revocationSound}
 use Rattle.reservations.proofs.CoreKept.{CoreFacts, core-facts}
 use Rattle.reservations.proofs.Revocations.{collected-at, collect-clear, freed-while}
-use Rattle.words.specs.declared.Slot.{Slot}
-use Rattle.words.specs.Words.{empty, named, registerOf, mailboxOf, keepTag}
-use Rattle.histories.specs.Inv.{rowAt, Confined, Sound}
+use Rattle.histories.specs.Inv.{rowAt, Confined}
 use Rattle.histories.proofs.Table.{long, mid-row}
-use Rattle.histories.proofs.Keep.{none-sound}
 
 -- The first of the rows that stand in place of others.
 pub row-first : (t u : Table) (party base i k : ℕ) (x : Reservation) (rest : List Reservation) → Replaced t u party base i k (x ∷ rest) → (i < length (live u)) × (rowAt u i ≡ x)
 row-first t u party base i k x rest r =
     let n : i + 0 ≡ i = omega arith in
     (omega (arith, long t u (x ∷ rest) i k (r .within) (r .now)), ap (λ j. rowAt u j) (sym n) ∙ mid-row t u (x ∷ rest) i k (r .within) (r .now) 0 (omega arith))
-
--- A word without its tag, or with it.
-pub kept-sound : (t : Table) (w : Slot) (b : Bool) → Sound t w → Sound t (keepTag w b)
-kept-sound t w b s e = s (and-left (w .tag) b e)
-
-pub register-sound : (t : Table) (l : List Slot) (p r : ℕ) → ((i : ℕ) → Sound t (getD l i empty)) → Sound t (registerOf l p r)
-unfolding registerOf
-register-sound t l p r s = go (named p && named r)
-  where
-    go : (b : Bool) → Sound t (pick b (getD l (8 * p + r) empty) empty)
-    go true = s (8 * p + r)
-    go false = none-sound t
-
-pub mailbox-sound : (t : Table) (l : List Slot) (p : ℕ) → ((i : ℕ) → Sound t (getD l i empty)) → Sound t (mailboxOf l p)
-unfolding mailboxOf
-mailbox-sound t l p s = s p
 
 -- A capability made for cells of a lent reservation.
 pub made-confined : (t : Table) (i base len permissions : ℕ) → i < length (live t) → isOpen (rowAt t i .state) ≡ false → base < 65536 → len < 65536 → permissions ≤ 15

@@ -66,24 +66,24 @@ module _ (Q : ℕ → Type 0) where
         go true = old .registers (8 * p + r)
         go false = none empty refl
 
-    of-mailbox : (p : ℕ) → Tagged Q (mailboxOf (s .mailboxes) p)
+    pub of-mailbox : (p : ℕ) → Tagged Q (mailboxOf (s .mailboxes) p)
     unfolding mailboxOf
     of-mailbox p = old .mailboxes p
 
     module _ (cells tags : List ℕ) where
       -- What is put into a register, and into a mailbox, has it.
-      abbrev InRegister : RegisterChange → Type 0
+      abbrev pub InRegister : RegisterChange → Type 0
       InRegister keepRegisters = Unit {0}
       InRegister (putRegister p r w) = Tagged Q w
       InRegister (fetchInto p r at a) = Tagged Q (fetched (s .core) cells tags at a)
       InRegister collectRegisters = Unit {0}
 
-      abbrev InMailbox : MailboxChange → Type 0
+      abbrev pub InMailbox : MailboxChange → Type 0
       InMailbox keepMailboxes = Unit {0}
       InMailbox (putMailbox p w) = Tagged Q w
       InMailbox collectMailboxes = Unit {0}
 
-      registers-hold : (x : RegisterChange) → InRegister x → (i : ℕ) → Tagged Q (getD (registersAfter x s cells tags) i empty)
+      pub registers-hold : (x : RegisterChange) → InRegister x → (i : ℕ) → Tagged Q (getD (registersAfter x s cells tags) i empty)
       unfolding registersAfter
       registers-hold keepRegisters new i = old .registers i
       registers-hold (putRegister p r w) new i = put-each (Tagged Q) (s .registers) (8 * p + r) w new (old .registers) i
@@ -91,14 +91,14 @@ module _ (Q : ℕ → Type 0) where
       registers-hold collectRegisters new i =
           subst (Tagged Q) (sym (collected-registers (s .core) (s .registers) i)) (kept (getD (s .registers) i empty) _ (old .registers i))
 
-      mailboxes-hold : (x : MailboxChange) → InMailbox x → (p : ℕ) → Tagged Q (getD (mailboxesAfter x s) p empty)
+      pub mailboxes-hold : (x : MailboxChange) → InMailbox x → (p : ℕ) → Tagged Q (getD (mailboxesAfter x s) p empty)
       unfolding mailboxesAfter
       mailboxes-hold keepMailboxes new p = old .mailboxes p
       mailboxes-hold (putMailbox q w) new p = put-each (Tagged Q) (s .mailboxes) q w new (old .mailboxes) p
       mailboxes-hold collectMailboxes new p =
           subst (Tagged Q) (sym (collected-mailboxes (s .core) (s .mailboxes) p)) (gone (s .core) (getD (s .mailboxes) p empty) (old .mailboxes p))
 
-      filling-holds : Narrows Q → (p : ℕ) {from : Sources} {w : Slot} → Filling s p from w → Tagged Q w
+      pub filling-holds : Narrows Q → (p : ℕ) {from : Sources} {w : Slot} → Filling s p from w → Tagged Q w
       filling-holds narrower p (narrows x off len mask g) =
           λ e. narrower (registerOf (s .registers) p x .cell) off len mask (g .some) (g .ends) (g .starts) (of-register p x (g .tagged))
       filling-holds narrower p (numbers value) = none (slot value false) refl

@@ -16,6 +16,7 @@ pub mod Lending
 pub mod Survivors
 pub mod Forming
 pub mod Forgetting
+pub mod Revokes
 pub mod Leading
 pub mod Naming
 pub mod Between

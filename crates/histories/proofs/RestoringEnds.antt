@@ -44,12 +44,13 @@ use Rattle.histories.specs.Runs.{Machine, Granted, next, run}
 use Rattle.histories.specs.Inv.{rowAt}
 use Rattle.histories.specs.Forming.{Standing}
 use Rattle.histories.specs.Restoring.{ending, finishing, revoking, Restored}
-use Rattle.histories.proofs.Granted.{went, went-next}
+use Rattle.histories.proofs.Granted.{Went, went, went-next}
 use Rattle.histories.proofs.Findings.{Ends}
 use Rattle.histories.proofs.Survivors.{collect-core, collect-ends}
 use Rattle.histories.proofs.Forming.{standing-core, standing-facts, standing-code, standing-next}
 use Rattle.reservations.proofs.Revocations.{none-revoking}
 use Rattle.histories.proofs.Table.{running-by}
+use Rattle.histories.proofs.Revokes.{revoke-core, revoke-runs}
 use Rattle.histories.proofs.Leading.{Leads, leads-none, leads-more, leads-to}
 use Rattle.histories.proofs.Naming.{find-row}
 use Rattle.histories.proofs.Losing.{Whole, whole-table}
@@ -212,20 +213,15 @@ module _ (m : Machine) (v f : ℕ) (k : Standing m v f) (bare : Bare v m) where
   abbrev n₂ : Machine
   n₂ = next m (Revoke 0 0)
 
-  revoked-core : n₂ .state .core ≡ revokeOf c₀ 0 0 .core
-  unfolding effect done
-  revoked-core = ap (λ n. n .state .core) (went-next m (Revoke 0 0) (went m (Revoke 0 0) revoke-goes))
+  revoke-went : Went m (Revoke 0 0)
+  revoke-went = went m (Revoke 0 0) revoke-goes
 
   one-revoking : Whole v Revoking 0 n₂
   one-revoking =
       let (i, r) = revoke-after c₀ (standing-core m v f k) 0 0 (unfold revokeOf in revoke-clear) in
       let n : i ≡ 0 = omega (arith, r .within, ap length (bare .one)) in
       whole-table v Revoking 0 (revokingTaker r₀) (n₂ .state .core .table)
-      (ap (λ x. live (x .table)) revoked-core ∙ r .now ∙ ap (λ j. take j (live t) ++ revokingRow (rowAt t j) ∷ drop (j + 1) (live t)) n ∙ ap (λ l. take 0 l ++ revokingRow (getD l 0 blank) ∷ drop 1 l) (bare .one))
-
-  runs : running (n₂ .state .core) ≡ true
-  unfolding dyings
-  runs = running-by (n₂ .state .core) ∙ ap (λ l. not (none (dyings l))) one-revoking
+      (ap (λ x. live (x .table)) (revoke-core m 0 0 revoke-went) ∙ r .now ∙ ap (λ j. take j (live t) ++ revokingRow (rowAt t j) ∷ drop (j + 1) (live t)) n ∙ ap (λ l. take 0 l ++ revokingRow (getD l 0 blank) ∷ drop 1 l) (bare .one))
 
   restored : (n : Machine) → Finished (n₂ .state .core) n → Restored n v
   unfolding dyings
@@ -254,5 +250,5 @@ module _ (m : Machine) (v f : ℕ) (k : Standing m v f) (bare : Bare v m) where
   revoking-leads =
       leads-more (λ n. Restored n v) m (Revoke 0 0) (ending (c₀ .pages .f)) revoke-goes
       (subst (λ x. Leads (λ n. Restored n v) n₂ (ending x)) (sym (k .of-f))
-      (leads-to (Finished (n₂ .state .core)) (λ n. Restored n v) n₂ (ending f) (ending-leads n₂ v f (standing-next m v f (Revoke 0 0) k) runs)
+      (leads-to (Finished (n₂ .state .core)) (λ n. Restored n v) n₂ (ending f) (ending-leads n₂ v f (standing-next m v f (Revoke 0 0) k) (revoke-runs m 0 0 revoke-went))
       (restored (run n₂ (ending f)))))

@@ -1,11 +1,12 @@
 -- The shapes of the wrong machines: with the rule in the place of what is wrong, each is the rule, for every input. A granted
 -- call of the kind leaves what the rule leaves, and every other outcome is the rule's own.
-use Prim.Native.Nat.{ℕ, zero, suc}
+use Prim.Native.Nat.{ℕ}
 use native.Mathlib.Omega.{arith}
 use mathlib.Core.Bool.{_&&_, _||_}
-use mathlib.Core.List.{List, [], _∷_}
+use mathlib.Core.List.{List}
 use mathlib.Core.Path.{_≡_, refl, sym, ap, subst, _∙_}
-use lib.ListN.{getD, set}
+use lib.ListN.{getD}
+use lib.Seq.{set-getD}
 use lib.Dec.{eqb}
 use borrow.Author.Tests.{eqb-true}
 use Rattle.capabilities.specs.Capability.{permitted}
@@ -67,19 +68,13 @@ pub store-obeys : Obeys (storeBy stored)
 unfolding storeBy done effect registersAfter mailboxesAfter cellsAfter tagsAfter wordAfter
 store-obeys = obeys-by 0x0C _ (λ s x cells tags g. refl)
 
--- What stands in a list, written there again.
-set-self : (l : List ℕ) (i : ℕ) → set l i (getD l i 0) ≡ l
-set-self [] i = refl
-set-self (x ∷ l) zero = refl
-set-self (x ∷ l) (suc i) = ap (λ k. x ∷ k) (set-self l i)
-
 pub load-obeys : Obeys (loadBy loaded loaded keptByte)
 unfolding loadBy done effect registersAfter mailboxesAfter cellsAfter tagsAfter wordAfter
 load-obeys =
     obeys-by 0x0B _
     (λ s x cells tags g.
     let o = done s (effectOn s (commandOf 0x0B .make x)) cells tags in
-    ap (λ l. left (o .answer) cells l) (set-self tags _))
+    ap (λ l. left (o .answer) cells l) (set-getD tags _ 0))
 
 pub collect-obeys : Obeys (collectBy collectedRegister collectedMailbox)
 unfolding collectBy done effect registersAfter mailboxesAfter cellsAfter tagsAfter wordAfter

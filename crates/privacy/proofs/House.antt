@@ -17,8 +17,6 @@ use Rattle.pages.specs.declared.Place.the-variants.{At}
 use Rattle.pages.specs.Mapping.{lookupOf}
 use Rattle.pages.proofs.Formed.{Sound}
 use Rattle.sweep.specs.Sweep.{shownAt}
-use Rattle.table.specs.declared.ReservationState.the-variants.{Taken}
-use Rattle.table.specs.Rows.{reservation}
 use Rattle.table.proofs.Cells.{inside-bounds, inside-made}
 use Rattle.table.proofs.Truth.{both}
 use Rattle.reservations.specs.Core.{Core}
@@ -29,6 +27,7 @@ use Rattle.machine.specs.Effects.{RegisterChange, keepRegisters, putRegister, f
 use Rattle.machine.specs.Step.{registersAfter, mailboxesAfter, cellsAfter, tagsAfter, fetched}
 use Rattle.histories.specs.Runs.{Machine}
 use Rattle.histories.specs.Live.{Within}
+use Rattle.histories.proofs.Between.{lentAs}
 use Rattle.histories.proofs.Table.{Around}
 use Rattle.histories.proofs.View.{put-each, collected-mailboxes, word-none}
 use Rattle.privacy.specs.Rule.{into}
@@ -119,7 +118,7 @@ collected-apart r k w a = go (w .tag && dying k (w .cell))
 -- registers and Mapped cells of the range hold such; no register of another party, no mailbox, no Mapped cell outside does.
 pub record Housed (house : ℕ) (r : Range) (m : Machine) : Type 0 where
   pub some : 0 < r .length
-  pub around : Around (m .state .core .table) (reservation (r .base) (r .length) Taken 0 0)
+  pub around : Around (m .state .core .table) (lentAs r)
   pub registers : (p d : ℕ) → Good r (eqb p house) (registerOf (m .state .registers) p d)
   pub mailboxes : (p : ℕ) → Apart r (mailboxOf (m .state .mailboxes) p)
   pub words : (v at : ℕ) → lookupOf (m .state .core .pages) v ≡ At at → Good r (inside r v) (wordAt (m .cells) (m .tags) at)
@@ -180,7 +179,7 @@ module _ (house : ℕ) (r : Range) (m : Machine) (e : Effect) (h : Housed house 
     (size-cells : length (m .cells) ≡ 16 * m .state .core .pages .f) (size-tags : length (m .tags) ≡ 16 * m .state .core .pages .f)
     (fits : Fits (e .memory) (16 * m .state .core .pages .f)) (zero : FreeZero m)
     (from : (v at : ℕ) → lookupOf (e .core .pages) v ≡ At at → Came (m .state .core .pages) (e .memory) v at)
-    (table : Around (e .core .table) (reservation (r .base) (r .length) Taken 0 0))
+    (table : Around (e .core .table) (lentAs r))
     (s₁ : RegisterSafe house r m (e .registers)) (s₂ : MailboxSafe r (e .mailboxes)) (s₃ : MemorySafe r m (e .memory)) where
   word : (v at : ℕ) → Came (m .state .core .pages) (e .memory) v at
       → Good r (inside r v) (wordAt (cellsAfter (e .memory) (m .cells)) (tagsAfter (e .memory) (m .state .core) (m .cells) (m .tags)) at)

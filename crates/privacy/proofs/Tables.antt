@@ -17,11 +17,10 @@ use Rattle.capabilities.proofs.Choice.{and-left, and-right}
 use Rattle.pages.specs.declared.Place.the-variants.{At, Nowhere}
 use Rattle.pages.specs.Mapping.{lookupOf}
 use Rattle.pages.proofs.Formed.{Sound, sound}
-use Rattle.table.specs.declared.ReservationState.the-variants.{Taken}
 use Rattle.table.specs.Table.{Table}
 use Rattle.table.specs.Find.{findOf, rowOf}
 use Rattle.table.specs.Operations.{takeReasons, takeOf, takenRow}
-use Rattle.table.specs.Rows.{isOpen, held, live, rangeOf, reservation}
+use Rattle.table.specs.Rows.{isOpen, held, live, rangeOf}
 use Rattle.table.proofs.After.{Replaced, take-after}
 use Rattle.table.proofs.Cells.{inside-bounds, inside-made, no-shared-cell}
 use Rattle.table.proofs.Kept.{row-live}
@@ -39,14 +38,14 @@ use Rattle.machine.proofs.Deeds.{Deed, collected-as}
 use Rattle.histories.specs.Inv.{rowAt}
 use Rattle.histories.proofs.Carrying.{row-fits}
 use Rattle.histories.proofs.Findings.{Ends, ends, take-length}
-use Rattle.histories.proofs.Between.{deed-carried}
+use Rattle.histories.proofs.Between.{deed-carried, lentAs}
 use Rattle.histories.proofs.Layer.{released-shows, none-shown}
 use Rattle.histories.proofs.Table.{Around, Carried, collect-kept}
 use Rattle.privacy.specs.Rule.{contains, collecting, into}
 use Rattle.privacy.proofs.House.{Apart, into-cell}
 
 abbrev pub Surrounds : Table → Range → Type 0
-Surrounds t r = Around t (reservation (r .base) (r .length) Taken 0 0)
+Surrounds t r = Around t (lentAs r)
 
 around-more : (t u : Table) (r : Range) → Carried t u → Surrounds t r → Surrounds u r
 around-more t u r k a = let b : Around u (rowAt t (a .row)) = k .kept (a .row) (a .used) (a .lent) in record { row = b .row; used = b .used; lent = b .lent; from = omega (arith, b .from, a .from); upto = omega (arith, b .upto, a .upto) }
