@@ -1,7 +1,8 @@
 /* A small composition server: a manager, three dictionary houses (expander, hyphenator, fit check)
  * and a loader share one machine. The loader's entries are taken back while the others go on, and
- * it tries to write with its old capability. Each call is one line: `code number tag` as `desk`
- * prints it, who does what, and the answer in words.
+ * it tries to write with its old capability. Two houses share a page, which stays until both have
+ * let go. Each call is one line: `code number tag` as `desk` prints it, who does what, and the
+ * answer in words.
  *
  *   cc examples/scene.c $(pkg-config --cflags --libs cetomuhi) -o scene && ./scene */
 #include <cetomuhi.h>
@@ -239,6 +240,30 @@ static void try_old_capabilities(struct server *server) {
     PLAY(one_by_one, server, steps);
 }
 
+/* A page that two houses need is claimed by a principal of each. */
+static void share_page(struct server *server) {
+    const struct step steps[] = {
+        {cetomuhi_create(MANAGER, 0, 1, 2, EXPANDER),
+         "The manager creates principal 1 with limit 2 for the expander"},
+        {cetomuhi_create(MANAGER, 0, 2, 1, HYPHENATOR),
+         "The manager creates principal 2 with limit 1 for the hyphenator"},
+        {cetomuhi_claim(EXPANDER, 1, 1), "The expander claims page 1, its own range"},
+        {cetomuhi_claim(HYPHENATOR, 2, 1), "The hyphenator, which reads there, claims page 1 too"},
+        {cetomuhi_claim(HYPHENATOR, 2, 2),
+         "The hyphenator tries to claim page 2, beyond its limit"},
+        {cetomuhi_unmap(MANAGER, 1), "The manager tries to unmap page 1, which both claim"},
+        {cetomuhi_release(EXPANDER, 1, 1), "The expander lets go of page 1"},
+        {cetomuhi_unmap(MANAGER, 1), "The manager tries to unmap page 1, which one still claims"},
+        {cetomuhi_load(HYPHENATOR, 1, 0, 2),
+         "The hyphenator loads the expanded entry, which is still there"},
+        {cetomuhi_destroy(EXPANDER, 2),
+         "The expander tries to destroy the principal of the hyphenator"},
+        {cetomuhi_destroy(MANAGER, 2), "The manager destroys principal 2"},
+        {cetomuhi_unmap(MANAGER, 1), "The manager unmaps page 1, which nobody claims now"},
+    };
+    PLAY(one_by_one, server, steps);
+}
+
 int main(void) {
     static struct server server;
     if (!cetomuhi_matches())
@@ -251,5 +276,6 @@ int main(void) {
     take_entries_back(&server);
     hand_entries_on(&server);
     try_old_capabilities(&server);
+    share_page(&server);
     return cetomuhi_state_well_formed(&server.state) ? 0 : 1;
 }

@@ -4,8 +4,8 @@
  * The functions of the library (section "The library") are total: they answer for all numbers,
  * bytes and lengths, and a refused call leaves every byte as it was. The inline functions after
  * them put pointers and lengths in their places; they are tested, not proved. "The document" is
- * document 01 with requests 2026-01, 2026-04 and 2026-05, whose numbers the commands and refusals
- * bear.
+ * document 01 with requests 2026-01, 2026-02, 2026-04 and 2026-05, whose numbers the commands and
+ * refusals bear.
  *
  * What a caller owes, here as with all C: pointers are valid and aligned for the lengths that go
  * with them, and what a function writes overlaps nothing else that it is handed. Nothing is kept
@@ -28,7 +28,7 @@ extern "C" {
 
 /* ---- Sizes ---- */
 
-#define CETOMUHI_VERSION 4         /* of this boundary; cetomuhi_version() is the library's */
+#define CETOMUHI_VERSION 5         /* of this boundary; cetomuhi_version() is the library's */
 #define CETOMUHI_PAGES 256         /* V is 1 to 256 */
 #define CETOMUHI_FRAMES 128        /* F is 1 to 128 */
 #define CETOMUHI_PAGE_CELLS 16     /* cells of a page and of a frame */
@@ -38,6 +38,9 @@ extern "C" {
 #define CETOMUHI_WORDS 64          /* registers of all parties */
 #define CETOMUHI_ROWS 64           /* reservations at most */
 #define CETOMUHI_NUMBERS 6         /* small numbers of a state */
+#define CETOMUHI_PRINCIPALS 32     /* 0 to 31; principal 0 is party 0's */
+#define CETOMUHI_COUNTS 8192       /* of claims: 256 for each principal */
+#define CETOMUHI_WHOLE_LIMIT 8192  /* what the limits of all principals add up to */
 #define CETOMUHI_ANSWER_NUMBERS 4  /* code, number, tag, used */
 #define CETOMUHI_CALL_NUMBERS 7    /* command, then operands */
 #define CETOMUHI_COMMAND_BYTES 11  /* of the longest command, 0E */
@@ -63,16 +66,21 @@ enum cetomuhi_kind {
     CETOMUHI_NUMBER = 0x0E,  /* party d value/8: register d holds the value, untagged */
     CETOMUHI_GRANT = 0x0F,   /* party s to: copies into the mailbox of `to` */
     CETOMUHI_RECEIVE = 0x10, /* party d: moves the caller's mailbox to d; answers it */
-    CETOMUHI_TAKE_MASKED = 0x11 /* party base/2 reg mask: a take with the permissions in mask */
+    CETOMUHI_TAKE_MASKED = 0x11, /* party base/2 reg mask: a take with the permissions in mask */
+    CETOMUHI_CREATE = 0x12,  /* party parent child limit/2 holder: a principal below the parent */
+    CETOMUHI_CLAIM = 0x13,   /* party principal page: it counts the page once more */
+    CETOMUHI_RELEASE = 0x14, /* party principal page: it counts the page once less */
+    CETOMUHI_DESTROY = 0x15  /* party principal: it and all below it, and their claims, are gone */
 };
 
-/* The code of an answer: the lowest number that applies. */
+/* The code of an answer: the first that applies, in the order of their numbers, but for 20 and 21,
+ * which come after 12, and 22, after 13. */
 enum cetomuhi_code {
     CETOMUHI_GRANTED = 0,
     CETOMUHI_REFUSED_ILL_FORMED = 1,  /* the state is not well formed, or V or F out of range */
     CETOMUHI_REFUSED_LENT_LENGTH = 2, /* the lent cells or tags are not 16 F in number */
     CETOMUHI_REFUSED_NO_COMMAND = 3,  /* no whole command stands at the place */
-    CETOMUHI_REFUSED_ABOVE_SEVEN = 4, /* a party, a `to` or a register is above 7 */
+    CETOMUHI_REFUSED_ABOVE_SEVEN = 4, /* a party, a `to`, a holder or a register is above 7 */
     CETOMUHI_REFUSED_NOT_MANAGER = 5, /* 05 to 0A are for party 0 alone */
     CETOMUHI_REFUSED_NOT_HELD = 6,    /* no reservation of the caller's begins at base */
     CETOMUHI_REFUSED_WRONG_RESERVATION = 7, /* not Open; Revoking; or nothing to merge with */
@@ -87,7 +95,10 @@ enum cetomuhi_code {
     CETOMUHI_REFUSED_NO_PERMISSION = 16,    /* the capability lacks the permission */
     CETOMUHI_REFUSED_OUT_OF_BOUNDS = 17,    /* outside the capability's cells */
     CETOMUHI_REFUSED_NOT_MAPPED = 18,       /* the page addressed is not Mapped */
-    CETOMUHI_REFUSED_MAILBOX = 19           /* the mailbox granted to is full, or one's own empty */
+    CETOMUHI_REFUSED_MAILBOX = 19,         /* the mailbox granted to is full, or one's own empty */
+    CETOMUHI_REFUSED_WRONG_PRINCIPAL = 20, /* not in being; not held as needed; or not free */
+    CETOMUHI_REFUSED_CLAIM_LIMIT = 21,     /* too little unspent; a count of 65,535; or one of 0 */
+    CETOMUHI_REFUSED_CLAIMED = 22          /* the page to unmap has a claim */
 };
 
 /* A refusal in words. */
@@ -113,6 +124,9 @@ static inline const char *cetomuhi_refusal_words(uint64_t code) {
         "the offset or the length is past the capability's end",
         "the addressed page is not Mapped",
         "the mailbox to grant to is full, or the one to receive from is empty",
+        "the principal is not in being or not held as needed, or its number is not free",
+        "too little limit is unspent, or the count is at its most, or at 0",
+        "the page has a claim",
     };
     return code < sizeof words / sizeof words[0] ? words[code] : "no answer of the machine";
 }
@@ -120,16 +134,17 @@ static inline const char *cetomuhi_refusal_words(uint64_t code) {
 /* A command's word: "take" for 0x01. */
 static inline const char *cetomuhi_kind_word(uint64_t kind) {
     static const char *const words[] = {
-        "no command", "take",    "split",  "merge", "give",    "revoke",
-        "sweep",      "collect", "map",    "unmap", "zero",    "load",
-        "store",      "narrow",  "number", "grant", "receive", "take masked",
+        "no command", "take",    "split",   "merge", "give",    "revoke",
+        "sweep",      "collect", "map",     "unmap", "zero",    "load",
+        "store",      "narrow",  "number",  "grant", "receive", "take masked",
+        "create",     "claim",   "release", "destroy",
     };
     return kind < sizeof words / sizeof words[0] ? words[kind] : words[0];
 }
 
 /* ---- A state, lent memory, a call, an answer ---- */
 
-/* The state: 1,816 bytes without padding, numbers in the processor's own byte order. All zero is
+/* The state: 18,456 bytes without padding, numbers in the processor's own byte order. All zero is
  * the document's all-zero state; a server keeps, copies and compares it as plain bytes. */
 typedef struct cetomuhi_state {
     uint64_t words[CETOMUHI_WORDS];     /* register d of party p at 8 p + d */
@@ -137,7 +152,10 @@ typedef struct cetomuhi_state {
     uint64_t rows[CETOMUHI_ROWS];       /* reservations in rising base: base in bits 0 to 15, length
                                            16 to 31, state 32 to 39, holder 40 to 47, taker 48 to
                                            55, the rest 0; an unused one is 0 */
+    uint64_t principals[CETOMUHI_PRINCIPALS]; /* unspent limit in bits 0 to 15, parent 16 to 23,
+                                           holder 24 to 31, bit 32 set; not in being: 0 */
     uint16_t pages[CETOMUHI_PAGES];     /* 0 Unmapped, 1 Freed, 2 + n Mapped to frame n */
+    uint16_t counts[CETOMUHI_COUNTS];   /* how often principal p claims page n at 256 p + n */
     uint16_t numbers[CETOMUHI_NUMBERS]; /* V, F, the count of rows, the sweep place, base and length
                                            of the range being revoked (0 and 0 if none is) */
     uint8_t marks[CETOMUHI_WORDS];      /* the registers' tags, 0 or 1 */
@@ -146,7 +164,7 @@ typedef struct cetomuhi_state {
     uint8_t unused[4];                  /* no part of the state; 0 after a start */
 } cetomuhi_state;
 
-CETOMUHI_ASSERT(sizeof(cetomuhi_state) == 1816, "the state has no padding");
+CETOMUHI_ASSERT(sizeof(cetomuhi_state) == 18456, "the state has no padding");
 
 /* Lent memory: 16 F cells and as many tags. Frame f begins at 16 f. */
 typedef struct cetomuhi_memory {
@@ -155,7 +173,7 @@ typedef struct cetomuhi_memory {
     size_t length; /* of cells, and of tags */
 } cetomuhi_memory;
 
-/* A state with memory of its own, for every F: 20,248 bytes. */
+/* A state with memory of its own, for every F: 36,888 bytes. */
 typedef struct cetomuhi_machine {
     cetomuhi_state state;
     uint64_t cells[CETOMUHI_MEMORY_CELLS];
@@ -179,15 +197,16 @@ CETOMUHI_ASSERT(sizeof(cetomuhi_answer) == CETOMUHI_ANSWER_NUMBERS * sizeof(uint
 
 /* ---- The library ----
  *
- * A slice is a pointer and a length. No pointer may be null, also where the length is 0. Eight
+ * A slice is a pointer and a length. No pointer may be null, also where the length is 0. Ten
  * slices are a state, with the lengths above; any other length is no state, which is refusal 1. */
 
-/* A state's eight slices, as the functions take them. */
+/* A state's ten slices, as the functions take them. */
 #define CETOMUHI_SLICES(state)                                                                     \
     (state)->numbers, CETOMUHI_NUMBERS, (state)->words, CETOMUHI_WORDS, (state)->marks,            \
         CETOMUHI_WORDS, (state)->mail, CETOMUHI_PARTIES, (state)->flags, CETOMUHI_PARTIES,         \
         (state)->rows, CETOMUHI_ROWS, (state)->pages, CETOMUHI_PAGES, (state)->frames,             \
-        CETOMUHI_FRAMES
+        CETOMUHI_FRAMES, (state)->principals, CETOMUHI_PRINCIPALS, (state)->counts,                \
+        CETOMUHI_COUNTS
 
 /* A fresh state of v virtual pages and f frames: 0. Refusal 1: the all-zero state is written, or
  * nothing if a length is wrong. */
@@ -195,7 +214,8 @@ uint8_t cetomuhi_start(uint64_t v, uint64_t f, uint16_t *numbers, size_t numbers
                        uint64_t *words, size_t words_len, uint8_t *marks, size_t marks_len,
                        uint64_t *mail, size_t mail_len, uint8_t *flags, size_t flags_len,
                        uint64_t *rows, size_t rows_len, uint16_t *pages, size_t pages_len,
-                       uint8_t *frames, size_t frames_len);
+                       uint8_t *frames, size_t frames_len, uint64_t *principals,
+                       size_t principals_len, uint16_t *counts, size_t counts_len);
 
 /* Whether the slices are a well-formed state. */
 bool cetomuhi_well_formed(const uint16_t *numbers, size_t numbers_len, const uint64_t *words,
@@ -203,7 +223,8 @@ bool cetomuhi_well_formed(const uint16_t *numbers, size_t numbers_len, const uin
                           const uint64_t *mail, size_t mail_len, const uint8_t *flags,
                           size_t flags_len, const uint64_t *rows, size_t rows_len,
                           const uint16_t *pages, size_t pages_len, const uint8_t *frames,
-                          size_t frames_len);
+                          size_t frames_len, const uint64_t *principals, size_t principals_len,
+                          const uint16_t *counts, size_t counts_len);
 
 /* The command that stands at `at`, the state tested first: 1, and code, number, tag and used come
  * first in `answers`. 0, and nothing is done, if `answers` is shorter than four. */
@@ -211,9 +232,10 @@ size_t cetomuhi_command(uint16_t *numbers, size_t numbers_len, uint64_t *words, 
                         uint8_t *marks, size_t marks_len, uint64_t *mail, size_t mail_len,
                         uint8_t *flags, size_t flags_len, uint64_t *rows, size_t rows_len,
                         uint16_t *pages, size_t pages_len, uint8_t *frames, size_t frames_len,
-                        uint64_t *cells, size_t cells_len, uint8_t *tags, size_t tags_len,
-                        const uint8_t *input, size_t input_len, size_t at, uint64_t *answers,
-                        size_t answers_len);
+                        uint64_t *principals, size_t principals_len, uint16_t *counts,
+                        size_t counts_len, uint64_t *cells, size_t cells_len, uint8_t *tags,
+                        size_t tags_len, const uint8_t *input, size_t input_len, size_t at,
+                        uint64_t *answers, size_t answers_len);
 
 /* The commands from `*at` on, the state tested once: how many were answered, with four numbers for
  * each; `*at` is then the place behind the last. It ends at the input's end, after a refusal 1 to 3
@@ -223,9 +245,10 @@ size_t cetomuhi_commands(uint16_t *numbers, size_t numbers_len, uint64_t *words,
                          uint8_t *marks, size_t marks_len, uint64_t *mail, size_t mail_len,
                          uint8_t *flags, size_t flags_len, uint64_t *rows, size_t rows_len,
                          uint16_t *pages, size_t pages_len, uint8_t *frames, size_t frames_len,
-                         uint64_t *cells, size_t cells_len, uint8_t *tags, size_t tags_len,
-                         const uint8_t *input, size_t input_len, size_t *at, uint64_t *answers,
-                         size_t answers_len);
+                         uint64_t *principals, size_t principals_len, uint16_t *counts,
+                         size_t counts_len, uint64_t *cells, size_t cells_len, uint8_t *tags,
+                         size_t tags_len, const uint8_t *input, size_t input_len, size_t *at,
+                         uint64_t *answers, size_t answers_len);
 
 /* A call's bytes, first in `out`: their length, or 0 and nothing written if the seven numbers are
  * no call or the bytes do not fit. */
@@ -238,7 +261,7 @@ size_t cetomuhi_read(const uint8_t *input, size_t input_len, size_t at, uint64_t
 
 uint64_t cetomuhi_version(void);
 
-/* The length of slice 0 to 7 of a state; 8: numbers of an answer; 9: numbers of a call; else 0. */
+/* The length of slice 0 to 9 of a state; 10: numbers of an answer; 11: of a call; else 0. */
 size_t cetomuhi_size(uint64_t which);
 
 /* Whether the library linked is the one that this header describes. */
@@ -246,7 +269,8 @@ static inline bool cetomuhi_matches(void) {
     static const size_t sizes[] = {
         CETOMUHI_NUMBERS,        CETOMUHI_WORDS,        CETOMUHI_WORDS, CETOMUHI_PARTIES,
         CETOMUHI_PARTIES,        CETOMUHI_ROWS,         CETOMUHI_PAGES, CETOMUHI_FRAMES,
-        CETOMUHI_ANSWER_NUMBERS, CETOMUHI_CALL_NUMBERS,
+        CETOMUHI_PRINCIPALS,     CETOMUHI_COUNTS,       CETOMUHI_ANSWER_NUMBERS,
+        CETOMUHI_CALL_NUMBERS,
     };
     bool same = cetomuhi_version() == CETOMUHI_VERSION;
     for (size_t which = 0; which < sizeof sizes / sizeof sizes[0]; which++)
@@ -322,6 +346,25 @@ static inline cetomuhi_call cetomuhi_receive(uint64_t party, uint64_t d) {
 static inline cetomuhi_call cetomuhi_take_masked(uint64_t party, uint64_t base, uint64_t reg,
                                                  uint64_t mask) {
     return cetomuhi_call_of(CETOMUHI_TAKE_MASKED, party, base, reg, mask);
+}
+/* Who holds the parent creates: the limit goes from the parent's, where it is unspent, to the
+ * child. */
+static inline cetomuhi_call cetomuhi_create(uint64_t party, uint64_t parent, uint64_t child,
+                                            uint64_t limit, uint64_t holder) {
+    const cetomuhi_call call = {{CETOMUHI_CREATE, party, parent, child, limit, holder, 0}};
+    return call;
+}
+/* Who holds the principal claims and releases. The first count of a page spends 1 of the limit, the
+ * last one gives it back; while a page has a claim, it is not unmapped. */
+static inline cetomuhi_call cetomuhi_claim(uint64_t party, uint64_t principal, uint64_t page) {
+    return cetomuhi_call_of(CETOMUHI_CLAIM, party, principal, page, 0);
+}
+static inline cetomuhi_call cetomuhi_release(uint64_t party, uint64_t principal, uint64_t page) {
+    return cetomuhi_call_of(CETOMUHI_RELEASE, party, principal, page, 0);
+}
+/* Who holds the principal's parent destroys it; the parent gets the limits, spent and unspent. */
+static inline cetomuhi_call cetomuhi_destroy(uint64_t party, uint64_t principal) {
+    return cetomuhi_call_of(CETOMUHI_DESTROY, party, principal, 0, 0);
 }
 
 /* A call's bytes, first in `out`: their length, or 0 as with cetomuhi_write. */
@@ -493,6 +536,15 @@ typedef struct cetomuhi_revocation {
     uint16_t place; /* the cells of lent memory that the sweep has passed */
 } cetomuhi_revocation;
 
+/* A principal; all 0 if it is not in being. Its limit is what it has spent and what is unspent. */
+typedef struct cetomuhi_principal {
+    bool in_being;
+    uint8_t holder;
+    uint8_t parent; /* of principal 0, which has none, 0 */
+    uint16_t spent; /* the pages that it claims */
+    uint16_t unspent;
+} cetomuhi_principal;
+
 /* How many virtual pages, frames and reservations the state has. */
 static inline size_t cetomuhi_page_count(const cetomuhi_state *state) {
     return state->numbers[0];
@@ -539,6 +591,24 @@ static inline cetomuhi_word cetomuhi_mailbox_at(const cetomuhi_state *state, siz
     const size_t at = there ? party : 0;
     const cetomuhi_word word = {there ? state->mail[at] : 0, there ? state->flags[at] : (uint8_t)0};
     return word;
+}
+
+/* How often a principal claims a page. */
+static inline uint16_t cetomuhi_count_at(const cetomuhi_state *state, size_t principal,
+                                         size_t page) {
+    const bool there = principal < CETOMUHI_PRINCIPALS && page < CETOMUHI_PAGES;
+    return there ? state->counts[CETOMUHI_PAGES * principal + page] : (uint16_t)0;
+}
+
+static inline cetomuhi_principal cetomuhi_principal_at(const cetomuhi_state *state,
+                                                       size_t principal) {
+    const uint64_t code = principal < CETOMUHI_PRINCIPALS ? state->principals[principal] : 0;
+    uint16_t spent = 0;
+    for (size_t page = 0; page < CETOMUHI_PAGES; page++)
+        spent = (uint16_t)(spent + (cetomuhi_count_at(state, principal, page) > 0));
+    const cetomuhi_principal it = {code >> 32 != 0, (uint8_t)(code >> 24 & 0xFF),
+                                   (uint8_t)(code >> 16 & 0xFF), spent, (uint16_t)(code & 0xFFFF)};
+    return it;
 }
 
 static inline cetomuhi_capability cetomuhi_capability_of(uint64_t cell) {

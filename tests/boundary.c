@@ -5,7 +5,7 @@
 /* ---- A state and memory with one entry to spare in each array, so that every length around the
  * right one may be lent ---- */
 
-enum { STATE_SLICES = 8, SLICES = 10, ANSWERS = 8 };
+enum { STATE_SLICES = 10, SLICES = 12, ANSWERS = 8 };
 
 struct wide {
     uint16_t numbers[CETOMUHI_NUMBERS + 1];
@@ -16,6 +16,8 @@ struct wide {
     uint64_t rows[CETOMUHI_ROWS + 1];
     uint16_t pages[CETOMUHI_PAGES + 1];
     uint8_t frames[CETOMUHI_FRAMES + 1];
+    uint64_t principals[CETOMUHI_PRINCIPALS + 1];
+    uint16_t counts[CETOMUHI_COUNTS + 1];
     uint64_t cells[CETOMUHI_MEMORY_CELLS + 1];
     uint8_t tags[CETOMUHI_MEMORY_CELLS + 1];
     uint64_t answers[ANSWERS];
@@ -25,8 +27,9 @@ struct wide {
 /* The slices of a wide state w, with the lengths n. */
 #define WIDE(w, n)                                                                                 \
     (w)->numbers, (n)[0], (w)->words, (n)[1], (w)->marks, (n)[2], (w)->mail, (n)[3], (w)->flags,   \
-        (n)[4], (w)->rows, (n)[5], (w)->pages, (n)[6], (w)->frames, (n)[7]
-#define LENT(w, n) (w)->cells, (n)[8], (w)->tags, (n)[9]
+        (n)[4], (w)->rows, (n)[5], (w)->pages, (n)[6], (w)->frames, (n)[7], (w)->principals,       \
+        (n)[8], (w)->counts, (n)[9]
+#define LENT(w, n) (w)->cells, (n)[10], (w)->tags, (n)[11]
 
 enum { FRAMES = 3 };
 
@@ -34,7 +37,7 @@ enum { FRAMES = 3 };
 static void right_lengths(size_t *lengths) {
     for (size_t which = 0; which < STATE_SLICES; which++)
         lengths[which] = cetomuhi_size(which);
-    lengths[8] = lengths[9] = CETOMUHI_PAGE_CELLS * FRAMES;
+    lengths[10] = lengths[11] = CETOMUHI_PAGE_CELLS * FRAMES;
 }
 
 /* Bytes that no function would write by chance, then a fresh state of V 4 and F 3. */
@@ -170,13 +173,19 @@ static void test_start(void) {
         CHECK(all.state == CETOMUHI_OPEN && all.holder == 0 && all.taker == CETOMUHI_TAKER_NONE);
         CHECK(state.rows[0] == ((UINT64_C(9) << 48) + 1048576 * starts[i].v));
         CHECK(state.rows[1] == 0 && state.rows[63] == 0);
+        CHECK(state.principals[0] == UINT64_C(4294975488));
+        for (size_t p = 1; p < CETOMUHI_PRINCIPALS; p++)
+            CHECK(state.principals[p] == 0);
+        CHECK(memcmp(state.counts, zero.counts, sizeof state.counts) == 0);
     }
 }
 
 static void test_sizes(void) {
     CHECK(cetomuhi_matches());
-    CHECK(cetomuhi_version() == 4);
-    for (uint64_t which = 10; which < 300; which++)
+    CHECK(cetomuhi_version() == 5);
+    CHECK(cetomuhi_size(8) == 32 && cetomuhi_size(9) == 8192);
+    CHECK(cetomuhi_size(10) == 4 && cetomuhi_size(11) == 7);
+    for (uint64_t which = 12; which < 300; which++)
         CHECK(cetomuhi_size(which) == 0);
     CHECK(cetomuhi_size(UINT64_MAX) == 0);
 }
@@ -217,6 +226,21 @@ static void test_well_formed(void) {
     SPOILT(pages[4], 1)
     SPOILT(frames[0], 2)
     SPOILT(frames[3], 1)
+    SPOILT(principals[0], 0)
+    SPOILT(principals[0], principal_of(0, 0, 8191))
+    SPOILT(principals[0], principal_of(1, 0, 8192))
+    SPOILT(principals[0], principal_of(0, 1, 8192))
+    SPOILT(principals[0], 8192)
+    SPOILT(principals[0], principal_of(0, 0, 8192) + (UINT64_C(1) << 33))
+    SPOILT(principals[1], principal_of(0, 1, 0))
+    SPOILT(principals[1], principal_of(0, 2, 0))
+    SPOILT(principals[1], principal_of(8, 0, 0))
+    SPOILT(principals[1], principal_of(0, 32, 0))
+    SPOILT(principals[1], principal_of(0, 0, 1))
+    SPOILT(principals[31], 1)
+    SPOILT(principals[31], UINT64_C(1) << 63)
+    SPOILT(counts[0], 1)
+    SPOILT(counts[CETOMUHI_COUNTS - 1], 1)
 #undef SPOILT
     state = fresh;
     state.words[63] = UINT64_MAX;
@@ -260,10 +284,11 @@ static void test_takers(void) {
 /* ---- Calls to bytes and back ---- */
 
 /* Widths of the operands, from the document's list of commands. */
-static const uint8_t widths[18][7] = {
+static const uint8_t widths[22][7] = {
     {0},       {1, 2, 1}, {1, 2, 2}, {1, 2},       {1, 2, 1},    {1, 2},       {1, 2},
     {1},       {1, 1, 1}, {1, 1},    {1, 1},       {1, 1, 2, 1}, {1, 1, 2, 1}, {1, 1, 2, 2, 1, 1},
-    {1, 1, 8}, {1, 1, 1}, {1, 1},    {1, 2, 1, 1},
+    {1, 1, 8}, {1, 1, 1}, {1, 1},    {1, 2, 1, 1}, /* 11 */
+    {1, 1, 1, 2, 1},      {1, 1, 1}, {1, 1, 1},    {1, 1},
 };
 
 /* Operand i of a call: all zero, the largest, or bytes that differ. */
@@ -340,7 +365,7 @@ static void test_round_trips(void) {
 static void test_no_calls(void) {
     uint8_t out[16] = {0};
     uint64_t numbers[8] = {CETOMUHI_COLLECT, 0, 0, 0, 0, 0, 0, 5};
-    const uint64_t kinds[] = {0, 18, 255, 256, 257, UINT64_MAX};
+    const uint64_t kinds[] = {0, 22, 255, 256, 257, UINT64_MAX};
     for (size_t i = 0; i < COUNT(kinds); i++) {
         const cetomuhi_call call = {{kinds[i], 0, 0, 0, 0, 0, 0}};
         const uint8_t byte[12] = {(uint8_t)kinds[i]};

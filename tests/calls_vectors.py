@@ -24,6 +24,10 @@ COMMANDS = """
 0F grant P s to
 10 receive P d
 11 take P base/2 reg mask
+12 create P parent child limit/2 holder
+13 claim P principal page
+14 release P principal page
+15 destroy P principal
 """
 BUFFER, KEPT = 12, "ee"
 

@@ -22,6 +22,11 @@ static void check(bool holds, const char *claim, const char *file, int line) {
     failures++;
 }
 
+/* The number of a principal in being. */
+static inline uint64_t principal_of(uint64_t holder, uint64_t parent, uint64_t unspent) {
+    return unspent | parent << 16 | holder << 24 | UINT64_C(1) << 32;
+}
+
 /* The exit status of the program. */
 static int end(const char *name) {
     printf("%s: %lu claims hold, %lu do not\n", name, checks - failures, failures);

@@ -215,7 +215,21 @@ REFUSED = [
     ("05 00 0010", None),
     ("05 00 0010", "it is Revoking already"),
     ("05 00 0000", "a revocation runs already"),
-    ("12", "12 is no command"),
+    ("12 00 00 01 0000 08", "there is no party 8"),
+    ("12 01 00 01 0000 01", "party 1 holds no principal 0, or 1 is taken or above 31"),
+    ("12 00 00 00 0000 01", "party 0 holds no principal 0, or 0 is taken or above 31"),
+    ("12 00 00 01 2001 01", "principal 0 has less than 8193 unspent"),
+    ("12 00 00 01 0001 03", None),
+    ("13 03 01 02", "there is no page 2"),
+    ("13 00 01 00", "party 0 holds no principal 1"),
+    ("13 03 01 00", None),
+    ("13 03 01 01", "principal 1 has nothing unspent, or its count is 65,535"),
+    ("14 03 01 02", "there is no page 2"),
+    ("14 03 02 00", "party 3 holds no principal 2"),
+    ("14 03 01 01", "principal 1 does not claim the page"),
+    ("09 00 00", "the page has a claim"),
+    ("15 03 01", "there is no such principal, or party 3 does not hold its parent"),
+    ("16", "16 is no command"),
 ]
 
 
@@ -276,7 +290,11 @@ SAID = {
     "frames": r"Dirty|Free|Mapped",
     "registers": CAPABILITY + r"|number \d+, tag 0",
     "mailboxes": CAPABILITY,
+    "principals": r"held by party [0-7], (below \d+, )?limit \d+, unspent \d+",
+    "claims": r"principal \d+, count [1-9]\d*",
 }
+LIMITS = re.compile(r"held by party \d, (?:below (\d+), )?limit (\d+), unspent (\d+)")
+PAGES = re.compile(r"pages? (\d+)(?: to (\d+))?")
 
 
 def spanned(pattern, text):
@@ -348,6 +366,74 @@ TAKERS = [
 ]
 
 
+# By hand, from request 2026-02: commands after a start with V 6 and F 1, and below each the rows of
+# principals and claims that there are then.
+CLAIMED = """\
+13 00 00 05
+    0: held by party 0, limit 8192, unspent 8191
+    page 5: principal 0, count 1
+14 00 00 05
+12 00 00 02 000A 03
+    0: held by party 0, limit 8182, unspent 8182
+    2: held by party 3, below 0, limit 10, unspent 10
+12 03 02 01 0004 05
+    0: held by party 0, limit 8182, unspent 8182
+    1: held by party 5, below 2, limit 4, unspent 4
+    2: held by party 3, below 0, limit 6, unspent 6
+13 05 01 00
+    0: held by party 0, limit 8182, unspent 8182
+    1: held by party 5, below 2, limit 4, unspent 3
+    2: held by party 3, below 0, limit 6, unspent 6
+    page 0: principal 1, count 1
+13 05 01 02
+    0: held by party 0, limit 8182, unspent 8182
+    1: held by party 5, below 2, limit 4, unspent 2
+    2: held by party 3, below 0, limit 6, unspent 6
+    page 0: principal 1, count 1
+    page 2: principal 1, count 1
+13 05 01 01
+    0: held by party 0, limit 8182, unspent 8182
+    1: held by party 5, below 2, limit 4, unspent 1
+    2: held by party 3, below 0, limit 6, unspent 6
+    pages 0 to 2: principal 1, count 1
+13 05 01 01
+    0: held by party 0, limit 8182, unspent 8182
+    1: held by party 5, below 2, limit 4, unspent 1
+    2: held by party 3, below 0, limit 6, unspent 6
+    page 0: principal 1, count 1
+    page 1: principal 1, count 2
+    page 2: principal 1, count 1
+13 03 02 01
+    0: held by party 0, limit 8182, unspent 8182
+    1: held by party 5, below 2, limit 4, unspent 1
+    2: held by party 3, below 0, limit 6, unspent 5
+    page 0: principal 1, count 1
+    page 1: principal 1, count 2
+    page 2: principal 1, count 1
+    page 1: principal 2, count 1
+14 05 01 00
+    0: held by party 0, limit 8182, unspent 8182
+    1: held by party 5, below 2, limit 4, unspent 2
+    2: held by party 3, below 0, limit 6, unspent 5
+    page 1: principal 1, count 2
+    page 2: principal 1, count 1
+    page 1: principal 2, count 1
+15 03 01
+    0: held by party 0, limit 8182, unspent 8182
+    2: held by party 3, below 0, limit 10, unspent 9
+    page 1: principal 2, count 1
+12 00 00 1F 1FF6 00
+    0: held by party 0, limit 0, unspent 0
+    2: held by party 3, below 0, limit 10, unspent 9
+    31: held by party 0, below 0, limit 8182, unspent 8182
+    page 1: principal 2, count 1
+15 00 02
+    0: held by party 0, limit 10, unspent 10
+    31: held by party 0, below 0, limit 8182, unspent 8182
+15 00 1F
+"""
+
+
 class State(Case):
     def tables(self, text):
         """A table's rows by its words."""
@@ -360,10 +446,28 @@ class State(Case):
         self.assertEqual(list(found), [word for word in SAID if word in found])
         return found
 
+    def limits_agree(self, found, v):
+        """The limits add up to 8,192, parents are in being, and pages claimed are what is spent."""
+        rows = found.get("principals", [])
+        limits = {int(p): LIMITS.fullmatch(said).groups() for p, said in rows}
+        parents = {int(parent) for parent, _, _ in limits.values() if parent}
+        self.assertLessEqual(parents, {*limits})
+        self.assertEqual([p for p in limits if not limits[p][0]], [0] if limits else [])
+        total = sum(int(limit) for _, limit, _ in limits.values())
+        self.assertEqual(total, 8192 if limits else 0)
+        spent = dict.fromkeys(limits, 0)
+        for thing, said in found.get("claims", []):
+            pages = spanned(PAGES, thing)
+            self.assertLess(max(pages), v)
+            spent[int(said.split()[1].rstrip(","))] += len(pages)
+        left = {p: int(limit) - int(unspent) for p, (_, limit, unspent) in limits.items()}
+        self.assertEqual(spent, left)
+
     def agrees(self, text, v, f):
-        """The rows cover each cell, page and frame once, and say the same of Mapped frames and of
-        a revocation."""
+        """The rows cover each cell, page and frame once, and say the same of Mapped frames, of a
+        revocation and of limits."""
         found = self.tables(text)
+        self.limits_agree(found, v)
         cells = [n for thing, _ in found["reservations"] for n in spanned(CELLS, thing)]
         pages = [n for thing, _ in found["pages"] for n in spanned(RANGE, thing)]
         frames = [n for thing, _ in found["frames"] for n in spanned(RANGE, thing)]
@@ -442,6 +546,21 @@ class State(Case):
             rows = [f"{thing}: {said}" for thing, said in self.tables(table)["reservations"]]
             self.assertIn(f"cells {expected}", rows, command)
             self.agrees(table, 6, 1)
+
+    def test_claims(self):
+        commands = re.findall("(?m)^[0-9A-F].*", CLAIMED)
+        path = self.session("0006 01\n" + "\n".join(commands))
+        status, output, error = desk(path, "--state")
+        self.assertEqual((status, error), (0, ""))
+        lines, tables = split_tables(output)
+        self.assertEqual(lines, ["0 0 0"] * (1 + len(commands)))
+        shown = ""
+        for command, table in zip(commands, tables[1:], strict=True):
+            found = self.tables(table)
+            rows = found.get("principals", []) + found.get("claims", [])
+            shown += f"{command}\n" + "".join(f"    {thing}: {said}\n" for thing, said in rows)
+            self.agrees(table, 6, 1)
+        self.assertEqual(shown, CLAIMED)
 
 
 if __name__ == "__main__":

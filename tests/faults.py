@@ -1,10 +1,11 @@
 #!/usr/bin/env python3
-"""Shows that the checklist's sessions catch its faults, and those of requests 2026-01 and 2026-05 theirs.
+"""Shows that the checklist's sessions catch its faults, and those of requests 2026-01, 2026-02 and 2026-05 theirs.
 
 Puts one fault after another into a copy of the plain implementation in bench/ and runs sessions/
 over it. Each fault must make the sessions that are named with it print something else. No line
-shows a taker, or the tag that a load leaves in memory while a revocation runs, so that none of these
-faults is about one: bench/tests/rules.rs and bench/tests/loads.rs look at them.
+shows a taker, or the tag that a load leaves in memory while a revocation runs, and no session is long
+enough for a count of 65,535, so that none of these faults is about one: bench/tests/rules.rs, loads.rs
+and claims.rs look at them.
 """
 
 import pathlib
@@ -213,6 +214,125 @@ FAULTS = [
         "stored.tag && !cap::allows(through, cap::STORE_CAPABILITY)",
         "stored.tag && through == 0",
         ["take-masked-plain", "take-masked-each"],
+    ),
+    (
+        "an unmap does not look at claims",
+        "pages.rs",
+        "if is_claimed(page) {",
+        "if is_claimed(page) && page == PAGES {",
+        ["claims-front-matter", "claims-depth", "claims-refusals"],
+    ),
+    (
+        "an unmap looks at the claims of principal 0 alone",
+        "claims.rs",
+        "self.counts.iter().any(|counts| counts[page] > 0)",
+        "self.counts[0][page] > 0",
+        ["claims-front-matter", "claims-depth", "claims-refusals"],
+    ),
+    (
+        "22 is judged before 13",
+        "step.rs",
+        "self.pages.unmap(page, |page| self.claims.is_claimed(page))?;",
+        "refuse_if(self.claims.is_claimed(page.into()), Refusal::Claimed)?; self.pages.unmap(page, |_| false)?;",
+        ["claims-front-matter", "claims-refusals"],
+    ),
+    (
+        "a create leaves the parent its limit",
+        "claims.rs",
+        "payer.unspent = payer.unspent.checked_sub(limit)",
+        "let _ = payer.unspent.checked_sub(limit)",
+        ["claims-limits", "claims-refusals"],
+    ),
+    (
+        "a create takes a number that is taken",
+        "claims.rs",
+        "if !is_free {",
+        "if !is_free && usize::from(child) >= PRINCIPALS {",
+        ["claims-depth", "claims-refusals"],
+    ),
+    (
+        "party 0 holds every principal",
+        "claims.rs",
+        "if principal.holder == party => Ok(principal),",
+        "if principal.holder == party || party == 0 => Ok(principal),",
+        ["claims-depth", "claims-refusals"],
+    ),
+    (
+        "a claim spends at every count",
+        "claims.rs",
+        "if *count == 0 {\n            principal.unspent = ",
+        "{\n            principal.unspent = ",
+        ["claims-limits"],
+    ),
+    (
+        "a claim spends nothing",
+        "claims.rs",
+        "principal.unspent = principal.unspent.checked_sub(1).ok_or(Refusal::ClaimLimit)?;",
+        "let _ = principal;",
+        ["claims-limits", "claims-depth", "claims-refusals"],
+    ),
+    (
+        "a claim is granted for a page at V",
+        "step.rs",
+        "let page = self.pages.named_page(page)?;\n        self.claims.claim(",
+        "let page = page.into();\n        self.claims.claim(",
+        ["claims-refusals"],
+    ),
+    (
+        "a release gives nothing back",
+        "claims.rs",
+        "principal.unspent += 1;",
+        "let _ = principal;",
+        ["claims-limits"],
+    ),
+    (
+        "a release lets go of all counts of the page",
+        "claims.rs",
+        "*count = count.checked_sub(1).ok_or(Refusal::ClaimLimit)?;",
+        "count.checked_sub(1).ok_or(Refusal::ClaimLimit)?; *count = 0;",
+        ["claims-front-matter", "claims-limits"],
+    ),
+    (
+        "a release at 0 is granted",
+        "claims.rs",
+        "*count = count.checked_sub(1).ok_or(Refusal::ClaimLimit)?;",
+        "*count = count.saturating_sub(1);",
+        ["claims-front-matter", "claims-limits", "claims-depth", "claims-refusals"],
+    ),
+    (
+        "a destroy is for who holds the principal",
+        "claims.rs",
+        "held(&mut self.principals, party, parent)?;\n        let family",
+        "held(&mut self.principals, party, number)?;\n        let family",
+        ["claims-front-matter", "claims-depth", "claims-refusals"],
+    ),
+    (
+        "a destroy leaves the descendants",
+        "claims.rs",
+        "let family = self.family(number);",
+        "let family = 1 << number;",
+        ["claims-limits", "claims-depth"],
+    ),
+    (
+        "a destroy leaves the claims",
+        "claims.rs",
+        "counts.fill(0);",
+        "",
+        ["claims-front-matter", "claims-depth", "claims-refusals"],
+    ),
+    (
+        "a destroy returns what is unspent alone",
+        "claims.rs",
+        "returned += spent(counts) + entry",
+        "returned += entry",
+        ["claims-limits", "claims-depth"],
+    ),
+    (
+        "a destroy returns nothing",
+        "claims.rs",
+        "?.unspent += returned;",
+        "?.unspent += returned & 0;",
+        ["claims-limits", "claims-depth"],
     ),
 ]
 

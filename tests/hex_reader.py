@@ -76,6 +76,11 @@ class Words(unittest.TestCase):
             "10 01 02": "party 1 receives into register 2",
             "11 01 0102 03 04": "party 1 takes the reservation at cell 258 into register 3 "
             "with mask 4",
+            "12 01 02 03 0405 06": "party 1 creates principal 3 below principal 2 with limit 1029 "
+            "for party 6",
+            "13 01 02 03": "party 1 claims page 3 for principal 2",
+            "14 01 02 03": "party 1 releases page 3 for principal 2",
+            "15 01 02": "party 1 destroys principal 2",
         }
         text = "0100 80\n" + "\n".join(commands)
         self.assertEqual(self.words(text), ["start with V 256 and F 128", *commands.values()])
@@ -83,10 +88,11 @@ class Words(unittest.TestCase):
     def test_where_a_session_ends(self):
         start = "start with V 1 and F 1"
         self.assertEqual(self.words("0001"), ["start, cut short"])
-        self.assertEqual(self.words("000101 12 0700"), [start, "12 is no command"])
+        self.assertEqual(self.words("000101 16 0700"), [start, "16 is no command"])
         self.assertEqual(self.words("000101 0B 00"), [start, "the input ends within command 0B"])
-        words = self.words("000101 11 00 0000 00")
-        self.assertEqual(words, [start, "the input ends within command 11"])
+        for cut in ("11 00 0000 00", "12 00 00 01 0000", "13 00 00", "14 00 00", "15 00"):
+            words = self.words(f"000101 {cut}")
+            self.assertEqual(words, [start, f"the input ends within command {cut[:2]}"])
 
     def test_no_byte_beyond_the_limit(self):
         words = self.words("000101" + "0700" * 20000)
@@ -127,6 +133,35 @@ class Explained(unittest.TestCase):
         )
         data = "000101 11080000090F 110100000000 1100000000F0"
         self.assertEqual(self.explained(data, lines), (0, expected, ""))
+
+    def test_refusals_of_calls_on_claims(self):
+        calls = [
+            ("12 08 00 01 0000 09", "4", "there is no party 8 and no party 9"),
+            ("12 01 02 00 0000 00", "20", "party 1 holds no principal 2, or 0 is taken or above 31"),
+            ("12 00 00 01 2001 00", "21", "principal 0 has less than 8193 unspent"),
+            ("13 08 00 00", "4", "there is no party 8"),
+            ("13 00 00 01", "12", "there is no page 1"),
+            ("13 01 02 00", "20", "party 1 holds no principal 2"),
+            ("13 00 00 00", "21", "principal 0 has nothing unspent, or its count is 65,535"),
+            ("14 08 00 00", "4", "there is no party 8"),
+            ("14 00 00 01", "12", "there is no page 1"),
+            ("14 01 02 00", "20", "party 1 holds no principal 2"),
+            ("14 00 00 00", "21", "principal 0 does not claim the page"),
+            ("15 08 00", "4", "there is no party 8"),
+            ("15 00 00", "20", "there is no such principal, or party 0 does not hold its parent"),
+            ("09 00 00", "22", "the page has a claim"),
+        ]
+        data = "000101" + "".join(call for call, _, _ in calls)
+        lines = "0 0 0\n" + "".join(f"{code} 0 0\n" for _, code, _ in calls)
+        status, output, error = self.explained(data, lines)
+        self.assertEqual((status, error), (0, ""))
+        reasons = [line.split("refused: ")[1] for line in output.splitlines()[1:]]
+        self.assertEqual(reasons, [reason for _, _, reason in calls])
+
+    def test_refusals_that_a_command_has_not(self):
+        for data, code in (("15 00 00", 21), ("12 00 00 01 0000 00", 12), ("08 00 00 00", 22)):
+            status, _, error = self.explained(f"000101 {data}", f"0 0 0\n{code} 0 0\n")
+            self.assertEqual((status, error.strip()), (1, f"{data[:2]} has no refusal {code}"))
 
     def test_other_lines_stay(self):
         lines = "0 0 0\n    a table's line, longer than the answers\n\n0 0 0\n"

@@ -1,39 +1,9 @@
 /* Tests of calls through the inline functions of cetomuhi.h: document 01's session, what the two
  * takes give, who took a reservation, every refusal with every byte kept, random histories in which
- * a run equals single commands, showing a state.
+ * a run equals single commands, showing a state. Claims are in claims.c, but for random ones.
  *
  *   histories [ROUNDS]    ROUNDS random histories, 200 if not given */
-#include "check.h"
-
-static bool seen[20];
-
-/* Makes a call. The code and the number are those given; a refused one keeps every byte; the state
- * is well formed after it. */
-static void expect(cetomuhi_machine *machine, cetomuhi_call call, uint64_t code, uint64_t number) {
-    static cetomuhi_machine before;
-    uint8_t bytes[CETOMUHI_COMMAND_BYTES];
-    const size_t length = cetomuhi_call_write(call, bytes, sizeof bytes);
-    before = *machine;
-    const cetomuhi_answer answer = cetomuhi_machine_call(machine, call);
-    CHECK(answer.code == code);
-    CHECK(answer.number == number);
-    CHECK(answer.used == length);
-    CHECK(cetomuhi_machine_well_formed(machine));
-    if (answer.code != CETOMUHI_GRANTED) {
-        CHECK(answer.tag == 0);
-        CHECK(memcmp(machine, &before, sizeof before) == 0);
-    }
-    if (answer.code < COUNT(seen))
-        seen[answer.code] = true;
-}
-
-static void grant(cetomuhi_machine *machine, cetomuhi_call call) {
-    expect(machine, call, CETOMUHI_GRANTED, 0);
-}
-
-static void refuse(cetomuhi_machine *machine, cetomuhi_call call, uint64_t code) {
-    expect(machine, call, code, 0);
-}
+#include "expect.h"
 
 /* ---- Document 01's session ---- */
 
@@ -210,7 +180,8 @@ static void lend_nothing(cetomuhi_machine *machine) {
     refuse(machine, cetomuhi_zero(256, 0), CETOMUHI_REFUSED_NO_COMMAND);
     refuse(machine, cetomuhi_take(0, 65536, 0), CETOMUHI_REFUSED_NO_COMMAND);
     refuse(machine, cetomuhi_take_masked(0, 0, 0, 256), CETOMUHI_REFUSED_NO_COMMAND);
-    refuse(machine, cetomuhi_call_of(18, 0, 0, 0, 0), CETOMUHI_REFUSED_NO_COMMAND);
+    refuse(machine, cetomuhi_create(0, 0, 1, 65536, 0), CETOMUHI_REFUSED_NO_COMMAND);
+    refuse(machine, cetomuhi_call_of(22, 0, 0, 0, 0), CETOMUHI_REFUSED_NO_COMMAND);
 }
 
 /* 4 and 5. */
@@ -264,6 +235,15 @@ static void wrong_page(cetomuhi_machine *m) {
     refuse(m, cetomuhi_revoke(0, 0), CETOMUHI_REFUSED_WRONG_PAGE);
 }
 
+/* 20 to 22; page 0 is Mapped. */
+static void wrong_claim(cetomuhi_machine *m) {
+    refuse(m, cetomuhi_claim(1, 0, 0), CETOMUHI_REFUSED_WRONG_PRINCIPAL);
+    refuse(m, cetomuhi_release(0, 0, 0), CETOMUHI_REFUSED_CLAIM_LIMIT);
+    grant(m, cetomuhi_claim(0, 0, 0));
+    refuse(m, cetomuhi_unmap(0, 0), CETOMUHI_REFUSED_CLAIMED);
+    grant(m, cetomuhi_release(0, 0, 0));
+}
+
 /* 15 to 19; party 1 has cells 0 to 15 in register 0, to load and store numbers. */
 static void wrong_word(cetomuhi_machine *m) {
     refuse(m, cetomuhi_load(1, 1, 0, 2), CETOMUHI_REFUSED_UNTAGGED);
@@ -315,6 +295,7 @@ static void test_refusals_and_showing(void) {
     wrong_caller(&m);
     wrong_reservation(&m);
     wrong_page(&m);
+    wrong_claim(&m);
     wrong_word(&m);
     wrong_order(&m);
     fill_table();
@@ -340,16 +321,17 @@ static void test_refusals_and_showing(void) {
 
 /* Every code, kind and state has words of its own. */
 static void test_words(void) {
-    for (uint64_t code = 0; code < 20; code++)
-        for (uint64_t other = code + 1; other < 21; other++)
+    for (uint64_t code = 0; code < 23; code++)
+        for (uint64_t other = code + 1; other < 24; other++)
             CHECK(strcmp(cetomuhi_refusal_words(code), cetomuhi_refusal_words(other)) != 0);
     CHECK(strcmp(cetomuhi_kind_word(CETOMUHI_TAKE), "take") == 0);
-    for (uint64_t kind = 0; kind <= CETOMUHI_TAKE_MASKED; kind++)
-        for (uint64_t other = kind + 1; other <= CETOMUHI_TAKE_MASKED; other++)
+    for (uint64_t kind = 0; kind <= CETOMUHI_DESTROY; kind++)
+        for (uint64_t other = kind + 1; other <= CETOMUHI_DESTROY; other++)
             CHECK(strcmp(cetomuhi_kind_word(kind), cetomuhi_kind_word(other)) != 0);
     CHECK(strcmp(cetomuhi_kind_word(CETOMUHI_RECEIVE), "receive") == 0);
     CHECK(strcmp(cetomuhi_kind_word(CETOMUHI_TAKE_MASKED), "take masked") == 0);
-    CHECK(strcmp(cetomuhi_kind_word(CETOMUHI_TAKE_MASKED + 1), cetomuhi_kind_word(0)) == 0);
+    CHECK(strcmp(cetomuhi_kind_word(CETOMUHI_DESTROY), "destroy") == 0);
+    CHECK(strcmp(cetomuhi_kind_word(CETOMUHI_DESTROY + 1), cetomuhi_kind_word(0)) == 0);
     CHECK(strcmp(cetomuhi_kind_word(UINT64_MAX), cetomuhi_kind_word(0)) == 0);
     CHECK(strcmp(cetomuhi_reservation_word(CETOMUHI_REVOKING), "Revoking") == 0);
     CHECK(strcmp(cetomuhi_page_word(CETOMUHI_PAGE_FREED), "Freed") == 0);
@@ -369,9 +351,29 @@ static uint64_t below(uint64_t limit) {
     return (seed >> 11) % limit;
 }
 
+/* A call on a principal below 6, mostly by its holder or its parent's. */
+static cetomuhi_call random_claim(const cetomuhi_state *state, uint64_t kind) {
+    const uint64_t principal = below(20) ? below(6) : below(40);
+    const cetomuhi_principal it = cetomuhi_principal_at(state, principal);
+    const cetomuhi_principal above = cetomuhi_principal_at(state, it.parent);
+    const uint64_t has_say = kind == CETOMUHI_DESTROY ? above.holder : it.holder;
+    const uint64_t party = below(6) ? has_say : below(9);
+    const uint64_t page = below(20) ? below(3) : below(9);
+    switch (kind) {
+    case CETOMUHI_CREATE:
+        return cetomuhi_create(party, principal, below(6), below(6), below(30) ? below(3) : 8);
+    case CETOMUHI_DESTROY:
+        return cetomuhi_destroy(party, principal);
+    default:
+        return cetomuhi_call_of(kind, party, principal, page, 0);
+    }
+}
+
 /* A call that is often granted on the state: it names a reservation by its base and holder. */
 static cetomuhi_call random_call(const cetomuhi_state *state) {
-    const uint64_t kind = below(40) ? 1 + below(17) : below(21);
+    const uint64_t kind = below(40) ? 1 + below(21) : below(25);
+    if (kind >= CETOMUHI_CREATE && kind <= CETOMUHI_DESTROY)
+        return random_claim(state, kind);
     const cetomuhi_reservation row =
         cetomuhi_reservation_at(state, below(cetomuhi_row_count(state)));
     const bool of_row = kind <= CETOMUHI_REVOKE || kind == CETOMUHI_TAKE_MASKED;

@@ -175,6 +175,50 @@ static void show_mailboxes(const cetomuhi_state *state)
     }
 }
 
+/* Principal 0 is the only one and claims no page, as at a start. */
+static bool only_0(const cetomuhi_state *state)
+{
+    for (size_t p = 1; p < CETOMUHI_PRINCIPALS; p++)
+        if (cetomuhi_principal_at(state, p).in_being)
+            return false;
+    return cetomuhi_principal_at(state, 0).spent == 0;
+}
+
+static void show_principals(const cetomuhi_state *state)
+{
+    const char *word = "principals";
+    if (only_0(state))
+        return;
+    for (size_t p = 0; p < CETOMUHI_PRINCIPALS; p++) {
+        const cetomuhi_principal it = cetomuhi_principal_at(state, p);
+        if (!it.in_being)
+            continue;
+        row(&word);
+        fill(printf("%zu", p));
+        printf("held by party %u, ", it.holder);
+        if (p > 0)
+            printf("below %u, ", it.parent);
+        printf("limit %u, unspent %u\n", it.spent + it.unspent, it.unspent);
+    }
+}
+
+/* Pages beside each other with the same count of a principal in one row. */
+static void show_claims(const cetomuhi_state *state)
+{
+    const char *word = "claims";
+    for (size_t p = 0; p < CETOMUHI_PRINCIPALS; p++)
+        for (size_t first = 0, next = 1; first < CETOMUHI_PAGES; first = next++) {
+            const unsigned count = cetomuhi_count_at(state, p, first);
+            if (count == 0)
+                continue;
+            while (next < CETOMUHI_PAGES && cetomuhi_count_at(state, p, next) == count)
+                next++;
+            row(&word);
+            fill(named_range("page", first, next - 1));
+            printf("principal %zu, count %u\n", p, count);
+        }
+}
+
 static void show_state(const cetomuhi_state *state)
 {
     if (cetomuhi_page_count(state) == 0)
@@ -185,6 +229,8 @@ static void show_state(const cetomuhi_state *state)
     show_frames(state);
     show_registers(state);
     show_mailboxes(state);
+    show_principals(state);
+    show_claims(state);
 }
 
 /* ---- The session ---- */
@@ -211,7 +257,7 @@ static bool goes_on(cetomuhi_answer answer)
 static void run(const uint8_t *input, size_t length, bool each)
 {
     static cetomuhi_machine machine;
-    cetomuhi_state before;
+    static cetomuhi_state before;
     cetomuhi_answer answer = start(&machine, input, length);
     size_t at = START;
     show_answer(answer);

@@ -1,6 +1,7 @@
 //! Sessions from a seed: long and short, whole and damaged, most of their calls granted.
 
 mod any_call;
+mod claims;
 mod granted;
 mod memory;
 mod random;
@@ -26,7 +27,7 @@ pub fn session(seed: u64) -> Vec<u8> {
     }
 }
 
-/// An undamaged session of the given size, of `bytes` bytes or at most 500 more.
+/// An undamaged session of the given size, of `bytes` bytes or at most 600 more.
 pub fn productive(seed: u64, v: u16, f: u8, bytes: usize) -> Vec<u8> {
     Author::new(Random::new(seed), v, f).write(bytes)
 }
@@ -39,7 +40,7 @@ fn whole(random: &mut Random, bytes: usize) -> Vec<u8> {
 
 fn few_bytes(random: &mut Random) -> Vec<u8> {
     let mut bytes = vec![0, 1 + random.below(8) as u8, 1 + random.below(8) as u8];
-    bytes.extend((0..12).map(|_| random.below(19) as u8));
+    bytes.extend((0..12).map(|_| random.below(23) as u8));
     bytes.truncate(random.below(12));
     bytes
 }
@@ -102,7 +103,7 @@ impl Author {
         author
     }
 
-    /// The next calls, of `bytes` bytes or at most 500 more.
+    /// The next calls, of `bytes` bytes or at most 600 more.
     pub fn more(&mut self, bytes: usize) -> Vec<u8> {
         self.write_calls(bytes);
         std::mem::take(&mut self.written)
@@ -114,7 +115,8 @@ impl Author {
         let parties = *random.pick(&[2, 3, 4, 8]);
         let written = [&v.to_be_bytes()[..], &[f]].concat();
         let (cells, tags) = (vec![0; lent], vec![0; lent]);
-        Author { random, state, cells, tags, parties, mood: Mood::Settling, written }
+        let mood = if random.one_in(10) { Mood::Founding } else { Mood::Settling };
+        Author { random, state, cells, tags, parties, mood, written }
     }
 
     fn write(mut self, bytes: usize) -> Vec<u8> {
@@ -176,6 +178,12 @@ mod tests {
         assert!(tally.loaded > 100 && tally.loaded_unpermitted > 100 && tally.loaded_dying > 100);
         assert!(tally.joined_alike > 100 && tally.joined_unlike > 100 && tally.revoked_open > 100);
         assert!(tally.full_tables > 0 && tally.full_mailboxes > 0);
+        // All cases but one: no session is long enough for a count of 65,535.
+        assert!(
+            tally.claims.len() == 26 && tally.claims.values().all(|count| *count > 20),
+            "{tally}"
+        );
+        assert_eq!(tally.deepest, 31);
     }
 
     #[test]

@@ -1,6 +1,7 @@
 //! A state in arrays as the library is lent them, of any lengths, and the plain state that they are.
 
 use crate::plain::capability::Range;
+use crate::plain::claims::{Claims, Principal};
 use crate::plain::pages::{Frame, FrameUse, Page, Pages};
 use crate::plain::state::Revocation;
 use crate::plain::table::{Reservation, Standing, Table};
@@ -38,6 +39,14 @@ pub fn written(state: &State) -> cetomuhi::State {
     for (number, frame) in arrays.frames.iter_mut().zip(state.pages.frames()) {
         *number = *frame as u8;
     }
+    for (number, entry) in state.claims.principals() {
+        let (parent, holder) = (u64::from(entry.parent.unwrap_or(0)), u64::from(entry.holder));
+        arrays.principals[usize::from(number)] =
+            u64::from(entry.unspent) | parent << 16 | holder << 24 | 1 << 32;
+    }
+    for (number, counts) in (0..32).zip(arrays.counts.chunks_exact_mut(256)) {
+        counts.copy_from_slice(state.claims.counts(number));
+    }
     arrays
 }
 
@@ -53,6 +62,8 @@ pub struct Lent {
     pub rows: Box<[u64]>,
     pub pages: Box<[u16]>,
     pub frames: Box<[u8]>,
+    pub principals: Box<[u64]>,
+    pub counts: Box<[u16]>,
     pub cells: Box<[u64]>,
     pub tags: Box<[u8]>,
 }
@@ -68,6 +79,8 @@ impl Lent {
             rows: state.rows.into(),
             pages: state.pages.into(),
             frames: state.frames.into(),
+            principals: state.principals.into(),
+            counts: state.counts.into(),
             cells: cells.into(),
             tags: tags.into(),
         }
@@ -83,6 +96,8 @@ impl Lent {
             rows: &self.rows,
             pages: &self.pages,
             frames: &self.frames,
+            principals: &self.principals,
+            counts: &self.counts,
         }
     }
 
@@ -96,15 +111,19 @@ impl Lent {
             rows: &mut self.rows,
             pages: &mut self.pages,
             frames: &mut self.frames,
+            principals: &mut self.principals,
+            counts: &mut self.counts,
         };
         (arrays, Memory { cells: &mut self.cells, tags: &mut self.tags })
     }
 
-    /// Whether the eight arrays have a state's lengths.
+    /// Whether the ten arrays have a state's lengths.
     pub fn is_sized(&self) -> bool {
-        let Arrays { numbers, words, marks, mail, flags, rows, pages, frames } = self.arrays();
+        let Arrays { numbers, words, marks, mail, flags, rows, pages, frames, principals, counts } =
+            self.arrays();
         (numbers.len(), words.len(), marks.len(), mail.len()) == (6, 64, 64, 8)
             && (flags.len(), rows.len(), pages.len(), frames.len()) == (8, 64, 256, 128)
+            && (principals.len(), counts.len()) == (32, 8_192)
     }
 
     /// The plain state of the arrays; None if no state, well formed or not, is written so.
@@ -127,6 +146,7 @@ impl Lent {
                 std::array::from_fn(|register| registers[8 * party + register])
             }),
             mailboxes: slots(&self.mail, &self.flags)?,
+            claims: claims(&self.principals, &self.counts)?,
         })
     }
 }
@@ -171,4 +191,21 @@ fn rows<const N: usize>(numbers: &[u64]) -> Option<[Reservation; N]> {
         Some(Reservation { base, length, standing, holder, taker })
     });
     rows.collect::<Option<Vec<Reservation>>>()?.try_into().ok()
+}
+
+fn claims(principals: &[u64], counts: &[u16]) -> Option<Claims> {
+    let mut entries = [None; 32];
+    for (place, (entry, number)) in entries.iter_mut().zip(principals).enumerate() {
+        *entry = match (*number, number >> 32) {
+            (0, _) => None,
+            (_, 1) => {
+                let (unspent, parent) = (*number as u16, (number >> 16) as u8);
+                let parent = (place > 0 || parent > 0).then_some(parent);
+                Some(Principal { holder: (number >> 24) as u8, parent, unspent })
+            }
+            _ => return None,
+        };
+    }
+    let (by_principal, _) = counts.as_chunks();
+    Some(Claims::of(entries, by_principal.try_into().ok()?))
 }

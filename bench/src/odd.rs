@@ -3,8 +3,9 @@
 use crate::generate::{Author, Random};
 use crate::lent::{written, Lent};
 use crate::operands;
+use crate::plain::claims::PRINCIPALS;
 use crate::plain::table::{NOBODY, ROWS, SEVERAL};
-use crate::plain::{read, Memory, State};
+use crate::plain::{read, Action, Call, Memory, State};
 
 /// Well-formed states of several sizes with their memory, from generated calls.
 pub fn sound_states(random: &mut Random, count: usize) -> Vec<Lent> {
@@ -25,25 +26,43 @@ fn sound_state(random: &mut Random) -> Lent {
         state.step(&mut Memory { cells: &mut cells, tags: &mut tags }, call);
         rest = &rest[used..];
     }
+    if random.one_in(4) {
+        found(random, &mut state, &mut Memory { cells: &mut cells, tags: &mut tags });
+    }
     Lent::of(&written(&state), &cells, &tags)
 }
 
+/// Creates principals with all numbers that are left, each below the one before.
+fn found(random: &mut Random, state: &mut State, memory: &mut Memory) {
+    let mut numbers: Vec<u8> = (0..PRINCIPALS as u8).collect();
+    (1..PRINCIPALS).for_each(|place| numbers.swap(place, 1 + random.below(place)));
+    let mut parent = 0;
+    for child in numbers {
+        let Some(payer) = state.claims.principal(parent) else { break };
+        let (holder, limit) = (random.below(8) as u8, payer.unspent - payer.unspent.min(3));
+        let create = Action::Create { parent, child, limit, holder };
+        let answer = state.step(memory, Call { party: payer.holder, action: create });
+        parent = if answer.code == 0 { child } else { parent };
+    }
+}
+
 /// A sound one, one with a few entries changed, one with an array of another length, one with other
-/// takers, or noise.
+/// takers or claims, or noise.
 pub fn state(random: &mut Random, sound: &[Lent]) -> Lent {
     let mut lent = random.pick(sound).clone();
-    match random.below(9) {
+    match random.below(10) {
         0 => noise(random, &mut lent),
         1 | 2 => (0..1 + random.below(3)).for_each(|_| change(random, &mut lent)),
         3 => resize(random, &mut lent),
         4 => retake(random, &mut lent),
+        5 => reclaim(random, &mut lent),
         _ => {}
     }
     lent
 }
 
 fn noise(random: &mut Random, lent: &mut Lent) {
-    for which in 0..10 {
+    for which in 0..12 {
         let length = random.below(70);
         set_length(which, length, lent);
     }
@@ -51,13 +70,13 @@ fn noise(random: &mut Random, lent: &mut Lent) {
 }
 
 fn resize(random: &mut Random, lent: &mut Lent) {
-    let which = random.below(10);
+    let which = random.below(12);
     let length = lengths(lent)[which];
     let other = *random.pick(&[0, 1, length.saturating_sub(1), length + 1, 2 * length, 300]);
     set_length(which, other, lent);
 }
 
-fn lengths(lent: &Lent) -> [usize; 10] {
+fn lengths(lent: &Lent) -> [usize; 12] {
     [
         lent.numbers.len(),
         lent.words.len(),
@@ -67,6 +86,8 @@ fn lengths(lent: &Lent) -> [usize; 10] {
         lent.rows.len(),
         lent.pages.len(),
         lent.frames.len(),
+        lent.principals.len(),
+        lent.counts.len(),
         lent.cells.len(),
         lent.tags.len(),
     ]
@@ -82,7 +103,9 @@ fn set_length(which: usize, length: usize, lent: &mut Lent) {
         5 => cut(&mut lent.rows, length),
         6 => cut(&mut lent.pages, length),
         7 => cut(&mut lent.frames, length),
-        8 => cut(&mut lent.cells, length),
+        8 => cut(&mut lent.principals, length),
+        9 => cut(&mut lent.counts, length),
+        10 => cut(&mut lent.cells, length),
         _ => cut(&mut lent.tags, length),
     }
 }
@@ -116,9 +139,42 @@ fn with_taker(row: u64, taker: u8) -> u64 {
     row & !(255 << 48) | u64::from(taker) << 48
 }
 
+/// Gives a sound state's claims other counts, up to the largest, which a long history could have
+/// made; often one principal another number, and often the parent then what makes up for it.
+fn reclaim(random: &mut Random, lent: &mut Lent) {
+    for count in lent.counts.iter_mut().filter(|count| **count > 0) {
+        let any = random.number() as u16;
+        *count = *random.pick(&[1, 2, u16::MAX - 1, u16::MAX, any.max(1)]);
+    }
+    if random.one_in(2) {
+        let at = random.below(PRINCIPALS);
+        let before = lent.principals[at];
+        lent.principals[at] = other_principal(random, before);
+        let paid = (lent.principals[at] & 0xFFFF).wrapping_sub(before & 0xFFFF);
+        lent.principals[0] = lent.principals[0].wrapping_sub(paid);
+    }
+    if random.one_in(3) {
+        let at = random.below(lent.counts.len());
+        lent.counts[at] = random.below(3) as u16;
+    }
+}
+
+/// A principal in being or not, with another parent, holder or part unspent, or another bit.
+fn other_principal(random: &mut Random, entry: u64) -> u64 {
+    let below = |random: &mut Random, limit, place| (random.below(limit) as u64) << place;
+    match random.below(6) {
+        0 => entry & !(255 << 16) | below(random, 34, 16),
+        1 => entry & !(255 << 24) | below(random, 10, 24),
+        2 => entry & !0xFFFF | below(random, 20, 0),
+        3 => entry ^ 1 << 32,
+        4 => 0,
+        _ => entry ^ 1 << random.below(64),
+    }
+}
+
 /// One entry of one array becomes another number, small or any.
 fn change(random: &mut Random, lent: &mut Lent) {
-    let which = random.below(10);
+    let which = random.below(12);
     let length = lengths(lent)[which];
     if length == 0 {
         return;
@@ -140,7 +196,9 @@ fn change(random: &mut Random, lent: &mut Lent) {
         5 => lent.rows[at] = other_row(random, lent.rows[at]),
         6 => lent.pages[at] = number as u16,
         7 => lent.frames[at] = number as u8,
-        8 => lent.cells[at] = number,
+        8 => lent.principals[at] = other_principal(random, lent.principals[at]),
+        9 => lent.counts[at] = number as u16,
+        10 => lent.cells[at] = number,
         _ => lent.tags[at] = number as u8,
     }
 }
@@ -161,7 +219,7 @@ fn other_row(random: &mut Random, row: u64) -> u64 {
 /// A few commands, most of whose operands the state may grant, or some forty bytes of any sort.
 pub fn bytes(random: &mut Random, lent: &Lent) -> Box<[u8]> {
     if random.one_in(3) {
-        let below = *random.pick(&[4, 18, 64, 256]);
+        let below = *random.pick(&[4, 22, 64, 256]);
         let count = random.below(40);
         return (0..count).map(|_| random.below(below) as u8).collect();
     }
@@ -178,9 +236,10 @@ pub fn bytes(random: &mut Random, lent: &Lent) -> Box<[u8]> {
 fn likely_command(random: &mut Random, lent: &Lent) -> Vec<u8> {
     let rows = 1 + random.below(lent.numbers.get(2).map_or(1, |count| 1 + *count as usize));
     let row = lent.rows.get(random.below(rows)).copied().unwrap_or(0);
-    let command = 1 + random.below(17) as u64;
+    let command = 1 + random.below(21) as u64;
     let mut numbers = [command, 0, 0, 0, 0, 0, 0];
     match command {
+        0x12.. => return claiming_command(random, lent, command),
         0x01..=0x05 | 0x11 => {
             numbers[1] = row >> 40 & 255;
             numbers[2] = row & 0xFFFF;
@@ -202,6 +261,35 @@ fn likely_command(random: &mut Random, lent: &Lent) -> Vec<u8> {
     operands::bytes(&numbers).unwrap_or_default()
 }
 
+/// A command on a principal, mostly by its holder or its parent's, on a page that it may claim.
+fn claiming_command(random: &mut Random, lent: &Lent, command: u64) -> Vec<u8> {
+    let entry = |number: u64| lent.principals.get(number as usize).copied().unwrap_or(0);
+    let holder = |number| entry(number) >> 24 & 255;
+    let in_being = (0..32).filter(|number| entry(*number) >> 32 == 1);
+    let principal = match random.one_in(8) {
+        true => random.below(34) as u64,
+        false => random.pick_any(in_being).unwrap_or(0),
+    };
+    let has_say = if command == 0x15 { entry(principal) >> 16 & 255 } else { principal };
+    let party = if random.one_in(6) { random.below(9) as u64 } else { holder(has_say) };
+    let counts = lent.counts.chunks(256).nth(principal as usize).unwrap_or(&[]);
+    let counted = (0..).zip(counts).filter(|(_, count)| **count > 0).map(|(page, _)| page);
+    let page = match random.one_in(3) {
+        true => random.below(6) as u64,
+        false => random.pick_any(counted).unwrap_or(0),
+    };
+    let unspent = (entry(principal) & 0xFFFF) as usize;
+    let some = random.below(unspent + 1);
+    let limit = *random.pick(&[0, some, unspent, unspent + 1]) as u64;
+    let child = random.below(33) as u64;
+    let numbers = match command {
+        0x12 => [command, party, principal, child, limit, random.below(9) as u64, 0],
+        0x15 => [command, party, principal, 0, 0, 0, 0],
+        _ => [command, party, principal, page, 0, 0, 0],
+    };
+    operands::bytes(&numbers).unwrap_or_default()
+}
+
 /// An input's beginning, a place in it, its end, or one beyond.
 pub fn place(random: &mut Random, length: usize) -> usize {
     match random.below(16) {
@@ -220,7 +308,7 @@ pub fn call_numbers(random: &mut Random) -> Box<[u64]> {
     let limit = *random.pick(&[8, 256, 300, 65_540]);
     let operands = random.below(7);
     let number = |place| match place {
-        0 => random.below(19) as u64,
+        0 => random.below(23) as u64,
         _ if random.one_in(40) => random.number(),
         _ if place <= operands => random.below(limit) as u64,
         _ => 0,
@@ -231,35 +319,33 @@ pub fn call_numbers(random: &mut Random) -> Box<[u64]> {
 #[cfg(test)]
 mod tests {
     use super::*;
+    use crate::plain::claims::Claims;
     use crate::plain::table::{Reservation, Standing};
 
-    /// The states that are well formed, and those that takers alone make ill formed.
-    fn sorted(random: &mut Random) -> (Vec<State>, usize) {
+    /// The states that are well formed, and how many `mend` makes so.
+    fn sorted(random: &mut Random, mend: fn(&mut State)) -> (Vec<State>, usize) {
         let sound = sound_states(random, 100);
-        let (mut formed, mut ill_taken) = (Vec::new(), 0);
+        let (mut formed, mut mended) = (Vec::new(), 0);
         for _ in 0..6_000 {
-            let Some(state) = state(random, &sound).plain() else { continue };
+            let Some(mut state) = state(random, &sound).plain() else { continue };
             if state.is_well_formed() {
                 formed.push(state);
             } else {
-                ill_taken += usize::from(refitted(state).is_well_formed());
+                mend(&mut state);
+                mended += usize::from(state.is_well_formed());
             }
         }
-        (formed, ill_taken)
-    }
-
-    /// The state with takers that fit.
-    fn refitted(mut state: State) -> State {
-        for index in 0..state.table.rows().len() {
-            let row = state.table.row(index);
-            row.taker = if row.standing == Standing::Open { NOBODY } else { 0 };
-        }
-        state
+        (formed, mended)
     }
 
     #[test]
     fn odd_states_have_takers_of_all_sorts() {
-        let (formed, ill_taken) = sorted(&mut Random::new(5));
+        let (formed, ill_taken) = sorted(&mut Random::new(5), |state| {
+            for index in 0..state.table.rows().len() {
+                let row = state.table.row(index);
+                row.taker = if row.standing == Standing::Open { NOBODY } else { 0 };
+            }
+        });
         assert!(formed.len() > 2_000 && ill_taken > 100, "{} {ill_taken}", formed.len());
         let rows = || formed.iter().flat_map(|state| state.table.rows().iter().copied());
         for standing in [Standing::Taken, Standing::Revoking] {
@@ -268,5 +354,21 @@ mod tests {
                 assert!(rows().any(is_such), "{standing:?}, taker {taker}");
             }
         }
+    }
+
+    #[test]
+    fn odd_states_have_claims_of_all_sorts() {
+        let mend: fn(&mut State) = |state| state.claims = Claims::fresh();
+        let (formed, ill_claimed) = sorted(&mut Random::new(6), mend);
+        assert!(formed.len() > 2_000 && ill_claimed > 200, "{} {ill_claimed}", formed.len());
+        let counted = |state: &State, most| {
+            let counts = |number| state.claims.counts(number).iter();
+            (0..32).any(|number| counts(number).any(|count| *count == most))
+        };
+        for most in [1, 2, u16::MAX - 1, u16::MAX] {
+            assert!(formed.iter().filter(|state| counted(state, most)).count() > 20, "{most}");
+        }
+        let all_in_being = |state: &&State| state.claims.principals().count() == PRINCIPALS;
+        assert!(formed.iter().filter(all_in_being).count() > 100);
     }
 }

@@ -1,7 +1,7 @@
 //! Commands as seven numbers, by the documents' lists: the command, its operands, 0 after them.
 
-/// The bytes of each operand of commands 01 to 11, the party's first.
-const WIDTHS: [&[usize]; 17] = [
+/// The bytes of each operand of commands 01 to 15, the party's first.
+const WIDTHS: [&[usize]; 21] = [
     &[1, 2, 1],
     &[1, 2, 2],
     &[1, 2],
@@ -19,6 +19,10 @@ const WIDTHS: [&[usize]; 17] = [
     &[1, 1, 1],
     &[1, 1],
     &[1, 2, 1, 1],
+    &[1, 1, 1, 2, 1],
+    &[1, 1, 1],
+    &[1, 1, 1],
+    &[1, 1],
 ];
 
 fn widths(command: u64) -> Option<&'static [usize]> {
@@ -62,7 +66,7 @@ mod tests {
 
     #[test]
     fn numbers_and_bytes_undo_each_other() {
-        for command in 0..=18 {
+        for command in 0..=22 {
             let input: Vec<u8> = (0..11).map(|place| command + 23 * place).collect();
             let found = numbers(&input);
             assert_eq!(found.map(|(_, length)| length), read(&input).map(|(_, length)| length));

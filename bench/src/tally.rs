@@ -1,7 +1,10 @@
 //! Counts of what sessions do, found by the plain implementation.
 
+mod claims;
+
 use crate::plain::table::{Standing, ROWS};
 use crate::plain::{capability as cap, read, Action, Answer, Call, Memory, State, INPUT_LIMIT};
+use std::collections::BTreeMap;
 use std::fmt;
 
 #[derive(Default)]
@@ -9,9 +12,9 @@ pub struct Tally {
     pub sessions: u64,
     pub commands: u64,
     /// Answers by code, those of starts included.
-    pub codes: [u64; 20],
+    pub codes: [u64; 23],
     /// Commands granted, by the command's number.
-    pub granted: [u64; 18],
+    pub granted: [u64; 22],
     /// Capabilities that loads put into a register: with their tag, without permission 4 for it, and
     /// with permission 4 but dying.
     pub loaded: u64,
@@ -32,6 +35,10 @@ pub struct Tally {
     /// Sessions in which the table is full at some time, and in which all mailboxes are.
     pub full_tables: u64,
     pub full_mailboxes: u64,
+    /// Calls on principals and claims, by their case in words.
+    pub claims: BTreeMap<&'static str, u64>,
+    /// The longest way up from a principal to 0.
+    pub deepest: usize,
 }
 
 impl Tally {
@@ -61,6 +68,7 @@ impl Tally {
             let dying = dying_store(&state, call);
             let taker = taker_change(&state, call);
             let load = load_in(&state, &tags, call);
+            let claim = claims::if_granted(&state.claims, call.action);
             let is_sweep = matches!(call.action, Action::Sweep { .. });
             let before = if is_sweep { count(&tags) } else { 0 };
             let mut memory = Memory { cells: &mut cells, tags: &mut tags };
@@ -68,6 +76,7 @@ impl Tally {
             self.add_answer(input[0], answer, dying);
             self.add_taker_change(taker.filter(|_| answer.code == 0));
             self.add_load(load.filter(|_| answer.code == 0), answer.tag);
+            self.add_claim(claim, &state, call, answer.code);
             self.swept += if is_sweep { before - count(&tags) } else { 0 };
             table_full |= state.table.rows().len() == ROWS;
             mailboxes_full |= state.mailboxes.iter().all(|slot| slot.tag);
@@ -101,6 +110,19 @@ impl Tally {
                 (false, true) => self.loaded_dying += 1,
                 (false, false) => self.loaded_unpermitted += 1,
             }
+        }
+    }
+
+    /// The state is the one after the call, which is the one before it if the call is refused.
+    fn add_claim(&mut self, granted: Option<&'static str>, state: &State, call: Call, code: u8) {
+        let case = match code {
+            0 => granted,
+            _ => claims::if_refused(state, call, code),
+        };
+        if let Some(words) = case {
+            *self.claims.entry(words).or_default() += 1;
+            let depths = state.claims.principals().map(|(number, _)| state.claims.depth(number));
+            self.deepest = self.deepest.max(depths.max().unwrap_or(0));
         }
     }
 
@@ -221,6 +243,8 @@ impl fmt::Display for Tally {
             out,
             "sessions with a full table {}, with all mailboxes full {}",
             self.full_tables, self.full_mailboxes
-        )
+        )?;
+        writeln!(out, "principals and claims, {} parents at most:", self.deepest)?;
+        self.claims.iter().try_for_each(|(words, count)| writeln!(out, "  {count:>10} {words}"))
     }
 }

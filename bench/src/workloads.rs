@@ -8,7 +8,7 @@ pub fn mix() -> Vec<Vec<u8>> {
     let sizes = [(2, 1), (8, 4), (16, 16), (64, 32), (256, 128)];
     let seeds = (0u64..).step_by(7);
     let seeded = sizes.iter().cycle().take(15).zip(seeds);
-    seeded.map(|(&(v, f), seed)| generate::productive(seed, v, f, INPUT_LIMIT - 500)).collect()
+    seeded.map(|(&(v, f), seed)| generate::productive(seed, v, f, INPUT_LIMIT - 600)).collect()
 }
 
 /// What the cells hold that a sweep passes.
@@ -88,7 +88,26 @@ pub fn kinds() -> Vec<(&'static str, Vec<u8>)> {
         ("split, merge at 32 rows", moves(32)),
         ("split, merge at 63 rows", moves(63)),
     ];
-    rounds.map(|(name, round)| (name, repeated(name, round))).into_iter().chain(moved).collect()
+    let rounds = rounds.map(|(name, round)| (name, repeated(name, round)));
+    rounds.into_iter().chain(moved).chain(claims()).collect()
+}
+
+/// Claims on one page, and principals alone and in a line of 31, created and destroyed.
+fn claims() -> [(&'static str, Vec<u8>); 3] {
+    let claim = Action::Claim { principal: 0, page: 1 };
+    let release = Action::Release { principal: 0, page: 1 };
+    let create = |parent| {
+        let (child, limit) = (parent + 1, 40 * (31 - u16::from(parent)));
+        Action::Create { parent, child, limit, holder: 0 }
+    };
+    let destroy = Action::Destroy { principal: 1 };
+    let line: Vec<Action> = (0..31).map(create).chain([destroy]).collect();
+    let rounds: [(&str, &[Action]); 3] = [
+        ("claim, release", &[claim, release]),
+        ("create, destroy", &[create(0), destroy]),
+        ("create 31 in a line, destroy them", &line),
+    ];
+    rounds.map(|(name, round)| (name, repeated(name, round)))
 }
 
 /// The first of so many reservations split and merged over and over, so that all others move.
@@ -143,7 +162,7 @@ fn repeated(name: &str, round: &[Action]) -> Vec<u8> {
     if name.ends_with("60 rows") {
         (32..91).for_each(|base| session.call(0, Action::Split { base, len: 1 }));
     }
-    while session.bytes.len() < INPUT_LIMIT - 64 {
+    while session.bytes.len() < INPUT_LIMIT - 256 {
         round.iter().for_each(|action| session.call(0, *action));
     }
     session.bytes

@@ -43,7 +43,7 @@ fn random_bytes() {
     let mut random = Random::new(11);
     for _ in 0..2_000 {
         let mut input = vec![0, random.below(256) as u8, random.below(140) as u8];
-        let small = *random.pick(&[19, 19, 19, 256]);
+        let small = *random.pick(&[23, 23, 23, 256]);
         let length = random.below(300);
         input.extend((0..length).map(|_| random.below(small) as u8));
         agree(&input);

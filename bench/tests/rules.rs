@@ -105,7 +105,7 @@ fn starts_out_of_range_or_short_are_refused() {
 #[test]
 fn a_session_ends_after_refusal_3() {
     assert_eq!(codes("0001 01 00 07 00"), [0, 3]);
-    assert_eq!(codes("0001 01 12 00 00 00"), [0, 3]);
+    assert_eq!(codes("0001 01 16 00 00 00"), [0, 3]);
     assert_eq!(codes("0001 01 11 00 00 00 00"), [0, 3]);
     assert_eq!(codes("0001 01 07 00 05 00 00"), [0, 11, 3]);
 }

@@ -43,7 +43,7 @@ struct Tally {
     written: u64,
     read: u64,
     /// Answers of single commands and of runs, by code.
-    codes: [u64; 20],
+    codes: [u64; 23],
     differences: usize,
 }
 
@@ -76,7 +76,7 @@ fn try_all(random: &mut Random, sound: &[Lent], tally: &mut Tally) -> [Fault; 7]
         try_write(random, tally),
         try_read(random, &lent, tally),
         wrong_if(
-            raw::version() != VERSION || (which > 9 && raw::size(which) != 0),
+            raw::version() != VERSION || (which > 11 && raw::size(which) != 0),
             "version, size",
         ),
     ]

@@ -19,11 +19,25 @@ fn main() {
     println!("|---|---:|---:|---:|---:|");
     for (name, input) in kinds() {
         let [plain, before, now] = time(&input);
-        println!("| {name} | {plain:.2} | {before:.2} | {now:.2} | {:.2} |", before / now);
+        match is_known(&input) {
+            true => {
+                println!("| {name} | {plain:.2} | {before:.2} | {now:.2} | {:.2} |", before / now)
+            }
+            false => println!("| {name} | {plain:.2} | – | {now:.2} | – |"),
+        }
     }
 }
 
-/// Nanoseconds a call of the three, which take turns and must print the same.
+/// Whether the earlier library has all commands of a session, whose calls are all granted: one that
+/// it does not have ends the session under refusal 3.
+fn is_known(input: &[u8]) -> bool {
+    let mut lines = vec![0; LINES_LIMIT];
+    let printed = before(input, &mut lines);
+    !lines[..printed].ends_with(b"\n3 0 0\n")
+}
+
+/// Nanoseconds a call of the three, which take turns and must print the same; of the earlier one only
+/// if it has the commands.
 fn time(input: &[u8]) -> [f64; 3] {
     let mut tally = Tally::default();
     tally.add(input);
@@ -31,9 +45,10 @@ fn time(input: &[u8]) -> [f64; 3] {
         (Vec::new(), vec![0; LINES_LIMIT], vec![0; LINES_LIMIT]);
     plain::session_into(input, &mut lines);
     let printed = [before(input, &mut earlier), session(input, &mut later).unwrap_or(0)];
-    assert_eq!(printed, [lines.len(); 2], "the three print lines of different lengths");
-    assert!(earlier[..lines.len()] == lines, "the earlier one prints other lines");
-    assert!(later[..lines.len()] == lines, "the two print different lines: run compare");
+    let same = [&earlier, &later].map(|buffer| buffer[..lines.len()] == lines);
+    assert!(printed[1] == lines.len() && same[1], "the two print different lines: run compare");
+    let earlier_agrees = printed[0] == lines.len() && same[0];
+    assert!(earlier_agrees || !is_known(input), "the earlier one prints other lines");
     let mut run_plain = || {
         lines.clear();
         plain::session_into(black_box(input), &mut lines);

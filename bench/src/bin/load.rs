@@ -17,8 +17,8 @@ struct Load {
     tags: Vec<u8>,
     library: Machine,
     random: Random,
-    codes: [u64; 20],
-    granted: [u64; 18],
+    codes: [u64; 23],
+    granted: [u64; 22],
     commands: u64,
     places: u64,
     differences: u64,
@@ -62,7 +62,7 @@ impl Load {
         let tags: Vec<u8> = (0..lent).map(|_| random.number() as u8).collect();
         let state = cetomuhi::State::start(v.into(), f.into()).expect("V and F are in range");
         let library = Machine::of(state, cells.clone(), tags.clone());
-        let (codes, granted) = ([0; 20], [0; 18]);
+        let (codes, granted) = ([0; 23], [0; 22]);
         let (commands, places, differences) = (0, 0, 0);
         Load { plain, cells, tags, library, random, codes, granted, commands, places, differences }
     }

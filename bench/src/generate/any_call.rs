@@ -12,26 +12,42 @@ impl Author {
         if full && self.random.one_in(3) {
             return self.fitting_split().unwrap_or_else(|| self.any_call());
         }
-        let wanted = 4 + self.random.below(16) as u8;
-        let mut call = self.any_call();
+        let wanted = 4 + self.random.below(19) as u8;
+        let any = match wanted {
+            20 | 21 => Author::any_claiming,
+            _ => Author::any_call,
+        };
+        let unmap = match wanted {
+            13 | 22 => self.unmap_of_a_claimed_page(wanted == 22),
+            _ => None,
+        };
+        let mut call = unmap.unwrap_or_else(|| any(self));
         for _ in 0..40 {
             if self.code_of(call) == wanted {
                 break;
             }
-            call = self.any_call();
+            call = any(self);
         }
         call
     }
 
     fn any_call(&mut self) -> Call {
-        let party = match self.random.one_in(30) {
-            true => 8 + self.random.below(248) as u8,
-            false => self.party(),
-        };
+        if self.random.one_in(5) {
+            return self.any_claiming();
+        }
+        let party = self.any_party();
         let action = self.any_action(party);
         Call { party, action }
     }
 
+    pub(super) fn any_party(&mut self) -> u8 {
+        match self.random.one_in(30) {
+            true => 8 + self.random.below(248) as u8,
+            false => self.party(),
+        }
+    }
+
+    /// Of those that are on no principal.
     fn any_action(&mut self, party: u8) -> Action {
         match 1 + self.random.below(17) {
             0x01 => Action::Take { base: self.any_base(), reg: self.any_register() },
@@ -104,14 +120,14 @@ impl Author {
         }
     }
 
-    fn any_register(&mut self) -> u8 {
+    pub(super) fn any_register(&mut self) -> u8 {
         match self.random.one_in(40) {
             true => *self.random.pick(&[8, 9, 15, 64, 128, 255]),
             false => self.random.below(8) as u8,
         }
     }
 
-    fn any_page(&mut self) -> u8 {
+    pub(super) fn any_page(&mut self) -> u8 {
         let v = self.state.pages.pages().len();
         match self.random.one_in(6) {
             true => v as u8,

@@ -18,24 +18,33 @@ pub enum Mood {
     Mailing,
     Storing,
     Revoking,
+    Founding,
+    Claiming,
 }
 
 impl Mood {
     pub fn any(random: &mut Random) -> Mood {
         use Mood::*;
-        *random.pick(&[Settling, Mixed, Mixed, Splitting, Merging, Mailing, Storing, Revoking])
+        let moods = [Settling, Mixed, Mixed, Splitting, Merging, Mailing, Storing, Revoking];
+        match random.below(10) {
+            8 => Founding,
+            9 => Claiming,
+            index => moods[index],
+        }
     }
 
-    /// How often each of the seventeen commands is tried, in the order of their numbers.
-    fn weights(self) -> [u8; 17] {
+    /// How often each of the twenty-one commands is tried, in the order of their numbers.
+    fn weights(self) -> [u8; 21] {
         match self {
-            Mood::Settling => [2, 8, 0, 6, 0, 2, 2, 9, 0, 9, 2, 3, 2, 2, 2, 2, 4],
-            Mood::Mixed => [2, 3, 2, 3, 3, 6, 6, 6, 1, 6, 14, 16, 8, 6, 6, 8, 3],
-            Mood::Splitting => [1, 60, 1, 4, 0, 1, 1, 2, 0, 2, 3, 3, 2, 2, 1, 1, 1],
-            Mood::Merging => [1, 3, 40, 8, 2, 2, 2, 2, 1, 2, 2, 2, 2, 2, 1, 1, 1],
-            Mood::Mailing => [1, 1, 1, 1, 0, 1, 1, 1, 0, 1, 4, 6, 12, 3, 40, 20, 2],
-            Mood::Storing => [1, 0, 0, 0, 0, 1, 1, 3, 0, 3, 30, 40, 8, 6, 2, 2, 2],
-            Mood::Revoking => [1, 1, 1, 1, 12, 8, 4, 5, 0, 5, 12, 40, 4, 1, 5, 6, 3],
+            Mood::Settling => [2, 8, 0, 6, 0, 2, 2, 9, 0, 9, 2, 3, 2, 2, 2, 2, 4, 1, 2, 1, 0],
+            Mood::Mixed => [2, 3, 2, 3, 3, 6, 6, 6, 1, 6, 14, 16, 8, 6, 6, 8, 3, 2, 5, 5, 1],
+            Mood::Splitting => [1, 60, 1, 4, 0, 1, 1, 2, 0, 2, 3, 3, 2, 2, 1, 1, 1, 0, 1, 1, 0],
+            Mood::Merging => [1, 3, 40, 8, 2, 2, 2, 2, 1, 2, 2, 2, 2, 2, 1, 1, 1, 0, 1, 1, 0],
+            Mood::Mailing => [1, 1, 1, 1, 0, 1, 1, 1, 0, 1, 4, 6, 12, 3, 40, 20, 2, 0, 1, 1, 0],
+            Mood::Storing => [1, 0, 0, 0, 0, 1, 1, 3, 0, 3, 30, 40, 8, 6, 2, 2, 2, 0, 1, 1, 0],
+            Mood::Revoking => [1, 1, 1, 1, 12, 8, 4, 5, 0, 5, 12, 40, 4, 1, 5, 6, 3, 0, 1, 2, 0],
+            Mood::Founding => [1, 1, 0, 1, 0, 1, 1, 2, 0, 2, 1, 1, 0, 0, 0, 0, 1, 60, 12, 3, 1],
+            Mood::Claiming => [1, 1, 1, 1, 1, 2, 2, 5, 2, 5, 2, 2, 1, 1, 1, 1, 1, 16, 40, 24, 4],
         }
     }
 
@@ -93,7 +102,11 @@ impl Author {
             0x0E => Some(self.number()),
             0x0F => self.grant(),
             0x10 => self.receive(),
-            _ => self.take_masked(),
+            0x11 => self.take_masked(),
+            0x12 => self.create(),
+            0x13 => self.claim(),
+            0x14 => self.release(),
+            _ => self.destroy(),
         }
     }
 
@@ -157,7 +170,7 @@ impl Author {
         by(row.holder, Action::Give { base: row.base, to })
     }
 
-    /// A revoke, or the unmapping of a page that stands in its way.
+    /// A revoke, or the unmapping of a page that stands in its way, or an end of the claims on it.
     fn revoke(&mut self) -> Option<Call> {
         if self.state.revocation.is_some() {
             return None;
@@ -166,8 +179,9 @@ impl Author {
         let pages = &self.state.pages.pages()[row.range().pages()];
         match pages.iter().position(|page| matches!(page, Page::Mapped(_))) {
             Some(index) => {
-                let page = (row.range().pages().start + index) as u8;
-                by(0, Action::Unmap { page })
+                let page = row.range().pages().start + index;
+                let unmap = Call { party: 0, action: Action::Unmap { page: page as u8 } };
+                Some(self.letting_go(page).unwrap_or(unmap))
             }
             None => by(0, Action::Revoke { base: row.base }),
         }
@@ -251,9 +265,7 @@ impl Author {
     }
 
     fn unmap(&mut self) -> Option<Call> {
-        let pages = self.state.pages.pages().iter().enumerate();
-        let mapped = pages.filter(|(_, page)| matches!(page, Page::Mapped(_)));
-        let page = self.random.pick_any(mapped.map(|(index, _)| index as u8))?;
+        let page = self.page_with(true, false)?;
         by(0, Action::Unmap { page })
     }
 

@@ -9,7 +9,7 @@ use crate::plain::{Action, Call, Slot};
 
 impl Author {
     /// Stores copies of a capability outside its own reservation and revokes that one, if some
-    /// party has registers for it.
+    /// party has registers for it. Seldom are claims on its pages left, which the revoke then meets.
     pub(super) fn begin_revocation(&mut self) {
         if self.state.revocation.is_some() {
             return;
@@ -20,6 +20,9 @@ impl Author {
             if let Some(off) = self.mapped_offset(party, a) {
                 self.make(Call { party, action: Action::Store { a, off, s } });
             }
+        }
+        if !self.random.one_in(6) && !self.let_go(row) {
+            return;
         }
         self.unmap_all(row);
         self.make(Call { party: 0, action: Action::Revoke { base: row.base } });

@@ -1,4 +1,4 @@
-//! The seventeen kinds of call, read from bytes and written to them.
+//! The twenty-one kinds of call, read from bytes and written to them.
 
 #[derive(Clone, Copy, Debug, PartialEq, Eq)]
 pub struct Call {
@@ -25,6 +25,10 @@ pub enum Action {
     Grant { s: u8, to: u8 },
     Receive { d: u8 },
     TakeMasked { base: u16, reg: u8, mask: u8 },
+    Create { parent: u8, child: u8, limit: u16, holder: u8 },
+    Claim { principal: u8, page: u8 },
+    Release { principal: u8, page: u8 },
+    Destroy { principal: u8 },
 }
 
 /// The call at the input's beginning and its length in bytes. None is refusal 3.
@@ -112,6 +116,23 @@ pub fn read(input: &[u8]) -> Option<(Call, usize)> {
             let base = two(b1, b0);
             (p, Action::TakeMasked { base, reg, mask }, 5)
         }
+        0x12 => {
+            let &[p, parent, child, l1, l0, holder] = rest.first_chunk()?;
+            let limit = two(l1, l0);
+            (p, Action::Create { parent, child, limit, holder }, 6)
+        }
+        0x13 => {
+            let &[p, principal, page] = rest.first_chunk()?;
+            (p, Action::Claim { principal, page }, 3)
+        }
+        0x14 => {
+            let &[p, principal, page] = rest.first_chunk()?;
+            (p, Action::Release { principal, page }, 3)
+        }
+        0x15 => {
+            let &[p, principal] = rest.first_chunk()?;
+            (p, Action::Destroy { principal }, 2)
+        }
         _ => return None,
     };
     Some((Call { party, action }, 1 + operands))
@@ -146,6 +167,12 @@ impl Call {
             Action::TakeMasked { base, reg, mask } => {
                 put(0x11, &[&base.to_be_bytes(), &[reg, mask]])
             }
+            Action::Create { parent, child, limit, holder } => {
+                put(0x12, &[&[parent, child], &limit.to_be_bytes(), &[holder]])
+            }
+            Action::Claim { principal, page } => put(0x13, &[&[principal, page]]),
+            Action::Release { principal, page } => put(0x14, &[&[principal, page]]),
+            Action::Destroy { principal } => put(0x15, &[&[principal]]),
         }
     }
 }
@@ -156,7 +183,7 @@ mod tests {
 
     #[test]
     fn a_written_call_reads_back_from_its_length_on() {
-        for command in 0x01..=0x11 {
+        for command in 0x01..=0x15 {
             let bytes: Vec<u8> = (0..12).map(|i| command + 17 * i).collect();
             let (call, length) = read(&bytes).expect("twelve bytes hold every command");
             let mut written = Vec::new();
@@ -170,6 +197,6 @@ mod tests {
     fn other_first_bytes_are_no_command() {
         assert_eq!(read(&[]), None);
         assert_eq!(read(&[0; 16]), None);
-        assert_eq!(read(&[0x12; 16]), None);
+        assert_eq!(read(&[0x16; 16]), None);
     }
 }

@@ -1,7 +1,7 @@
 //! Virtual pages, frames, and which page shows which frame.
 
+use super::answer::Refusal;
 use super::capability::Range;
-use super::step::Refusal;
 
 pub const PAGES: usize = 256;
 pub const FRAMES: usize = 128;
@@ -80,11 +80,14 @@ impl Pages {
         Ok(())
     }
 
-    pub fn unmap(&mut self, page: u8) -> Result<(), Refusal> {
+    pub fn unmap(&mut self, page: u8, is_claimed: impl Fn(usize) -> bool) -> Result<(), Refusal> {
         let page = self.named_page(page)?;
         let Page::Mapped(Frame(frame)) = self.pages[page] else {
             return Err(Refusal::PageState);
         };
+        if is_claimed(page) {
+            return Err(Refusal::Claimed);
+        }
         self.pages[page] = Page::Freed;
         self.frames[usize::from(frame)] = FrameUse::Dirty;
         Ok(())
@@ -153,7 +156,8 @@ impl Pages {
         all(frames.map(|(used, seen)| (*used == FrameUse::Mapped) == seen))
     }
 
-    fn named_page(&self, page: u8) -> Result<usize, Refusal> {
+    /// Refusal 12, or the page.
+    pub fn named_page(&self, page: u8) -> Result<usize, Refusal> {
         if u16::from(page) < self.page_count {
             Ok(usize::from(page))
         } else {

@@ -1,8 +1,8 @@
 //! A whole session: input bytes to printed lines.
 
+use super::answer::{Answer, Refusal};
 use super::call::read;
 use super::state::{Memory, State};
-use super::step::{Answer, Refusal};
 
 /// A session looks at no byte beyond these.
 pub const INPUT_LIMIT: usize = 32_768;

@@ -1,8 +1,9 @@
 //! The whole state, a fresh start, and when a state is well formed.
 
+use super::answer::Refusal;
 use super::capability::Range;
+use super::claims::Claims;
 use super::pages::Pages;
-use super::step::Refusal;
 use super::table::{Standing, Table};
 
 /// A cell and its tag, as registers and mailboxes hold them.
@@ -27,6 +28,7 @@ pub struct State {
     pub revocation: Option<Revocation>,
     pub registers: [[Slot; 8]; 8],
     pub mailboxes: [Slot; 8],
+    pub claims: Claims,
 }
 
 /// Lent memory: cells and as many tag bytes.
@@ -47,6 +49,7 @@ impl State {
             revocation: None,
             registers: [[Slot::default(); 8]; 8],
             mailboxes: [Slot::default(); 8],
+            claims: Claims::fresh(),
         })
     }
 
@@ -55,6 +58,7 @@ impl State {
             && self.table.is_well_formed(self.pages.virtual_cells())
             && self.revocation_is_well_formed()
             && self.mailboxes.iter().all(|slot| slot.tag || slot.cell == 0)
+            && self.claims.is_well_formed(self.pages.pages().len())
     }
 
     /// At most one row is Revoking, and then the running revocation is that row's.

@@ -1,66 +1,11 @@
 //! One call: its refusal with everything kept, or its effect and answer.
 
+use super::answer::{Answer, Refusal};
 use super::call::{read, Action, Call};
 use super::capability::{self as cap, Range};
 use super::pages::{FrameUse, CELLS_A_PAGE};
 use super::state::{Memory, Revocation, Slot, State};
 use super::table::{Standing, NOBODY};
-
-/// Why a call is turned down, by document 01's numbers.
-#[derive(Clone, Copy, Debug, PartialEq, Eq)]
-#[repr(u8)]
-pub enum Refusal {
-    IllFormed = 1,
-    LentLength = 2,
-    NoCommand = 3,
-    AboveSeven = 4,
-    NotManager = 5,
-    NotHeld = 6,
-    WrongStanding = 7,
-    SplitLength = 8,
-    TableFull = 9,
-    NotWholePages = 10,
-    RevocationOrder = 11,
-    NoSuchPage = 12,
-    PageState = 13,
-    FrameState = 14,
-    Untagged = 15,
-    NoPermission = 16,
-    OutOfBounds = 17,
-    NotMapped = 18,
-    Mailbox = 19,
-}
-
-#[derive(Clone, Copy, Debug, Default, PartialEq, Eq)]
-pub struct Answer {
-    pub code: u8,
-    pub number: u64,
-    pub tag: bool,
-}
-
-impl Answer {
-    const GRANTED: Answer = Answer::number(0);
-
-    const fn number(number: u64) -> Answer {
-        Answer { code: 0, number, tag: false }
-    }
-
-    /// The answer and the bytes used as four numbers.
-    #[inline]
-    pub fn numbers(self, used: usize) -> [u64; 4] {
-        [self.code.into(), self.number, self.tag.into(), used as u64]
-    }
-
-    fn slot(slot: Slot) -> Answer {
-        Answer { code: 0, number: slot.cell, tag: slot.tag }
-    }
-}
-
-impl From<Refusal> for Answer {
-    fn from(refusal: Refusal) -> Answer {
-        Answer { code: refusal as u8, number: 0, tag: false }
-    }
-}
 
 type Outcome = Result<Answer, Refusal>;
 
@@ -172,6 +117,12 @@ impl State {
             Action::TakeMasked { base, reg, mask } => {
                 self.take(p, base, reg, cap::ALL_PERMISSIONS & mask)
             }
+            Action::Create { parent, child, limit, holder } => {
+                self.create(p, parent, child, limit, holder)
+            }
+            Action::Claim { principal, page } => self.claim(p, principal, page),
+            Action::Release { principal, page } => self.release(p, principal, page),
+            Action::Destroy { principal } => self.destroy(p, principal),
         }
     }
 
@@ -272,7 +223,7 @@ impl State {
     fn unmap(&mut self, party: u8, page: u8) -> Outcome {
         up_to_seven(&[party])?;
         manager(party)?;
-        self.pages.unmap(page)?;
+        self.pages.unmap(page, |page| self.claims.is_claimed(page))?;
         Ok(Answer::GRANTED)
     }
 
@@ -344,6 +295,32 @@ impl State {
         let received = std::mem::take(mailbox);
         *self.register(party, d) = received;
         Ok(Answer::slot(received))
+    }
+
+    fn create(&mut self, party: u8, parent: u8, child: u8, limit: u16, holder: u8) -> Outcome {
+        up_to_seven(&[party, holder])?;
+        self.claims.create(party, parent, child, limit, holder)?;
+        Ok(Answer::GRANTED)
+    }
+
+    fn claim(&mut self, party: u8, principal: u8, page: u8) -> Outcome {
+        up_to_seven(&[party])?;
+        let page = self.pages.named_page(page)?;
+        self.claims.claim(party, principal, page)?;
+        Ok(Answer::GRANTED)
+    }
+
+    fn release(&mut self, party: u8, principal: u8, page: u8) -> Outcome {
+        up_to_seven(&[party])?;
+        let page = self.pages.named_page(page)?;
+        self.claims.release(party, principal, page)?;
+        Ok(Answer::GRANTED)
+    }
+
+    fn destroy(&mut self, party: u8, principal: u8) -> Outcome {
+        up_to_seven(&[party])?;
+        self.claims.destroy(party, principal)?;
+        Ok(Answer::GRANTED)
     }
 
     fn register(&mut self, party: u8, register: u8) -> &mut Slot {

@@ -1,7 +1,7 @@
 //! The table of reservations, in rising base.
 
+use super::answer::Refusal;
 use super::capability::Range;
-use super::step::Refusal;
 
 pub const ROWS: usize = 64;
 

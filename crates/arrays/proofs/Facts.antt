@@ -8,6 +8,7 @@ use Rattle.pages.specs.Pages.{FrameEntry}
 use Rattle.pages.specs.Layer.{pageAt, frameAt}
 use Rattle.table.proofs.Sound as sound
 use Rattle.reservations.proofs.CoreKept.{core-facts}
+use Rattle.claims.proofs.RoundTrip.{long-numbers, long-counts}
 use Rattle.words.specs.declared.Slot.{Slot}
 use Rattle.words.specs.Words.{byteOf}
 use Rattle.machine.proofs.Keeps.{facts, arrays}
@@ -27,12 +28,15 @@ pub record Lengths (a : Arrays) : Type 0 where
   pub rows : length (a .rows) ≡ 64
   pub pages : length (a .pages) ≡ 256
   pub frames : length (a .frames) ≡ 128
+  pub principals : length (a .principals) ≡ 32
+  pub counts : length (a .counts) ≡ 8192
   pub count : a .nums .count ≤ 64
 
 pub lengths : (a : Arrays) → Formed a → Lengths a
 unfolding stateOf arraysOf coreOf
 lengths a f =
     let l = arrays (stateOf a) (f .well) in
+    let ok = facts (stateOf a) (f .well) .claims in
     let c = core-facts (stateOf a .core) (facts (stateOf a) (f .well) .core) in
     record {
       words = ap (λ b. length (b .words)) (sym (f .kept)) ∙ length-map (λ (w : Slot). w .cell) (stateOf a .registers) ∙ l .of-registers;
@@ -42,15 +46,17 @@ lengths a f =
       rows = sym (length-map rowFrom (a .rows)) ∙ l .of-rows;
       pages = sym (length-map pageIn (a .pages)) ∙ l .of-pages;
       frames = sym (length-map frameIn (a .frames)) ∙ l .of-frames;
+      principals = ap (λ b. length (b .principals)) (sym (f .kept)) ∙ long-numbers _ (stateOf a .core .claims) ok;
+      counts = ap (λ b. length (b .counts)) (sym (f .kept)) ∙ long-counts _ (stateOf a .core .claims) ok;
       count = sound.sound (16 * stateOf a .core .pages .v) (stateOf a .core .table) (c .rows) .most;
     }
 
 -- What stands in an entry.
-module _ (n : Numbers) (rows pages frames : List ℕ) where
-  pub page-read : (p : ℕ) → pageAt (coreOf n rows pages frames .pages) p ≡ pageFrom (getD pages p 0)
+module _ (n : Numbers) (rows pages frames principals counts : List ℕ) where
+  pub page-read : (p : ℕ) → pageAt (coreOf n rows pages frames principals counts .pages) p ≡ pageFrom (getD pages p 0)
   unfolding pageAt coreOf pageFrom
   page-read p = ap (λ (e : PageEntry). e .state) (List·getD-map pageIn pages p 0)
 
-  pub frame-read : (k : ℕ) → frameAt (coreOf n rows pages frames .pages) k ≡ frameFrom (getD frames k 0)
+  pub frame-read : (k : ℕ) → frameAt (coreOf n rows pages frames principals counts .pages) k ≡ frameFrom (getD frames k 0)
   unfolding frameAt coreOf frameFrom
   frame-read k = ap (λ (e : FrameEntry). e .state) (List·getD-map frameIn frames k 0)

@@ -24,6 +24,7 @@ use Rattle.machine.specs.Formed as rules
 use Rattle.machine.proofs.Keeps.{facts}
 use Rattle.table.specs.Numbers.{rowFrom, rowCode}
 use Rattle.arrays.specs.Reading.{numbersOf, coreOf, stateOf, arraysOf, Formed}
+use Rattle.claims.proofs.RoundTrip.{claims-back}
 use Rattle.words.proofs.Lent.{slots-back}
 use Rattle.table.proofs.RoundTrip.{AllSized, rows-back}
 
@@ -62,7 +63,7 @@ pub state-back-again : (s : State) → rules.wellFormed s ≡ true → stateOf (
 unfolding stateOf arraysOf coreOf numbersOf
 state-back-again s w =
     let c = core-facts (s .core) (facts s w .core) in
-    rw (pages-back (s .core .pages) (c .layer), frames-back (s .core .pages .frames), table-rows-back (16 * s .core .pages .v) (s .core .table) (c .fits) (c .rows) (facts s w .takers), slots-back (s .registers), slots-back (s .mailboxes))
+    rw (pages-back (s .core .pages) (c .layer), frames-back (s .core .pages .frames), table-rows-back (16 * s .core .pages .v) (s .core .table) (c .fits) (c .rows) (facts s w .takers), slots-back (s .registers), slots-back (s .mailboxes), claims-back (s .core .pages .v) (s .core .claims) (facts s w .claims))
 
 -- So the arrays that a well-formed state is written as are well formed.
 pub written-formed : (s : State) → rules.wellFormed s ≡ true → Formed (arraysOf s)

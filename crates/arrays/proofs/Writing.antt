@@ -1,7 +1,7 @@
 -- A state with one entry exchanged is written as the arrays with one number exchanged. Assumes nothing.
 use Prim.Native.Nat.{ℕ}
 use mathlib.Core.List.{List, map}
-use mathlib.Core.Path.{_≡_, sym, ap, _∙_}
+use mathlib.Core.Path.{_≡_, refl, sym, ap, _∙_}
 use lib.ListN.{length, set}
 use Rattle.pages.specs.declared.PageState.{PageState}
 use Rattle.pages.specs.declared.FrameState.{FrameState}
@@ -10,6 +10,9 @@ use Rattle.pages.specs.Pages.{FrameEntry}
 use Rattle.pages.specs.Entries.{pageEntry, frameEntry}
 use Rattle.pages.specs.Layer.{withPage, withFrame}
 use Rattle.table.specs.Table.{Table}
+use Rattle.claims.specs.Claims.{Claims}
+use Rattle.claims.specs.Numbers.{laid}
+use Rattle.claims.specs.Numbers.{numbersOf as claimNumbers}
 use Rattle.reservations.specs.Core.{Core}
 use Rattle.reservations.specs.Revocation.{core, revoked}
 use Rattle.words.specs.declared.Slot.{Slot}
@@ -20,14 +23,14 @@ use Rattle.arrays.specs.declared.Arrays.{Arrays}
 use Rattle.pages.specs.Numbers.{pageCode, frameCode}
 use Rattle.table.specs.Numbers.{rowCode}
 use Rattle.arrays.specs.Reading.{arrays, numbersOf, stateOf, arraysOf}
-use Rattle.arrays.specs.Steps.{withWords, withMail, withPages, withMails, withTable, counted}
+use Rattle.arrays.specs.Steps.{withWords, withMail, withPages, withMails, withTable, withClaims, counted}
 use Rattle.arrays.proofs.Lists.{map-set}
 
 -- Arrays with equal parts are equal.
-pub same-arrays : {v f c p b₁ b₂ l₁ l₂ : ℕ} {w₁ w₂ k₁ k₂ m₁ m₂ g₁ g₂ r₁ r₂ p₁ p₂ f₁ f₂ : List ℕ} → b₁ ≡ b₂ → l₁ ≡ l₂ → w₁ ≡ w₂ → k₁ ≡ k₂ → m₁ ≡ m₂ → g₁ ≡ g₂ → r₁ ≡ r₂ → p₁ ≡ p₂ → f₁ ≡ f₂
-    → arrays (record { v = v; f = f; count = c; place = p; base = b₁; length = l₁ }) w₁ k₁ m₁ g₁ r₁ p₁ f₁
-    ≡ arrays (record { v = v; f = f; count = c; place = p; base = b₂; length = l₂ }) w₂ k₂ m₂ g₂ r₂ p₂ f₂
-same-arrays e1 e2 e3 e4 e5 e6 e7 e8 e9 = cc
+pub same-arrays : {v f c p b₁ b₂ l₁ l₂ : ℕ} {w₁ w₂ k₁ k₂ m₁ m₂ g₁ g₂ r₁ r₂ p₁ p₂ f₁ f₂ q₁ q₂ n₁ n₂ : List ℕ} → b₁ ≡ b₂ → l₁ ≡ l₂ → w₁ ≡ w₂ → k₁ ≡ k₂ → m₁ ≡ m₂ → g₁ ≡ g₂ → r₁ ≡ r₂ → p₁ ≡ p₂ → f₁ ≡ f₂ → q₁ ≡ q₂ → n₁ ≡ n₂
+    → arrays (record { v = v; f = f; count = c; place = p; base = b₁; length = l₁ }) w₁ k₁ m₁ g₁ r₁ p₁ f₁ q₁ n₁
+    ≡ arrays (record { v = v; f = f; count = c; place = p; base = b₂; length = l₂ }) w₂ k₂ m₂ g₂ r₂ p₂ f₂ q₂ n₂
+same-arrays e1 e2 e3 e4 e5 e6 e7 e8 e9 e10 e11 = cc
 
 module _ (s : State) where
   abbrev w : Arrays
@@ -54,24 +57,30 @@ module _ (s : State) where
       rw (map-set (λ (z : Slot). z .cell) (s .registers) i x, map-set (λ (z : Slot). byteOf (z .tag)) (s .registers) i x, map-set (λ (z : Slot). z .cell) (s .mailboxes) j y, map-set (λ (z : Slot). byteOf (z .tag)) (s .mailboxes) j y)
 
   pub write-page : (p : ℕ) (x : PageState)
-      → arraysOf (withCore s (core (withPage (s .core .pages) p x) (s .core .table) (s .core .place)))
+      → arraysOf (withCore s (core (withPage (s .core .pages) p x) (s .core .table) (s .core .place) (s .core .claims)))
       ≡ withPages (arraysOf s) (set (arraysOf s .pages) p (pageCode x)) (arraysOf s .frames)
   unfolding arraysOf withCore withPage numbersOf revoked
   write-page p x = rw (map-set (λ (e : PageEntry). pageCode (e .state)) (s .core .pages .pages) p (pageEntry x))
 
   pub write-frame : (k : ℕ) (x : FrameState)
-      → arraysOf (withCore s (core (withFrame (s .core .pages) k x) (s .core .table) (s .core .place)))
+      → arraysOf (withCore s (core (withFrame (s .core .pages) k x) (s .core .table) (s .core .place) (s .core .claims)))
       ≡ withPages (arraysOf s) (arraysOf s .pages) (set (arraysOf s .frames) k (frameCode x))
   unfolding arraysOf withCore withFrame numbersOf revoked
   write-frame k x = rw (map-set (λ (e : FrameEntry). frameCode (e .state)) (s .core .pages .frames) k (frameEntry x))
 
   -- A whole table, where the revoked range stays.
   pub write-table : (t : Table)
-      → revoked (core (s .core .pages) t (s .core .place)) ≡ revoked (s .core)
-      → arraysOf (withCore s (core (s .core .pages) t (s .core .place)))
+      → revoked (core (s .core .pages) t (s .core .place) (s .core .claims)) ≡ revoked (s .core)
+      → arraysOf (withCore s (core (s .core .pages) t (s .core .place) (s .core .claims)))
       ≡ withTable (arraysOf s) (counted (arraysOf s .nums) (t .count)) (map rowCode (t .rows))
   unfolding arraysOf withCore numbersOf
   write-table t e = rw e
+
+  -- Other claims.
+  pub write-claims : (x : Claims)
+      → arraysOf (withCore s (core (s .core .pages) (s .core .table) (s .core .place) x)) ≡ withClaims (arraysOf s) (claimNumbers x) (laid (x .counts))
+  unfolding arraysOf withCore numbersOf revoked
+  write-claims x = refl
 
 -- A core and a register.
 pub write-core-register : (s : State) (c : Core) (i : ℕ) (x : Slot)
@@ -104,16 +113,20 @@ module _ (a : Arrays) (e : arraysOf (stateOf a) ≡ a) where
   abbrev c : Core
   c = stateOf a .core
 
-  pub put-table : (t : Table) → revoked (core (c .pages) t (c .place)) ≡ revoked c
-      → withTable a (counted (a .nums) (t .count)) (map rowCode (t .rows)) ≡ arraysOf (withCore (stateOf a) (core (c .pages) t (c .place)))
+  pub put-table : (t : Table) → revoked (core (c .pages) t (c .place) (c .claims)) ≡ revoked c
+      → withTable a (counted (a .nums) (t .count)) (map rowCode (t .rows)) ≡ arraysOf (withCore (stateOf a) (core (c .pages) t (c .place) (c .claims)))
   put-table t k = ap (λ b. withTable b (counted (b .nums) (t .count)) (map rowCode (t .rows))) (sym e) ∙ sym (write-table (stateOf a) t k)
 
   -- A page and a frame: the two one after the other.
   pub put-both : (p k : ℕ) (x : PageState) (y : FrameState)
       → withPages a (set (a .pages) p (pageCode x)) (set (a .frames) k (frameCode y))
-      ≡ arraysOf (withCore (stateOf a) (core (withFrame (withPage (c .pages) p x) k y) (c .table) (c .place)))
+      ≡ arraysOf (withCore (stateOf a) (core (withFrame (withPage (c .pages) p x) k y) (c .table) (c .place) (c .claims)))
   put-both p k x y =
-      let s = withCore (stateOf a) (core (withPage (c .pages) p x) (c .table) (c .place)) in
+      let s = withCore (stateOf a) (core (withPage (c .pages) p x) (c .table) (c .place) (c .claims)) in
       ap (λ b. withPages b (set (b .pages) p (pageCode x)) (set (b .frames) k (frameCode y))) (sym e)
       ∙ ap (λ b. withPages b (b .pages) (set (b .frames) k (frameCode y))) (sym (write-page (stateOf a) p x))
       ∙ sym (unfold withCore in write-frame s k y)
+
+  pub put-claims : (x : Claims)
+      → withClaims a (claimNumbers x) (laid (x .counts)) ≡ arraysOf (withCore (stateOf a) (core (c .pages) (c .table) (c .place) x))
+  put-claims x = ap (λ b. withClaims b (claimNumbers x) (laid (x .counts))) (sym e) ∙ sym (write-claims (stateOf a) x)

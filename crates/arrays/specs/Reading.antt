@@ -14,20 +14,22 @@ use Rattle.arrays.specs.declared.Numbers.{Numbers}
 use Rattle.arrays.specs.declared.Arrays.{Arrays}
 use Rattle.pages.specs.Numbers.{pageCode, frameCode, pageIn, frameIn, layerOf}
 use Rattle.table.specs.Numbers.{rowFrom, rowCode}
+use Rattle.claims.specs.Numbers.{claimsIn, laid}
+use Rattle.claims.specs.Numbers.{numbersOf as claimNumbers}
 use Rattle.words.specs.Lent.{slotsOf, cellsOf, bytesOf}
 
-abbrev pub arrays : Numbers → List ℕ → List ℕ → List ℕ → List ℕ → List ℕ → List ℕ → List ℕ → Arrays
-arrays nums words marks mail flags rows pages frames =
-    record { nums = nums; words = words; marks = marks; mail = mail; flags = flags; rows = rows; pages = pages; frames = frames }
+abbrev pub arrays : Numbers → List ℕ → List ℕ → List ℕ → List ℕ → List ℕ → List ℕ → List ℕ → List ℕ → List ℕ → Arrays
+arrays nums words marks mail flags rows pages frames principals counts =
+    record { nums = nums; words = words; marks = marks; mail = mail; flags = flags; rows = rows; pages = pages; frames = frames; principals = principals; counts = counts }
 
-unfoldable pub coreOf : Numbers → List ℕ → List ℕ → List ℕ → Core
-coreOf n rows pages frames =
-    core (layerOf (n .v) (n .f) pages frames) (table (map rowFrom rows) (n .count)) (n .place)
+unfoldable pub coreOf : Numbers → List ℕ → List ℕ → List ℕ → List ℕ → List ℕ → Core
+coreOf n rows pages frames principals counts =
+    core (layerOf (n .v) (n .f) pages frames) (table (map rowFrom rows) (n .count)) (n .place) (claimsIn principals counts)
 
 -- Every arrays are some state, well formed or not.
 unfoldable pub stateOf : Arrays → State
 stateOf a =
-    record { core = coreOf (a .nums) (a .rows) (a .pages) (a .frames); registers = slotsOf (a .words) (a .marks); mailboxes = slotsOf (a .mail) (a .flags) }
+    record { core = coreOf (a .nums) (a .rows) (a .pages) (a .frames) (a .principals) (a .counts); registers = slotsOf (a .words) (a .marks); mailboxes = slotsOf (a .mail) (a .flags) }
 
 -- The numbers that go by value. The revoked range is kept beside the table, which already says it.
 unfoldable pub numbersOf : Core → Numbers
@@ -38,6 +40,7 @@ unfoldable pub arraysOf : State → Arrays
 arraysOf s =
     arrays (numbersOf (s .core)) (cellsOf (s .registers)) (bytesOf (s .registers)) (cellsOf (s .mailboxes)) (bytesOf (s .mailboxes))
     (map rowCode (s .core .table .rows)) (map (λ e. pageCode (e .state)) (s .core .pages .pages)) (map (λ e. frameCode (e .state)) (s .core .pages .frames))
+    (claimNumbers (s .core .claims)) (laid (s .core .claims .counts))
 
 -- Arrays are well formed if the state read is, and they are what that state is written as.
 pub record Formed (a : Arrays) : Type 0 where

@@ -36,22 +36,26 @@ Does r before after c = Formed before → (cells tags : List ℕ) → leaving r 
 
 -- Parts of arrays exchanged.
 abbrev pub withWords : Arrays → List ℕ → List ℕ → Arrays
-withWords a words marks = arrays (a .nums) words marks (a .mail) (a .flags) (a .rows) (a .pages) (a .frames)
+withWords a words marks = arrays (a .nums) words marks (a .mail) (a .flags) (a .rows) (a .pages) (a .frames) (a .principals) (a .counts)
 
 abbrev pub withMail : Arrays → List ℕ → List ℕ → Arrays
-withMail a mail flags = arrays (a .nums) (a .words) (a .marks) mail flags (a .rows) (a .pages) (a .frames)
+withMail a mail flags = arrays (a .nums) (a .words) (a .marks) mail flags (a .rows) (a .pages) (a .frames) (a .principals) (a .counts)
 
 abbrev pub withRows : Arrays → List ℕ → Arrays
-withRows a rows = arrays (a .nums) (a .words) (a .marks) (a .mail) (a .flags) rows (a .pages) (a .frames)
+withRows a rows = arrays (a .nums) (a .words) (a .marks) (a .mail) (a .flags) rows (a .pages) (a .frames) (a .principals) (a .counts)
 
 abbrev pub withPages : Arrays → List ℕ → List ℕ → Arrays
-withPages a pages frames = arrays (a .nums) (a .words) (a .marks) (a .mail) (a .flags) (a .rows) pages frames
+withPages a pages frames = arrays (a .nums) (a .words) (a .marks) (a .mail) (a .flags) (a .rows) pages frames (a .principals) (a .counts)
 
 abbrev pub withMails : Arrays → List ℕ → List ℕ → List ℕ → List ℕ → Arrays
-withMails a words marks mail flags = arrays (a .nums) words marks mail flags (a .rows) (a .pages) (a .frames)
+withMails a words marks mail flags = arrays (a .nums) words marks mail flags (a .rows) (a .pages) (a .frames) (a .principals) (a .counts)
 
 abbrev pub withTable : Arrays → Numbers → List ℕ → Arrays
-withTable a nums rows = arrays nums (a .words) (a .marks) (a .mail) (a .flags) rows (a .pages) (a .frames)
+withTable a nums rows = arrays nums (a .words) (a .marks) (a .mail) (a .flags) rows (a .pages) (a .frames) (a .principals) (a .counts)
+
+abbrev pub withClaims : Arrays → List ℕ → List ℕ → Arrays
+withClaims a principals counts =
+    arrays (a .nums) (a .words) (a .marks) (a .mail) (a .flags) (a .rows) (a .pages) (a .frames) principals counts
 
 -- The small numbers, with so many rows in use.
 abbrev pub counted : Numbers → ℕ → Numbers

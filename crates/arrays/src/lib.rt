@@ -10,7 +10,8 @@ pub struct Numbers {
     pub length: u16,
 }
 
-// The whole state: registers and mailboxes as cells and tag bytes, rows, pages and frames as numbers.
+// The whole state: registers and mailboxes as cells and tag bytes; rows, pages, frames and principals as numbers; and the counts of claims,
+// 256 a principal.
 pub struct Arrays {
     pub nums: Numbers,
     pub words: [u64; 64],
@@ -20,6 +21,8 @@ pub struct Arrays {
     pub rows: [u64; 64],
     pub pages: [u16; 256],
     pub frames: [u8; 128],
+    pub principals: [u64; 32],
+    pub counts: [u16; 8192],
 }
 
 // A call's answer; code 0 means granted.

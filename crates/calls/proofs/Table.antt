@@ -12,7 +12,7 @@ use native.Mathlib.Omega.{arith}
 use Rattle.calls.specs.Bytes.{number, numbersAt, sum}
 use Rattle.calls.specs.Commands.{Command, commands, take-command, lastByte, commandOf, lengthOf, lengths, callAt, partsOf, byteOf, operandsOf}
 use Rattle.calls.specs.declared.Call.{Call}
-use Rattle.calls.specs.declared.Call.the-variants.{Take, Split, Merge, Give, Revoke, Sweep, Collect, Map, Unmap, Zero, Load, Store, Narrow, Number, Grant, Receive, TakeMasked}
+use Rattle.calls.specs.declared.Call.the-variants.{Take, Split, Merge, Give, Revoke, Sweep, Collect, Map, Unmap, Zero, Load, Store, Narrow, Number, Grant, Receive, TakeMasked, Create, Claim, Release, Destroy}
 use Rattle.calls.proofs.Bytes.{formed}
 
 -- A call is made of its operands again; its command's length is that of the operands and a byte; each operand has a width.
@@ -39,6 +39,10 @@ listed (Number party d value) = record { made = refl; long = refl; shaped = refl
 listed (Grant party s to) = record { made = refl; long = refl; shaped = refl }
 listed (Receive party d) = record { made = refl; long = refl; shaped = refl }
 listed (TakeMasked party base reg mask) = record { made = refl; long = refl; shaped = refl }
+listed (Create party parent child limit holder) = record { made = refl; long = refl; shaped = refl }
+listed (Claim party principal page) = record { made = refl; long = refl; shaped = refl }
+listed (Release party principal page) = record { made = refl; long = refl; shaped = refl }
+listed (Destroy party principal) = record { made = refl; long = refl; shaped = refl }
 
 -- ---- a row
 

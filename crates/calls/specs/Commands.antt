@@ -6,7 +6,7 @@ use Rattle.pages.specs.declared.VirtualPage.{VirtualPage}
 use Rattle.pages.specs.declared.Frame.{Frame}
 use Rattle.calls.specs.Bytes.{bytesIn, numbersAt, sum, Fit}
 use Rattle.calls.specs.declared.Call.{Call}
-use Rattle.calls.specs.declared.Call.the-variants.{Take, Split, Merge, Give, Revoke, Sweep, Collect, Map, Unmap, Zero, Load, Store, Narrow, Number, Grant, Receive, TakeMasked}
+use Rattle.calls.specs.declared.Call.the-variants.{Take, Split, Merge, Give, Revoke, Sweep, Collect, Map, Unmap, Zero, Load, Store, Narrow, Number, Grant, Receive, TakeMasked, Create, Claim, Release, Destroy}
 
 abbrev pub page : ℕ → VirtualPage
 page n = record { 0 = n }
@@ -63,6 +63,14 @@ commands =
     ∷ command (1 ∷ 1 ∷ []) (λ x. Receive (x 0) (x 1))
     -- 11 take P base/2 reg mask
     ∷ command (1 ∷ 2 ∷ 1 ∷ 1 ∷ []) (λ x. TakeMasked (x 0) (x 1) (x 2) (x 3))
+    -- 12 create P parent child limit/2 holder
+    ∷ command (1 ∷ 1 ∷ 1 ∷ 2 ∷ 1 ∷ []) (λ x. Create (x 0) (x 1) (x 2) (x 3) (x 4))
+    -- 13 claim P principal page
+    ∷ command (1 ∷ 1 ∷ 1 ∷ []) (λ x. Claim (x 0) (x 1) (page (x 2)))
+    -- 14 release P principal page
+    ∷ command (1 ∷ 1 ∷ 1 ∷ []) (λ x. Release (x 0) (x 1) (page (x 2)))
+    -- 15 destroy P principal
+    ∷ command (1 ∷ 1 ∷ []) (λ x. Destroy (x 0) (x 1))
     ∷ []
 
 -- The byte of the last command, which is how many there are.
@@ -104,6 +112,10 @@ partsOf (Number party d value) = (0x0E, party ∷ d ∷ value ∷ [])
 partsOf (Grant party s to) = (0x0F, party ∷ s ∷ to ∷ [])
 partsOf (Receive party d) = (0x10, party ∷ d ∷ [])
 partsOf (TakeMasked party base reg mask) = (0x11, party ∷ base ∷ reg ∷ mask ∷ [])
+partsOf (Create party parent child limit holder) = (0x12, party ∷ parent ∷ child ∷ limit ∷ holder ∷ [])
+partsOf (Claim party principal page) = (0x13, party ∷ principal ∷ page .0 ∷ [])
+partsOf (Release party principal page) = (0x14, party ∷ principal ∷ page .0 ∷ [])
+partsOf (Destroy party principal) = (0x15, party ∷ principal ∷ [])
 
 abbrev pub byteOf : Call → ℕ
 byteOf c = partsOf c .0

@@ -36,6 +36,14 @@ pub(crate) const RECEIVE: u8 = 0x10;
 
 pub(crate) const TAKE_MASKED: u8 = 0x11;
 
+pub(crate) const CREATE: u8 = 0x12;
+
+pub(crate) const CLAIM: u8 = 0x13;
+
+pub(crate) const RELEASE: u8 = 0x14;
+
+pub(crate) const DESTROY: u8 = 0x15;
+
 // The length of the longest.
 pub(crate) const LONGEST: usize = 11;
 
@@ -61,6 +69,10 @@ pub(crate) fn length_of(command: u8) -> usize
         GRANT => 4,
         RECEIVE => 3,
         TAKE_MASKED => 6,
+        CREATE => 7,
+        CLAIM => 4,
+        RELEASE => 4,
+        DESTROY => 3,
         _ => 0,
     }
 }

@@ -96,6 +96,27 @@ pub enum Call {
         reg: u8,
         mask: u8,
     },
+    Create {
+        party: u8,
+        parent: u8,
+        child: u8,
+        limit: u16,
+        holder: u8,
+    },
+    Claim {
+        party: u8,
+        principal: u8,
+        page: VirtualPage,
+    },
+    Release {
+        party: u8,
+        principal: u8,
+        page: VirtualPage,
+    },
+    Destroy {
+        party: u8,
+        principal: u8,
+    },
 }
 
 // What reading finds: a call and how many bytes it used, or refusal 3.

@@ -253,6 +253,51 @@ fn take_masked_at(s: &[u8]) -> Call
     }
 }
 
+fn create_at(s: &[u8]) -> Call
+    requires { ⌜ 7 ≤ length (now s) ⌝ }
+    ensures { λ r. ⌜ r ≡ callAt 0x12 (now (s .entry)) ⌝ }
+{
+    Call::Create {
+        party: byte_in(s, 1),
+        parent: byte_in(s, 2),
+        child: byte_in(s, 3),
+        limit: two_at(s, 4),
+        holder: byte_in(s, 6),
+    }
+}
+
+fn claim_at(s: &[u8]) -> Call
+    requires { ⌜ 4 ≤ length (now s) ⌝ }
+    ensures { λ r. ⌜ r ≡ callAt 0x13 (now (s .entry)) ⌝ }
+{
+    Call::Claim {
+        party: byte_in(s, 1),
+        principal: byte_in(s, 2),
+        page: page_at(s, 3),
+    }
+}
+
+fn release_at(s: &[u8]) -> Call
+    requires { ⌜ 4 ≤ length (now s) ⌝ }
+    ensures { λ r. ⌜ r ≡ callAt 0x14 (now (s .entry)) ⌝ }
+{
+    Call::Release {
+        party: byte_in(s, 1),
+        principal: byte_in(s, 2),
+        page: page_at(s, 3),
+    }
+}
+
+fn destroy_at(s: &[u8]) -> Call
+    requires { ⌜ 3 ≤ length (now s) ⌝ }
+    ensures { λ r. ⌜ r ≡ callAt 0x15 (now (s .entry)) ⌝ }
+{
+    Call::Destroy {
+        party: byte_in(s, 1),
+        principal: byte_in(s, 2),
+    }
+}
+
 // The call of a command's byte and the operands after it. In the last arm only the last command is left.
 fn call_at(command: u8, s: &[u8]) -> Call
     requires { ⌜ ((1 ≤ command) × (command ≤ lastByte)) × (lengthOf command ≤ length (now s)) ⌝ }
@@ -275,7 +320,11 @@ fn call_at(command: u8, s: &[u8]) -> Call
         commands::NUMBER => number_at(s),
         commands::GRANT => grant_at(s),
         commands::RECEIVE => receive_at(s),
-        _ => take_masked_at(s),
+        commands::TAKE_MASKED => take_masked_at(s),
+        commands::CREATE => create_at(s),
+        commands::CLAIM => claim_at(s),
+        commands::RELEASE => release_at(s),
+        _ => destroy_at(s),
     }
 }
 

@@ -240,6 +240,66 @@ fn take_masked_bytes(party: u8, base: u16, reg: u8, mask: u8) -> [u8; commands::
     ]
 }
 
+fn create_bytes(party: u8, parent: u8, child: u8, limit: u16, holder: u8) -> [u8; commands::LONGEST]
+    ensures { λ r. ⌜ r ≡ padded (bytesOf (Call.Create party parent child limit holder)) ⌝ }
+{
+    [
+        commands::CREATE,
+        party,
+        parent,
+        child,
+        high(limit),
+        low(limit),
+        holder,
+        0,
+        0,
+        0,
+        0,
+    ]
+}
+
+fn claim_bytes(party: u8, principal: u8, page: VirtualPage) -> [u8; commands::LONGEST]
+    ensures { λ r. ⌜ r ≡ padded (bytesOf (Call.Claim party principal page)) ⌝ }
+{
+    [
+        commands::CLAIM,
+        party,
+        principal,
+        page.0,
+        0,
+        0,
+        0,
+        0,
+        0,
+        0,
+        0,
+    ]
+}
+
+fn release_bytes(party: u8, principal: u8, page: VirtualPage) -> [u8; commands::LONGEST]
+    ensures { λ r. ⌜ r ≡ padded (bytesOf (Call.Release party principal page)) ⌝ }
+{
+    [
+        commands::RELEASE,
+        party,
+        principal,
+        page.0,
+        0,
+        0,
+        0,
+        0,
+        0,
+        0,
+        0,
+    ]
+}
+
+fn destroy_bytes(party: u8, principal: u8) -> [u8; commands::LONGEST]
+    ensures { λ r. ⌜ r ≡ padded (bytesOf (Call.Destroy party principal)) ⌝ }
+{
+    [commands::DESTROY, party, principal, 0, 0, 0, 0, 0, 0, 0, 0]
+}
+
 // A call's bytes, and 0 after them.
 fn bytes_of(call: Call) -> [u8; commands::LONGEST]
     ensures { λ r. ⌜ r ≡ padded (bytesOf call) ⌝ }
@@ -274,6 +334,24 @@ fn bytes_of(call: Call) -> [u8; commands::LONGEST]
             reg,
             mask,
         } => take_masked_bytes(party, base, reg, mask),
+        Call::Create {
+            party,
+            parent,
+            child,
+            limit,
+            holder,
+        } => create_bytes(party, parent, child, limit, holder),
+        Call::Claim {
+            party,
+            principal,
+            page,
+        } => claim_bytes(party, principal, page),
+        Call::Release {
+            party,
+            principal,
+            page,
+        } => release_bytes(party, principal, page),
+        Call::Destroy { party, principal } => destroy_bytes(party, principal),
     }
 }
 

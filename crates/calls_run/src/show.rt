@@ -93,5 +93,27 @@ pub(crate) fn call(c: Call) {
             base_with(b"take", party, base, reg as u64);
             number(mask as u64);
         }
+        Call::Create {
+            party,
+            parent,
+            child,
+            limit,
+            holder,
+        } => {
+            three(b"create", party, parent, child);
+            number(limit as u64);
+            number(holder as u64);
+        }
+        Call::Claim {
+            party,
+            principal,
+            page,
+        } => three(b"claim", party, principal, page.0),
+        Call::Release {
+            party,
+            principal,
+            page,
+        } => three(b"release", party, principal, page.0),
+        Call::Destroy { party, principal } => two(b"destroy", party, principal),
     }
 }

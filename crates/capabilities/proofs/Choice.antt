@@ -47,10 +47,18 @@ pub or-false : (a b : Bool) → a || b ≡ false → (a ≡ false) × (b ≡ fal
 or-false true b e = absurd (true≢false e)
 or-false false b e = (refl, e)
 
--- A flag counts for one at most.
+-- A number that a test may drop, and a flag, which counts for one at most.
+pub pick-most : (b : Bool) (n : ℕ) → pick b n 0 ≤ n
+pick-most true n = omega arith
+pick-most false n = omega arith
+
 pub at-most : (b : Bool) → pick b 1 0 ≤ 1
-at-most true = omega arith
-at-most false = omega arith
+at-most b = pick-most b 1
+
+-- A test that cannot hold is false.
+pub is-false : (b : Bool) → (b ≡ true → ⊥) → b ≡ false
+is-false true f = absurd (f refl)
+is-false false f = refl
 
 -- Two tests that hold together are one.
 pub same-test : (a b : Bool) → (a ≡ true → b ≡ true) → (b ≡ true → a ≡ true) → a ≡ b

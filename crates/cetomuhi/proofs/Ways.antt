@@ -29,10 +29,10 @@ use Rattle.cetomuhi.specs.Exports.{done, doneOne, endCode, reached, Star
 module _ (l : Lent) where
   -- What is lent, with the small numbers that were read from it.
   abbrev with-numbers : Numbers → Arrays
-  with-numbers n = arrays n (l .words) (l .marks) (l .mail) (l .flags) (l .rows) (l .pages) (l .frames)
+  with-numbers n = arrays n (l .words) (l .marks) (l .mail) (l .flags) (l .rows) (l .pages) (l .frames) (l .principals) (l .counts)
 
   abbrev over : List ℕ → Arrays → Lent
-  over numbers b = lent numbers (b .words) (b .marks) (b .mail) (b .flags) (b .rows) (b .pages) (b .frames)
+  over numbers b = lent numbers (b .words) (b .marks) (b .mail) (b .flags) (b .rows) (b .pages) (b .frames) (b .principals) (b .counts)
 
   abbrev fit : Bool
   fit = eqb (length (l .numbers)) 6 && sized (arraysIn l)

@@ -85,7 +85,7 @@ put-four a b c d (x₀ ∷ x₁ ∷ x₂ ∷ x₃ ∷ l) h = refl
 
 -- Arrays written over what is lent are read back; those that were read change nothing.
 pub arrays-back : (a : Arrays) (l : Lent) → length (l .numbers) ≡ 6 → arraysIn (arraysOver a l) ≡ a
-arrays-back a l h = ap (λ (n : Numbers). arrays n (a .words) (a .marks) (a .mail) (a .flags) (a .rows) (a .pages) (a .frames)) (written-read (a .nums) (l .numbers) h)
+arrays-back a l h = ap (λ (n : Numbers). arrays n (a .words) (a .marks) (a .mail) (a .flags) (a .rows) (a .pages) (a .frames) (a .principals) (a .counts)) (written-read (a .nums) (l .numbers) h)
 
 pub lent-back : (l : Lent) → arraysOver (arraysIn l) l ≡ l
-lent-back l = ap (λ (x : List ℕ). lent x (l .words) (l .marks) (l .mail) (l .flags) (l .rows) (l .pages) (l .frames)) (read-written (l .numbers))
+lent-back l = ap (λ (x : List ℕ). lent x (l .words) (l .marks) (l .mail) (l .flags) (l .rows) (l .pages) (l .frames) (l .principals) (l .counts)) (read-written (l .numbers))

@@ -13,9 +13,9 @@ use Rattle.step.specs.Entries.{Told, commandOn}
 use Rattle.step.specs.Runs.{answerNumbers, runIn}
 use Rattle.cetomuhi.specs.Lent.{Lent, arraysIn, arraysOver}
 
--- The lengths of the eight lists of a state in their order, the numbers of an answer and those of a call; 0 past these.
+-- The lengths of the ten lists of a state in their order, the numbers of an answer and those of a call; 0 past these.
 unfoldable pub sizeOf : ℕ → ℕ
-sizeOf which = getD (6 ∷ 64 ∷ 64 ∷ 8 ∷ 8 ∷ 64 ∷ 256 ∷ 128 ∷ 4 ∷ 7 ∷ []) which 0
+sizeOf which = getD (6 ∷ 64 ∷ 64 ∷ 8 ∷ 8 ∷ 64 ∷ 256 ∷ 128 ∷ 32 ∷ 8192 ∷ 4 ∷ 7 ∷ []) which 0
 
 -- A start: its code, and what is lent afterwards.
 pub record Started : Type 0 where

@@ -8,7 +8,7 @@ use Rattle.arrays.specs.declared.Arrays.{Arrays}
 use Rattle.arrays.specs.declared.Numbers.{Numbers}
 use Rattle.arrays.specs.Reading.{arrays}
 
--- The small numbers and the seven arrays: eight lists, in the order in which they cross the boundary.
+-- The small numbers and the nine arrays: ten lists, in the order in which they cross the boundary.
 pub record Lent : Type 0 where
   pub numbers : List ℕ
   pub words : List ℕ
@@ -18,10 +18,12 @@ pub record Lent : Type 0 where
   pub rows : List ℕ
   pub pages : List ℕ
   pub frames : List ℕ
+  pub principals : List ℕ
+  pub counts : List ℕ
 
-abbrev pub lent : List ℕ → List ℕ → List ℕ → List ℕ → List ℕ → List ℕ → List ℕ → List ℕ → Lent
-lent numbers words marks mail flags rows pages frames =
-    record { numbers = numbers; words = words; marks = marks; mail = mail; flags = flags; rows = rows; pages = pages; frames = frames }
+abbrev pub lent : List ℕ → List ℕ → List ℕ → List ℕ → List ℕ → List ℕ → List ℕ → List ℕ → List ℕ → List ℕ → Lent
+lent numbers words marks mail flags rows pages frames principals counts =
+    record { numbers = numbers; words = words; marks = marks; mail = mail; flags = flags; rows = rows; pages = pages; frames = frames; principals = principals; counts = counts }
 
 -- The small numbers by name.
 abbrev pub small : ℕ → ℕ → ℕ → ℕ → ℕ → ℕ → Numbers
@@ -39,7 +41,7 @@ numbersOver n l =
 
 -- What is lent as arrays, and arrays written over it.
 abbrev pub arraysIn : Lent → Arrays
-arraysIn l = arrays (numbersFrom (l .numbers)) (l .words) (l .marks) (l .mail) (l .flags) (l .rows) (l .pages) (l .frames)
+arraysIn l = arrays (numbersFrom (l .numbers)) (l .words) (l .marks) (l .mail) (l .flags) (l .rows) (l .pages) (l .frames) (l .principals) (l .counts)
 
 abbrev pub arraysOver : Arrays → Lent → Lent
-arraysOver a l = lent (numbersOver (a .nums) (l .numbers)) (a .words) (a .marks) (a .mail) (a .flags) (a .rows) (a .pages) (a .frames)
+arraysOver a l = lent (numbersOver (a .nums) (l .numbers)) (a .words) (a .marks) (a .mail) (a .flags) (a .rows) (a .pages) (a .frames) (a .principals) (a .counts)

@@ -59,14 +59,27 @@ fn at_end(
     rows: &[u64],
     pages: &[u16],
     frames: &[u8],
+    principals: &[u64],
+    counts: &[u16],
     cells: &[u64],
     tags: &[u8],
 ) -> Answer
-    ensures { λ r. ⌜ r ≡ answering (endCode (arrays nums (now (words .entry)) (now (marks .entry)) (now (mail .entry)) (now (flags .entry)) (now (rows .entry)) (now (pages .entry)) (now (frames .entry))) (now (cells .entry)) (now (tags .entry))) empty ⌝ }
+    ensures { λ r. ⌜ r ≡ answering (endCode (arrays nums (now (words .entry)) (now (marks .entry)) (now (mail .entry)) (now (flags .entry)) (now (rows .entry)) (now (pages .entry)) (now (frames .entry)) (now (principals .entry)) (now (counts .entry))) (now (cells .entry)) (now (tags .entry))) empty ⌝ }
 {
     let size = 16 * (nums.f as usize);
     let fits = (cells.len() == size) & (tags.len() == size);
-    let good = formed(nums, words, marks, mail, flags, rows, pages, frames);
+    let good = formed(
+        nums,
+        words,
+        marks,
+        mail,
+        flags,
+        rows,
+        pages,
+        frames,
+        principals,
+        counts,
+    );
     let code = first(1, !good, first(2, !fits, 3));
     Answer {
         code,
@@ -78,19 +91,19 @@ fn at_end(
 // The number of this boundary; another layout has another one, and so have rules under which a call that was there does something else.
 #[no_mangle]
 pub extern "C" fn cetomuhi_version() -> u64
-    ensures { λ r. ⌜ r ≡ 4 ⌝ }
+    ensures { λ r. ⌜ r ≡ 5 ⌝ }
 {
-    4
+    5
 }
 
-const SIZES: [usize; 10] = [6, 64, 64, 8, 8, 64, 256, 128, 4, 7];
+const SIZES: [usize; 12] = [6, 64, 64, 8, 8, 64, 256, 128, 32, 8192, 4, 7];
 
-// How many numbers a list of the state has, by its place in the order of the arguments; 8: an answer, 9: a call. 0 above these.
+// How many numbers a list of the state has, by its place in the order of the arguments; 10: an answer, 11: a call. 0 above these.
 #[no_mangle]
 pub extern "C" fn cetomuhi_size(which: u64) -> usize
     ensures { λ r. ⌜ r ≡ sizeOf which ⌝ }
 {
-    if which < 10 {
+    if which < 12 {
         let sizes = SIZES;
         return sizes[which as usize];
     }
@@ -111,14 +124,29 @@ pub extern "C" fn cetomuhi_start(
     rows: &mut [u64],
     pages: &mut [u16],
     frames: &mut [u8],
+    principals: &mut [u64],
+    counts: &mut [u16],
 ) -> u8
-    ensures { λ r. ⌜ started r (lent (now (numbers .exit)) (now (words .exit)) (now (marks .exit)) (now (mail .exit)) (now (flags .exit)) (now (rows .exit)) (now (pages .exit)) (now (frames .exit))) ≡ startLent v f (lent (now (numbers .entry)) (now (words .entry)) (now (marks .entry)) (now (mail .entry)) (now (flags .entry)) (now (rows .entry)) (now (pages .entry)) (now (frames .entry))) ⌝ }
+    ensures { λ r. ⌜ started r (lent (now (numbers .exit)) (now (words .exit)) (now (marks .exit)) (now (mail .exit)) (now (flags .exit)) (now (rows .exit)) (now (pages .exit)) (now (frames .exit)) (now (principals .exit)) (now (counts .exit))) ≡ startLent v f (lent (now (numbers .entry)) (now (words .entry)) (now (marks .entry)) (now (mail .entry)) (now (flags .entry)) (now (rows .entry)) (now (pages .entry)) (now (frames .entry)) (now (principals .entry)) (now (counts .entry))) ⌝ }
 {
     if numbers.len() != 6 {
         return 1;
     }
     let nums = numbers_from(numbers);
-    let begun = start_in(v, f, nums, words, marks, mail, flags, rows, pages, frames);
+    let begun = start_in(
+        v,
+        f,
+        nums,
+        words,
+        marks,
+        mail,
+        flags,
+        rows,
+        pages,
+        frames,
+        principals,
+        counts,
+    );
     let next = begun.nums;
     put_numbers(numbers, next);
     begun.code
@@ -135,11 +163,24 @@ pub extern "C" fn cetomuhi_well_formed(
     rows: &[u64],
     pages: &[u16],
     frames: &[u8],
+    principals: &[u64],
+    counts: &[u16],
 ) -> bool
-    ensures { λ r. ⌜ r ≡ formedLent (lent (now (numbers .entry)) (now (words .entry)) (now (marks .entry)) (now (mail .entry)) (now (flags .entry)) (now (rows .entry)) (now (pages .entry)) (now (frames .entry))) ⌝ }
+    ensures { λ r. ⌜ r ≡ formedLent (lent (now (numbers .entry)) (now (words .entry)) (now (marks .entry)) (now (mail .entry)) (now (flags .entry)) (now (rows .entry)) (now (pages .entry)) (now (frames .entry)) (now (principals .entry)) (now (counts .entry))) ⌝ }
 {
     let nums = numbers_from(numbers);
-    formed(nums, words, marks, mail, flags, rows, pages, frames)
+    formed(
+        nums,
+        words,
+        marks,
+        mail,
+        flags,
+        rows,
+        pages,
+        frames,
+        principals,
+        counts,
+    )
 }
 
 // One command of the bytes at a place, on any state, memory and input: a run of one, so that a command's code stands in the archive once.
@@ -155,13 +196,15 @@ pub extern "C" fn cetomuhi_command(
     rows: &mut [u64],
     pages: &mut [u16],
     frames: &mut [u8],
+    principals: &mut [u64],
+    counts: &mut [u16],
     cells: &mut [u64],
     tags: &mut [u8],
     input: &[u8],
     at: usize,
     answers: &mut [u64],
 ) -> usize
-    ensures { λ r. ⌜ done r (lent (now (numbers .exit)) (now (words .exit)) (now (marks .exit)) (now (mail .exit)) (now (flags .exit)) (now (rows .exit)) (now (pages .exit)) (now (frames .exit))) (now (cells .exit)) (now (tags .exit)) (now (answers .exit)) ≡ commandLent (lent (now (numbers .entry)) (now (words .entry)) (now (marks .entry)) (now (mail .entry)) (now (flags .entry)) (now (rows .entry)) (now (pages .entry)) (now (frames .entry))) (now (input .entry)) at (now (cells .entry)) (now (tags .entry)) (now (answers .entry)) ⌝ }
+    ensures { λ r. ⌜ done r (lent (now (numbers .exit)) (now (words .exit)) (now (marks .exit)) (now (mail .exit)) (now (flags .exit)) (now (rows .exit)) (now (pages .exit)) (now (frames .exit)) (now (principals .exit)) (now (counts .exit))) (now (cells .exit)) (now (tags .exit)) (now (answers .exit)) ≡ commandLent (lent (now (numbers .entry)) (now (words .entry)) (now (marks .entry)) (now (mail .entry)) (now (flags .entry)) (now (rows .entry)) (now (pages .entry)) (now (frames .entry)) (now (principals .entry)) (now (counts .entry))) (now (input .entry)) at (now (cells .entry)) (now (tags .entry)) (now (answers .entry)) ⌝ }
 {
     if answers.len() < 4 {
         return 0;
@@ -179,6 +222,8 @@ pub extern "C" fn cetomuhi_command(
             rows,
             pages,
             frames,
+            principals,
+            counts,
             cells,
             tags,
             &mut answers[..4],
@@ -196,6 +241,8 @@ pub extern "C" fn cetomuhi_command(
         rows,
         pages,
         frames,
+        principals,
+        counts,
         cells,
         tags,
     );
@@ -215,13 +262,15 @@ pub extern "C" fn cetomuhi_commands(
     rows: &mut [u64],
     pages: &mut [u16],
     frames: &mut [u8],
+    principals: &mut [u64],
+    counts: &mut [u16],
     cells: &mut [u64],
     tags: &mut [u8],
     input: &[u8],
     at: &mut usize,
     answers: &mut [u64],
 ) -> usize
-    ensures { λ r. ⌜ reached (now (at .exit)) (done r (lent (now (numbers .exit)) (now (words .exit)) (now (marks .exit)) (now (mail .exit)) (now (flags .exit)) (now (rows .exit)) (now (pages .exit)) (now (frames .exit))) (now (cells .exit)) (now (tags .exit)) (now (answers .exit))) ≡ commandsLent (lent (now (numbers .entry)) (now (words .entry)) (now (marks .entry)) (now (mail .entry)) (now (flags .entry)) (now (rows .entry)) (now (pages .entry)) (now (frames .entry))) (now (input .entry)) (now (at .entry)) (now (cells .entry)) (now (tags .entry)) (now (answers .entry)) ⌝ }
+    ensures { λ r. ⌜ reached (now (at .exit)) (done r (lent (now (numbers .exit)) (now (words .exit)) (now (marks .exit)) (now (mail .exit)) (now (flags .exit)) (now (rows .exit)) (now (pages .exit)) (now (frames .exit)) (now (principals .exit)) (now (counts .exit))) (now (cells .exit)) (now (tags .exit)) (now (answers .exit))) ≡ commandsLent (lent (now (numbers .entry)) (now (words .entry)) (now (marks .entry)) (now (mail .entry)) (now (flags .entry)) (now (rows .entry)) (now (pages .entry)) (now (frames .entry)) (now (principals .entry)) (now (counts .entry))) (now (input .entry)) (now (at .entry)) (now (cells .entry)) (now (tags .entry)) (now (answers .entry)) ⌝ }
 {
     let nums = numbers_from(numbers);
     let begin = *at;
@@ -236,6 +285,8 @@ pub extern "C" fn cetomuhi_commands(
         rows,
         pages,
         frames,
+        principals,
+        counts,
         cells,
         tags,
         answers,

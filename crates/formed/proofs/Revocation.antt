@@ -19,25 +19,25 @@ use Rattle.arrays.specs.declared.Numbers.{Numbers}
 use Rattle.arrays.specs.Reading.{coreOf}
 use Rattle.formed.specs.Test.{cached}
 
-module _ (n : Numbers) (rows pages frames : List ℕ) (found : Found) (row : Reservation)
+module _ (n : Numbers) (rows pages frames principals counts : List ℕ) (found : Found) (row : Reservation)
     (e1 : found ≡ revokingOf (tableOf rows (n .count))) (e2 : row ≡ rowOf (tableOf rows (n .count)) found) where
   abbrev c : Core
-  c = coreOf n rows pages frames
+  c = coreOf n rows pages frames principals counts
 
-  found-is : found ≡ revokingOf (coreOf n rows pages frames .table)
+  found-is : found ≡ revokingOf (coreOf n rows pages frames principals counts .table)
   unfolding coreOf
   found-is = e1
 
-  row-is : row ≡ rowOf (coreOf n rows pages frames .table) (revokingOf (coreOf n rows pages frames .table))
+  row-is : row ≡ rowOf (coreOf n rows pages frames principals counts .table) (revokingOf (coreOf n rows pages frames principals counts .table))
   unfolding coreOf
   row-is = e2 ∙ ap (rowOf (tableOf rows (n .count))) e1
 
-  kept-is : (eqb (n .base) (row .base) && eqb (n .length) (row .length)) ≡ cached n (coreOf n rows pages frames)
+  kept-is : (eqb (n .base) (row .base) && eqb (n .length) (row .length)) ≡ cached n (coreOf n rows pages frames principals counts)
   unfolding revoked
   kept-is = ap (λ (r : Reservation). eqb (n .base) (r .base) && eqb (n .length) (r .length)) row-is
 
   pub none-runs : missing found ≡ true
-      → (eqb (n .base) (row .base) && eqb (n .length) (row .length)) && eqb (n .place) 0 ≡ (cached n (coreOf n rows pages frames) && revocationSound (coreOf n rows pages frames))
+      → (eqb (n .base) (row .base) && eqb (n .length) (row .length)) && eqb (n .place) 0 ≡ (cached n (coreOf n rows pages frames principals counts) && revocationSound (coreOf n rows pages frames principals counts))
   unfolding revocationSound running
   none-runs m =
       ap (λ (b : Bool). b && eqb (n .place) 0) kept-is
@@ -46,7 +46,7 @@ module _ (n : Numbers) (rows pages frames : List ℕ) (found : Found) (row : Res
 
   pub one-runs : missing found ≡ false
       → (eqb (n .base) (row .base) && eqb (n .length) (row .length)) && (wholePages row && each (freedIn (rangeOf row)) 0 (map pageIn pages))
-      ≡ (cached n (coreOf n rows pages frames) && revocationSound (coreOf n rows pages frames))
+      ≡ (cached n (coreOf n rows pages frames principals counts) && revocationSound (coreOf n rows pages frames principals counts))
   unfolding revocationSound
   one-runs m =
       let r = rowOf (c .table) (revokingOf (c .table)) in

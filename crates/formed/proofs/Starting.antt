@@ -13,7 +13,8 @@ use Rattle.machine.specs.Formed.{fresh, startOf}
 use Rattle.arrays.specs.declared.Arrays.{Arrays}
 use Rattle.arrays.specs.declared.Numbers.{Numbers}
 use Rattle.arrays.specs.Reading.{arrays, arraysOf}
-use Rattle.arrays.proofs.Starting.{begun, fresh-in, fresh-out, firstNumber}
+use Rattle.claims.specs.Numbers.{sizedIn}
+use Rattle.arrays.proofs.Starting.{begun, fresh-in, fresh-out, firstNumber, rootNumber}
 use Rattle.formed.specs.Test.{sized}
 use Rattle.formed.specs.Fresh.{zeros, starting, startIn}
 
@@ -30,11 +31,12 @@ module _ (v f : ℕ) (a : Arrays) where
   start-unfit e = sym (pick-no (sized a) (starting (startOf v f .code) (arraysOf (startOf v f .state))) (starting 1 a) e)
 
   abbrev with-numbers : Numbers → Arrays
-  with-numbers n = arrays n (a .words) (a .marks) (a .mail) (a .flags) (a .rows) (a .pages) (a .frames)
+  with-numbers n = arrays n (a .words) (a .marks) (a .mail) (a .flags) (a .rows) (a .pages) (a .frames) (a .principals) (a .counts)
 
-  -- The first row is that of all cells.
+  -- The first row is that of all cells, and the first principal the root.
   abbrev with-first : Arrays → Arrays
-  with-first b = arrays (b .nums) (b .words) (b .marks) (b .mail) (b .flags) (set (b .rows) 0 (firstNumber v)) (b .pages) (b .frames)
+  with-first b =
+      arrays (b .nums) (b .words) (b .marks) (b .mail) (b .flags) (set (b .rows) 0 (firstNumber v)) (b .pages) (b .frames) (set (b .principals) 0 rootNumber) (b .counts)
 
   module _ (e : sized a ≡ true) where
     abbrev slots : Bool
@@ -43,17 +45,25 @@ module _ (v f : ℕ) (a : Arrays) where
     abbrev entries : Bool
     entries = eqb (length (a .rows)) 64 && (eqb (length (a .pages)) 256 && eqb (length (a .frames)) 128)
 
-    pub of-rows : length (a .rows) ≡ 64
-    of-rows = eqb-true (length (a .rows)) 64 (and-left (eqb (length (a .rows)) 64) _ (and-right slots entries e))
+    abbrev claims : Bool
+    claims = sizedIn (a .principals) (a .counts)
 
-    -- Cleared arrays of the right lengths, with these small numbers and rows.
-    zeros-are : (n : Numbers) (rows : List ℕ)
-        → arrays n (zeros a .words) (zeros a .marks) (zeros a .mail) (zeros a .flags) rows (zeros a .pages) (zeros a .frames)
-        ≡ arrays n (replicate 64 0) (replicate 64 0) (replicate 8 0) (replicate 8 0) rows (replicate 256 0) (replicate 128 0)
-    zeros-are n rows =
-        let one = and-left (eqb (length (a .words)) 64 && eqb (length (a .marks)) 64) _ (and-left slots entries e) in
-        let two = and-right (eqb (length (a .words)) 64 && eqb (length (a .marks)) 64) _ (and-left slots entries e) in
-        let three = and-right (eqb (length (a .rows)) 64) _ (and-right slots entries e) in
+    pub of-rows : length (a .rows) ≡ 64
+    of-rows = eqb-true (length (a .rows)) 64 (and-left (eqb (length (a .rows)) 64) _ (and-left entries claims (and-right slots (entries && claims) e)))
+
+    pub of-principals : length (a .principals) ≡ 32
+    of-principals =
+        eqb-true (length (a .principals)) 32 (and-left (eqb (length (a .principals)) 32) _ (and-right entries claims (and-right slots (entries && claims) e)))
+
+    -- Cleared arrays of the right lengths, with these small numbers, rows and principals.
+    zeros-are : (n : Numbers) (rows principals : List ℕ)
+        → arrays n (zeros a .words) (zeros a .marks) (zeros a .mail) (zeros a .flags) rows (zeros a .pages) (zeros a .frames) principals (zeros a .counts)
+        ≡ arrays n (replicate 64 0) (replicate 64 0) (replicate 8 0) (replicate 8 0) rows (replicate 256 0) (replicate 128 0) principals (replicate 8192 0)
+    zeros-are n rows principals =
+        let one = and-left (eqb (length (a .words)) 64 && eqb (length (a .marks)) 64) _ (and-left slots (entries && claims) e) in
+        let two = and-right (eqb (length (a .words)) 64 && eqb (length (a .marks)) 64) _ (and-left slots (entries && claims) e) in
+        let rest = and-right slots (entries && claims) e in
+        let three = and-right (eqb (length (a .rows)) 64) _ (and-left entries claims rest) in
         rw (
           eqb-true (length (a .words)) 64 (and-left (eqb (length (a .words)) 64) _ one),
           eqb-true (length (a .marks)) 64 (and-right (eqb (length (a .words)) 64) _ one),
@@ -61,6 +71,7 @@ module _ (v f : ℕ) (a : Arrays) where
           eqb-true (length (a .flags)) 8 (and-right (eqb (length (a .mail)) 8) _ two),
           eqb-true (length (a .pages)) 256 (and-left (eqb (length (a .pages)) 256) _ three),
           eqb-true (length (a .frames)) 128 (and-right (eqb (length (a .pages)) 256) _ three),
+          eqb-true (length (a .counts)) 8192 (and-right (eqb (length (a .principals)) 32) _ (and-right entries claims rest)),
         )
 
     started : starting (pick (inRange v f) 0 1) (arraysOf (fresh v f)) ≡ startIn v f a
@@ -71,7 +82,8 @@ module _ (v f : ℕ) (a : Arrays) where
         → (b : Arrays) → b ≡ zeros (with-numbers n) → starting k b ≡ startIn v f a
     start-refused r k kk n nn b d =
         ap (λ (x : ℕ). starting x b) kk
-        ∙ ap (starting 1) (d ∙ ap (λ (x : Numbers). zeros (with-numbers x)) nn ∙ zeros-are _ _ ∙ ap (λ (x : ℕ). begun 0 0 0 (replicate x 0)) of-rows ∙ sym (fresh-out v f r))
+        ∙ ap (starting 1) (d ∙ ap (λ (x : Numbers). zeros (with-numbers x)) nn ∙ zeros-are _ _ _ ∙ ap (λ (x : ℕ). begun 0 0 0 (replicate x 0) (replicate (length (a .principals)) 0)) of-rows
+        ∙ ap (λ (x : ℕ). begun 0 0 0 (replicate 64 0) (replicate x 0)) of-principals ∙ sym (fresh-out v f r))
         ∙ ap (λ (x : ℕ). starting x (arraysOf (fresh v f))) (sym (pick-no (inRange v f) 0 1 r)) ∙ started
 
     pub start-granted : inRange v f ≡ true → (k : ℕ) → k ≡ 0 → (n : Numbers) → n ≡ record { v = v; f = f; count = 1; place = 0; base = 0; length = 0 }
@@ -79,5 +91,6 @@ module _ (v f : ℕ) (a : Arrays) where
     start-granted r k kk n nn b d =
         ap (λ (x : ℕ). starting x (with-first b)) kk
         ∙ ap (λ (x : Arrays). starting 0 (with-first x)) (d ∙ ap (λ (x : Numbers). zeros (with-numbers x)) nn)
-        ∙ ap (starting 0) (zeros-are _ _ ∙ ap (λ (x : ℕ). begun v f 1 (set (replicate x 0) 0 (firstNumber v))) of-rows ∙ sym (fresh-in v f r))
+        ∙ ap (starting 0) (zeros-are _ _ _ ∙ ap (λ (x : ℕ). begun v f 1 (set (replicate x 0) 0 (firstNumber v)) (set (replicate (length (a .principals)) 0) 0 rootNumber)) of-rows
+        ∙ ap (λ (x : ℕ). begun v f 1 (set (replicate 64 0) 0 (firstNumber v)) (set (replicate x 0) 0 rootNumber)) of-principals ∙ sym (fresh-in v f r))
         ∙ ap (λ (x : ℕ). starting x (arraysOf (fresh v f))) (sym (pick-yes (inRange v f) 0 1 r)) ∙ started

@@ -19,6 +19,10 @@ use Rattle.pages.specs.Numbers.{pageCode, frameCode, pageIn, frameIn, layerOf, 
 use Rattle.table.specs.Tiling.{tableSound}
 use Rattle.table.proofs.Truth.{both}
 use Rattle.table.specs.Numbers.{rowFrom, rowCode, tableOf, allWritten}
+use Rattle.claims.specs.Sound.{claimsSound}
+use Rattle.claims.specs.Numbers.{claimsIn, laid, sizedIn, keptIn, soundIn}
+use Rattle.claims.specs.Numbers.{numbersOf as claimNumbers}
+use Rattle.claims.proofs.RoundTrip.{kept-numbers, kept-counts, test-passes}
 use Rattle.table.specs.Sound.{wholeTable, soundNumbers}
 use Rattle.table.proofs.RoundTrip.{reads-sized, numbers-back, rows-written}
 use Rattle.reservations.specs.Revocation.{revoked, revocationSound}
@@ -42,10 +46,31 @@ pub record Parts (a : Arrays) : Type 0 where
   pub layer : layerSound (a .nums .v) (a .nums .f) (a .pages) (a .frames) ≡ true
   pub table : soundNumbers (16 * a .nums .v) (a .rows) (a .nums .count) ≡ true
   pub place : a .nums .place ≤ 16 * a .nums .f
-  pub revocation : cached (a .nums) (coreOf (a .nums) (a .rows) (a .pages) (a .frames)) && revocationSound (coreOf (a .nums) (a .rows) (a .pages) (a .frames)) ≡ true
+  pub revocation : cached (a .nums) (coreOf (a .nums) (a .rows) (a .pages) (a .frames) (a .principals) (a .counts)) && revocationSound (coreOf (a .nums) (a .rows) (a .pages) (a .frames) (a .principals) (a .counts)) ≡ true
   pub mark-bits : each bit 0 (a .marks) ≡ true
   pub flag-bits : each bit 0 (a .flags) ≡ true
   pub mailboxes : each mailboxSound 0 (slotsOf (a .mail) (a .flags)) ≡ true
+  pub claims : soundIn (a .nums .v) (a .principals) (a .counts) ≡ true
+
+-- The claims' test, part by part.
+record ClaimParts (v : ℕ) (principals counts : List ℕ) : Type 0 where
+  sized : sizedIn principals counts ≡ true
+  kept : keptIn principals counts ≡ true
+  sound : claimsSound v (claimsIn principals counts) ≡ true
+
+claim-parts : (v : ℕ) (principals counts : List ℕ) → soundIn v principals counts ≡ true → ClaimParts v principals counts
+unfolding soundIn
+claim-parts v principals counts e =
+    let rest = and-right (sizedIn principals counts) _ e in
+    record {
+      sized = and-left (sizedIn principals counts) _ e;
+      kept = and-left (keptIn principals counts) _ rest;
+      sound = and-right (keptIn principals counts) _ rest;
+    }
+
+claims-made : (v : ℕ) (principals counts : List ℕ) → ClaimParts v principals counts → soundIn v principals counts ≡ true
+unfolding soundIn
+claims-made v principals counts p = both (sizedIn principals counts) _ (p .sized) (both (keptIn principals counts) _ (p .kept) (p .sound))
 
 -- Well-formed arrays have all of the parts.
 module _ (a : Arrays) (f : Formed a) where
@@ -69,11 +94,19 @@ module _ (a : Arrays) (f : Formed a) where
   unfolding arraysOf stateOf coreOf
   kept-frames = ap (λ (b : Arrays). b .frames) (f .kept)
 
-  kept-base : a .nums .base ≡ revoked (coreOf (a .nums) (a .rows) (a .pages) (a .frames)) .base
+  kept-principals : claimNumbers (claimsIn (a .principals) (a .counts)) ≡ a .principals
+  unfolding arraysOf stateOf coreOf
+  kept-principals = ap (λ (b : Arrays). b .principals) (f .kept)
+
+  kept-claims : laid (claimsIn (a .principals) (a .counts) .counts) ≡ a .counts
+  unfolding arraysOf stateOf coreOf
+  kept-claims = ap (λ (b : Arrays). b .counts) (f .kept)
+
+  kept-base : a .nums .base ≡ revoked (coreOf (a .nums) (a .rows) (a .pages) (a .frames) (a .principals) (a .counts)) .base
   unfolding arraysOf stateOf numbersOf
   kept-base = sym (ap (λ (b : Arrays). b .nums .base) (f .kept))
 
-  kept-length : a .nums .length ≡ revoked (coreOf (a .nums) (a .rows) (a .pages) (a .frames)) .length
+  kept-length : a .nums .length ≡ revoked (coreOf (a .nums) (a .rows) (a .pages) (a .frames) (a .principals) (a .counts)) .length
   unfolding arraysOf stateOf numbersOf
   kept-length = sym (ap (λ (b : Arrays). b .nums .length) (f .kept))
 
@@ -82,9 +115,9 @@ module _ (a : Arrays) (f : Formed a) where
   parts =
       let l = lengths a f in
       let s = facts (stateOf a) (f .well) in
-      let c = core-facts (coreOf (a .nums) (a .rows) (a .pages) (a .frames)) (s .core) in
+      let c = core-facts (coreOf (a .nums) (a .rows) (a .pages) (a .frames) (a .principals) (a .counts)) (s .core) in
       let n = a .nums in
-      let k = coreOf (a .nums) (a .rows) (a .pages) (a .frames) in
+      let k = coreOf (a .nums) (a .rows) (a .pages) (a .frames) (a .principals) (a .counts) in
       record {
         words = l .words;
         marks = l .marks;
@@ -100,6 +133,7 @@ module _ (a : Arrays) (f : Formed a) where
         mark-bits = subst (λ (x : List ℕ). each bit 0 x ≡ true) kept-marks (bytes-bits 0 (slotsOf (a .words) (a .marks)));
         flag-bits = subst (λ (x : List ℕ). each bit 0 x ≡ true) kept-flags (bytes-bits 0 (slotsOf (a .mail) (a .flags)));
         mailboxes = s .mailboxes;
+        claims = test-passes (n .v) (a .principals) (a .counts) kept-principals kept-claims (s .claims);
       }
 
 -- Arrays that have all of the parts are well formed.
@@ -108,11 +142,12 @@ module _ (a : Arrays) (p : Parts a) where
   unfolding arraysOf stateOf coreOf numbersOf layerSound soundNumbers pageKept frameKept
   kept =
       let n = a .nums in
-      let k = coreOf (a .nums) (a .rows) (a .pages) (a .frames) in
+      let k = coreOf (a .nums) (a .rows) (a .pages) (a .frames) (a .principals) (a .counts) in
       let written = and-right (wellFormed (layerOf (n .v) (n .f) (a .pages) (a .frames))) _ (p .layer) in
       let cache = and-left (cached n k) _ (p .revocation) in
       let lw = p .words ∙ sym (p .marks) in
       let lm = p .mail ∙ sym (p .flags) in
+      let claims = claim-parts (n .v) (a .principals) (a .counts) (p .claims) in
       same-arrays (sym (eqb-true (n .base) (revoked k .base) (and-left (eqb (n .base) (revoked k .base)) _ cache)))
       (sym (eqb-true (n .length) (revoked k .length) (and-right (eqb (n .base) (revoked k .base)) _ cache)))
       (cells-kept (a .words) (a .marks) lw) (bytes-kept 0 (a .words) (a .marks) lw (p .mark-bits))
@@ -120,12 +155,13 @@ module _ (a : Arrays) (p : Parts a) where
       (numbers-back (a .rows) (n .count) (and-right (wholeTable (16 * n .v) (tableOf (a .rows) (n .count))) _ (p .table)))
       (kept-list pageIn (λ (x : PageEntry). pageCode (x .state)) 0 (a .pages) (and-left (each pageKept 0 (a .pages)) _ written))
       (kept-list frameIn (λ (x : FrameEntry). frameCode (x .state)) 0 (a .frames) (and-right (each pageKept 0 (a .pages)) _ written))
+      (kept-numbers (a .principals) (a .counts) (claims .kept)) (kept-counts (a .principals) (a .counts) (claims .sized) (claims .kept))
 
   well : rules.wellFormed (stateOf a) ≡ true
   unfolding stateOf coreOf layerSound soundNumbers
   well =
       let n = a .nums in
-      let k = coreOf (a .nums) (a .rows) (a .pages) (a .frames) in
+      let k = coreOf (a .nums) (a .rows) (a .pages) (a .frames) (a .principals) (a .counts) in
       let t = tableOf (a .rows) (n .count) in
       formed (stateOf a)
       (record {
@@ -135,6 +171,7 @@ module _ (a : Arrays) (p : Parts a) where
         of-registers = omega (arith, slots-length (a .words) (a .marks), p .words, p .marks);
         of-mailboxes = omega (arith, slots-length (a .mail) (a .flags), p .mail, p .flags);
         takers = and-right (tableSound (16 * n .v) t) _ (and-left (wholeTable (16 * n .v) t) _ (p .table));
+        claims = claim-parts (n .v) (a .principals) (a .counts) (p .claims) .sound;
       })
 
   pub whole : Formed a
@@ -146,17 +183,22 @@ module _ (a : Arrays) where
   unfolding formedOf stateOf coreOf
   tested e =
       let n = a .nums in
-      let k = coreOf (a .nums) (a .rows) (a .pages) (a .frames) in
+      let k = coreOf (a .nums) (a .rows) (a .pages) (a .frames) (a .principals) (a .counts) in
       let b1 = eqb (length (a .words)) 64 in
       let b2 = eqb (length (a .marks)) 64 in
       let b3 = eqb (length (a .mail)) 8 in
       let b4 = eqb (length (a .flags)) 8 in
       let b5 = eqb (length (a .rows)) 64 && (eqb (length (a .pages)) 256 && eqb (length (a .frames)) 128) in
-      let size = and-left ((b1 && b2) && (b3 && b4)) b5 (and-left (sized a) _ e) in
+      let b6 = sizedIn (a .principals) (a .counts) in
+      let size = and-left ((b1 && b2) && (b3 && b4)) (b5 && b6) (and-left (sized a) _ e) in
+      let many = and-right b5 b6 (and-right ((b1 && b2) && (b3 && b4)) (b5 && b6) (and-left (sized a) _ e)) in
       let one = and-left (b1 && b2) (b3 && b4) size in
       let two = and-right (b1 && b2) (b3 && b4) size in
       let rest = and-right (sized a) _ e in
-      let written = and-left (canonical a) _ rest in
+      let all = and-left (canonical a) _ rest in
+      let still = keptIn (a .principals) (a .counts) in
+      let words = (each bit 0 (a .marks) && each bit 0 (a .flags)) && (allWritten (a .rows) && (each pageKept 0 (a .pages) && each frameKept 0 (a .frames))) in
+      let written = and-left words still all in
       let tags = and-left (each bit 0 (a .marks) && each bit 0 (a .flags)) _ written in
       let numbers = and-right (each bit 0 (a .marks) && each bit 0 (a .flags)) _ written in
       let more = and-right (canonical a) _ rest in
@@ -175,23 +217,27 @@ module _ (a : Arrays) where
         mark-bits = and-left (each bit 0 (a .marks)) _ tags;
         flag-bits = and-right (each bit 0 (a .marks)) _ tags;
         mailboxes = s .mailboxes;
+        claims = claims-made (n .v) (a .principals) (a .counts) (record { sized = many; kept = and-right words still all; sound = s .claims });
       })
 
   passes : Parts a → formedOf a ≡ true
   unfolding formedOf stateOf coreOf layerSound soundNumbers
   passes p =
       let n = a .nums in
-      let k = coreOf (a .nums) (a .rows) (a .pages) (a .frames) in
+      let k = coreOf (a .nums) (a .rows) (a .pages) (a .frames) (a .principals) (a .counts) in
       let f = whole a p in
       let l = lengths a f in
+      let claims = claim-parts (n .v) (a .principals) (a .counts) (p .claims) in
       both (sized a) _
       (both ((eqb (length (a .words)) 64 && eqb (length (a .marks)) 64) && (eqb (length (a .mail)) 8 && eqb (length (a .flags)) 8)) _
       (both (eqb (length (a .words)) 64 && eqb (length (a .marks)) 64) _ (both (eqb (length (a .words)) 64) _ (eq-eqb (length (a .words)) 64 (l .words)) (eq-eqb (length (a .marks)) 64 (l .marks)))
       (both (eqb (length (a .mail)) 8) _ (eq-eqb (length (a .mail)) 8 (l .mail)) (eq-eqb (length (a .flags)) 8 (l .flags))))
-      (both (eqb (length (a .rows)) 64) _ (eq-eqb (length (a .rows)) 64 (l .rows)) (both (eqb (length (a .pages)) 256) _ (eq-eqb (length (a .pages)) 256 (l .pages)) (eq-eqb (length (a .frames)) 128 (l .frames)))))
+      (both (eqb (length (a .rows)) 64 && (eqb (length (a .pages)) 256 && eqb (length (a .frames)) 128)) (sizedIn (a .principals) (a .counts))
+      (both (eqb (length (a .rows)) 64) _ (eq-eqb (length (a .rows)) 64 (l .rows)) (both (eqb (length (a .pages)) 256) _ (eq-eqb (length (a .pages)) 256 (l .pages)) (eq-eqb (length (a .frames)) 128 (l .frames)))) (claims .sized)))
       (both (canonical a) _
+      (both ((each bit 0 (a .marks) && each bit 0 (a .flags)) && (allWritten (a .rows) && (each pageKept 0 (a .pages) && each frameKept 0 (a .frames)))) (keptIn (a .principals) (a .counts))
       (both (each bit 0 (a .marks) && each bit 0 (a .flags)) _ (both (each bit 0 (a .marks)) _ (p .mark-bits) (p .flag-bits))
-      (both (allWritten (a .rows)) _ (and-right (wholeTable (16 * n .v) (tableOf (a .rows) (n .count))) _ (p .table)) (and-right (wellFormed (layerOf (n .v) (n .f) (a .pages) (a .frames))) _ (p .layer))))
+      (both (allWritten (a .rows)) _ (and-right (wholeTable (16 * n .v) (tableOf (a .rows) (n .count))) _ (p .table)) (and-right (wellFormed (layerOf (n .v) (n .f) (a .pages) (a .frames))) _ (p .layer)))) (claims .kept))
       (both (cached n k) _ (and-left (cached n k) _ (p .revocation)) (f .well)))
 
   -- What holds if and only if all of the parts do is the test.
@@ -215,11 +261,14 @@ module _ (a : Arrays) where
   abbrev pub front : Bool
   front = lengthsFit && layerSound (a .nums .v) (a .nums .f) (a .pages) (a .frames)
 
-  abbrev pub back : Bool
-  back =
+  abbrev pub inside : Bool
+  inside =
       (soundNumbers (16 * a .nums .v) (a .rows) (a .nums .count) && leb (a .nums .place) (16 * a .nums .f))
-      && ((cached (a .nums) (coreOf (a .nums) (a .rows) (a .pages) (a .frames)) && revocationSound (coreOf (a .nums) (a .rows) (a .pages) (a .frames)))
+      && ((cached (a .nums) (coreOf (a .nums) (a .rows) (a .pages) (a .frames) (a .principals) (a .counts)) && revocationSound (coreOf (a .nums) (a .rows) (a .pages) (a .frames) (a .principals) (a .counts)))
       && ((each bit 0 (a .marks) && each bit 0 (a .flags)) && each mailboxSound 0 (slotsOf (a .mail) (a .flags))))
+
+  abbrev pub back : Bool
+  back = inside && soundIn (a .nums .v) (a .principals) (a .counts)
 
   front-holds : Parts a → front ≡ true
   front-holds p =
@@ -229,19 +278,21 @@ module _ (a : Arrays) where
 
   back-holds : Parts a → back ≡ true
   back-holds p =
-      both (soundNumbers (16 * a .nums .v) (a .rows) (a .nums .count) && leb (a .nums .place) (16 * a .nums .f)) _
+      both inside (soundIn (a .nums .v) (a .principals) (a .counts))
+      (both (soundNumbers (16 * a .nums .v) (a .rows) (a .nums .count) && leb (a .nums .place) (16 * a .nums .f)) _
       (both (soundNumbers (16 * a .nums .v) (a .rows) (a .nums .count)) _ (p .table) (le-leb (a .nums .place) (16 * a .nums .f) (p .place)))
-      (both (cached (a .nums) (coreOf (a .nums) (a .rows) (a .pages) (a .frames)) && revocationSound (coreOf (a .nums) (a .rows) (a .pages) (a .frames))) _ (p .revocation)
-      (both (each bit 0 (a .marks) && each bit 0 (a .flags)) _ (both (each bit 0 (a .marks)) _ (p .mark-bits) (p .flag-bits)) (p .mailboxes)))
+      (both (cached (a .nums) (coreOf (a .nums) (a .rows) (a .pages) (a .frames) (a .principals) (a .counts)) && revocationSound (coreOf (a .nums) (a .rows) (a .pages) (a .frames) (a .principals) (a .counts))) _ (p .revocation)
+      (both (each bit 0 (a .marks) && each bit 0 (a .flags)) _ (both (each bit 0 (a .marks)) _ (p .mark-bits) (p .flag-bits)) (p .mailboxes)))) (p .claims)
 
   all-parts : front ≡ true → back ≡ true → Parts a
   all-parts e d =
       let size = and-left lengthsFit _ e in
       let one = and-left (eqb (length (a .words)) 64 && eqb (length (a .marks)) 64) _ size in
       let two = and-right (eqb (length (a .words)) 64 && eqb (length (a .marks)) 64) _ size in
-      let table = and-left (soundNumbers (16 * a .nums .v) (a .rows) (a .nums .count) && leb (a .nums .place) (16 * a .nums .f)) _ d in
-      let rest = and-right (soundNumbers (16 * a .nums .v) (a .rows) (a .nums .count) && leb (a .nums .place) (16 * a .nums .f)) _ d in
-      let run = cached (a .nums) (coreOf (a .nums) (a .rows) (a .pages) (a .frames)) && revocationSound (coreOf (a .nums) (a .rows) (a .pages) (a .frames)) in
+      let most = and-left inside _ d in
+      let table = and-left (soundNumbers (16 * a .nums .v) (a .rows) (a .nums .count) && leb (a .nums .place) (16 * a .nums .f)) _ most in
+      let rest = and-right (soundNumbers (16 * a .nums .v) (a .rows) (a .nums .count) && leb (a .nums .place) (16 * a .nums .f)) _ most in
+      let run = cached (a .nums) (coreOf (a .nums) (a .rows) (a .pages) (a .frames) (a .principals) (a .counts)) && revocationSound (coreOf (a .nums) (a .rows) (a .pages) (a .frames) (a .principals) (a .counts)) in
       let tags = and-right run _ rest in
       let bits = and-left (each bit 0 (a .marks) && each bit 0 (a .flags)) _ tags in
       record {
@@ -256,6 +307,7 @@ module _ (a : Arrays) where
         mark-bits = and-left (each bit 0 (a .marks)) _ bits;
         flag-bits = and-right (each bit 0 (a .marks)) _ bits;
         mailboxes = and-right (each bit 0 (a .marks) && each bit 0 (a .flags)) _ tags;
+        claims = and-right inside _ d;
       }
 
   pub front-fails : front ≡ false → false ≡ formedOf a

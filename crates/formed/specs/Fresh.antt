@@ -11,7 +11,7 @@ use Rattle.formed.specs.Test.{sized}
 abbrev pub zeros : Arrays → Arrays
 zeros a =
     arrays (a .nums) (replicate (length (a .words)) 0) (replicate (length (a .marks)) 0) (replicate (length (a .mail)) 0) (replicate (length (a .flags)) 0)
-    (replicate (length (a .rows)) 0) (replicate (length (a .pages)) 0) (replicate (length (a .frames)) 0)
+    (replicate (length (a .rows)) 0) (replicate (length (a .pages)) 0) (replicate (length (a .frames)) 0) (replicate (length (a .principals)) 0) (replicate (length (a .counts)) 0)
 
 -- What a start leaves: its code and the arrays.
 pub record Start : Type 0 where

@@ -45,8 +45,10 @@ fn clear(
     rows: &mut [u64],
     pages: &mut [u16],
     frames: &mut [u8],
+    principals: &mut [u64],
+    counts: &mut [u16],
 )
-    ensures { λ _. ⌜ ((n : Numbers) → arrays n (now (words .exit)) (now (marks .exit)) (now (mail .exit)) (now (flags .exit)) (now (rows .exit)) (now (pages .exit)) (now (frames .exit)) ≡ zeros (arrays n (now (words .entry)) (now (marks .entry)) (now (mail .entry)) (now (flags .entry)) (now (rows .entry)) (now (pages .entry)) (now (frames .entry)))) ⌝ }
+    ensures { λ _. ⌜ ((n : Numbers) → arrays n (now (words .exit)) (now (marks .exit)) (now (mail .exit)) (now (flags .exit)) (now (rows .exit)) (now (pages .exit)) (now (frames .exit)) (now (principals .exit)) (now (counts .exit)) ≡ zeros (arrays n (now (words .entry)) (now (marks .entry)) (now (mail .entry)) (now (flags .entry)) (now (rows .entry)) (now (pages .entry)) (now (frames .entry)) (now (principals .entry)) (now (counts .entry)))) ⌝ }
 {
     clear_cells(words);
     clear_tags(marks);
@@ -56,6 +58,9 @@ fn clear(
     let n = pages.len();
     fill(pages, 0, n, 0);
     clear_tags(frames);
+    clear_cells(principals);
+    let k = counts.len();
+    fill(counts, 0, k, 0);
 }
 
 // A fresh state for V and F over any arrays. Refused for V or F out of range, it leaves the all-zero state; refused for the length of
@@ -71,19 +76,33 @@ pub fn start_in(
     rows: &mut [u64],
     pages: &mut [u16],
     frames: &mut [u8],
+    principals: &mut [u64],
+    counts: &mut [u16],
 ) -> Begun
-    ensures { λ r. ⌜ starting (r .code) (arrays (r .nums) (now (words .exit)) (now (marks .exit)) (now (mail .exit)) (now (flags .exit)) (now (rows .exit)) (now (pages .exit)) (now (frames .exit))) ≡ startIn v f (arrays nums (now (words .entry)) (now (marks .entry)) (now (mail .entry)) (now (flags .entry)) (now (rows .entry)) (now (pages .entry)) (now (frames .entry))) ⌝ }
+    ensures { λ r. ⌜ starting (r .code) (arrays (r .nums) (now (words .exit)) (now (marks .exit)) (now (mail .exit)) (now (flags .exit)) (now (rows .exit)) (now (pages .exit)) (now (frames .exit)) (now (principals .exit)) (now (counts .exit))) ≡ startIn v f (arrays nums (now (words .entry)) (now (marks .entry)) (now (mail .entry)) (now (flags .entry)) (now (rows .entry)) (now (pages .entry)) (now (frames .entry)) (now (principals .entry)) (now (counts .entry))) ⌝ }
 {
     let slots = ((words.len() == 64) & (marks.len() == 64))
         & ((mail.len() == 8) & (flags.len() == 8));
     let entries = (rows.len() == 64) & ((pages.len() == 256) & (frames.len() == 128));
-    if !(slots & entries) {
+    let claims = (principals.len() == 32) & (counts.len() == 8192);
+    if !(slots & (entries & claims)) {
         return Begun { code: 1, nums };
     }
-    clear(words, marks, mail, flags, rows, pages, frames);
+    clear(
+        words,
+        marks,
+        mail,
+        flags,
+        rows,
+        pages,
+        frames,
+        principals,
+        counts,
+    );
     if !in_range(v, f) {
         return handed(1, 0, 0, 0);
     }
     rows[0] = 1048576 * v + 2533274790395904;
+    principals[0] = 4294975488;
     handed(0, v as u16, f as u16, 1)
 }

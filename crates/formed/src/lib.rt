@@ -2,6 +2,7 @@
 use arrays::Numbers;
 use capabilities::Range;
 use capabilities::ranges::inside;
+use claims::sound::claims_sound;
 use pages::sound::layer_sound;
 use reservations::range_of;
 use reservations::whole_pages;
@@ -72,8 +73,10 @@ pub fn formed(
     rows: &[u64],
     pages: &[u16],
     frames: &[u8],
+    principals: &[u64],
+    counts: &[u16],
 ) -> bool
-    ensures { λ r. ⌜ r ≡ formedOf (arrays nums (now (words .entry)) (now (marks .entry)) (now (mail .entry)) (now (flags .entry)) (now (rows .entry)) (now (pages .entry)) (now (frames .entry))) ⌝ }
+    ensures { λ r. ⌜ r ≡ formedOf (arrays nums (now (words .entry)) (now (marks .entry)) (now (mail .entry)) (now (flags .entry)) (now (rows .entry)) (now (pages .entry)) (now (frames .entry)) (now (principals .entry)) (now (counts .entry))) ⌝ }
 {
     let sized = ((words.len() == 64) & (marks.len() == 64))
         & ((mail.len() == 8) & (flags.len() == 8));
@@ -85,5 +88,6 @@ pub fn formed(
     let placed = nums.place <= 16 * (nums.f as u32);
     let kept = revocation_kept(nums, rows, pages);
     let tags = (bits(marks) & bits(flags)) & mailboxes_sound(mail, flags);
-    (table & placed) & (kept & tags)
+    let claims = claims_sound(nums.v, principals, counts);
+    ((table & placed) & (kept & tags)) & claims
 }

@@ -5,10 +5,9 @@ use mathlib.Core.Bool.{Bool, true, false}
 use mathlib.Core.List.{List, [], _∷_}
 use mathlib.Core.Logic.{⊎-elim}
 use mathlib.Core.Path.{_≡_, refl, sym, ap, subst, _∙_}
-use borrow.Author.Tests.{ltb-true, ltb-false}
-use lib.Dec.{ltb}
-use lib.ListN.{getD, replicate, getD-replicate, length-replicate, List·getD-eq-default}
+use lib.ListN.{getD}
 use Rattle.capabilities.specs.Lists.{pick}
+use Rattle.capabilities.proofs.Lists.{same-everywhere}
 use Rattle.pages.specs.declared.FrameState.the-variants.{Dirty, Free}
 use Rattle.pages.specs.declared.PageState.the-variants.{Unmapped, Mapped}
 use Rattle.pages.specs.declared.Place.the-variants.{At}
@@ -37,13 +36,6 @@ pub inv-run : (calls : List Call) (m : Machine) → Inv m → Inv (run m calls)
 unfolding run
 inv-run [] m i = i
 inv-run (c ∷ calls) m i = inv-run calls (next m c) (inv-step m c i)
-
-same-everywhere : {A : Type 0} (n i : ℕ) (x : A) → getD (replicate n x) i x ≡ x
-same-everywhere n i x = go (ltb i n) refl
-  where
-    go : (b : Bool) → ltb i n ≡ b → getD (replicate n x) i x ≡ x
-    go true e = getD-replicate n i x x (ltb-true i n e)
-    go false e = List·getD-eq-default (replicate n x) x (rw length-replicate (ltb-false i n e))
 
 fresh-page : (v f p : ℕ) → pageAt (freshOf v f) p ≡ Unmapped
 unfolding pageAt freshOf

@@ -24,7 +24,7 @@ use Rattle.machine.specs.State.{State}
 use Rattle.machine.specs.Roles.{collects, Asked, asked, callerOf, IsCollect}
 use Rattle.machine.specs.Effects.{Effect}
 use Rattle.machine.specs.Step.{done, effectOn}
-use Rattle.machine.proofs.Deeds.{Recored, splits, merges, gives, revokes, maps, unmaps, Deed, took, recored, swept, collectedAll, zeroed, filled, loaded, wrote, mailed, received, deed}
+use Rattle.machine.proofs.Deeds.{Recored, splits, merges, gives, revokes, maps, unmaps, reclaims, Deed, took, recored, swept, collectedAll, zeroed, filled, loaded, wrote, mailed, received, deed}
 use Rattle.histories.specs.Runs.{Machine, Granted, next, run}
 use Rattle.histories.specs.Inv.{rowAt}
 use Rattle.histories.specs.Lending.{lentRange, Ended, EndedBetween}
@@ -54,6 +54,7 @@ module _ (s : State) (ok : coreSound (s .core) ≡ true) where
   recored-carried k (revokes p base z) = revoke-kept (s .core) ok p base (unfold revokeOf in z)
   recored-carried k (maps page frame z) = carried-self t
   recored-carried k (unmaps page z) = carried-self t
+  recored-carried k (reclaims x r) = carried-self t
 
   pub deed-carried : {a : Asked} {e : Effect} → Deed s a e → Carried t (e .core .table) ⊎ (a .role ≡ collects)
   deed-carried (took p base reg permissions low-p low-reg few z) = inl (take-kept (s .core) ok p base (unfold takeOf in z))

@@ -39,11 +39,13 @@ use Rattle.reservations.proofs.CoreAfter.{dying-inside}
 use Rattle.reservations.proofs.CoreKept.{CoreFacts, core-facts}
 use Rattle.words.specs.declared.Slot.{Slot}
 use Rattle.words.specs.Words.{slot, empty, registerOf, mailboxOf, wordAt, stored, collectedRegister, collectedMailbox}
+use Rattle.claims.specs.Claims.{Claims}
+use Rattle.reservations.proofs.ClaimsApart.{dying-apart}
 use Rattle.machine.specs.State.{State}
 use Rattle.machine.specs.Roles.{Asked}
-use Rattle.machine.specs.Effects.{Effect, withTable, withPages, sweptTo, taking, RegisterChange, keepRegisters, putRegister, fetchInto, MailboxChange, keepMailboxes, putMailbox, keepMemory, effectOf}
+use Rattle.machine.specs.Effects.{Effect, withTable, withPages, withClaims, sweptTo, taking, RegisterChange, keepRegisters, putRegister, fetchInto, MailboxChange, keepMailboxes, putMailbox, keepMemory, effectOf}
 use Rattle.machine.specs.Step.{done, registersAfter, mailboxesAfter, cellsAfter, tagsAfter}
-use Rattle.machine.proofs.Deeds.{coreAlone, sweeping, collecting, zeroing, loading, storing, Recored, splits, merges, gives, revokes, maps, unmaps, aimedAt, Deed, took, recored, swept, collectedAll, zeroed, filled, loaded, wrote, mailed, received}
+use Rattle.machine.proofs.Deeds.{coreAlone, sweeping, collecting, zeroing, loading, storing, Recored, splits, merges, gives, revokes, maps, unmaps, reclaims, aimedAt, Deed, took, recored, swept, collectedAll, zeroed, filled, loaded, wrote, mailed, received}
 use Rattle.machine.proofs.Found.{Addressing}
 use Rattle.machine.proofs.PagesKept.{zero-clear}
 use Rattle.histories.specs.Runs.{Machine, machine}
@@ -86,8 +88,8 @@ module _ (s : State) (cells tags : List ℕ) (inv : Inv (machine s cells tags)) 
         let n = no-shared-cell size t (k .row) i (baseOf x + off) (facts .rows) (k .used) b mine e in
         true≢false (sym o ∙ sym (ap (λ j. isOpen (rowAt t j .state)) n) ∙ k .lent)
 
-    table-change : (u : Table) → Carried t u → ((cell : ℕ) → dying (core (c .pages) u (c .place)) cell ≡ dying c cell)
-        → Inv (machine (record { core = core (c .pages) u (c .place); registers = s .registers; mailboxes = s .mailboxes }) cells tags)
+    table-change : (u : Table) → Carried t u → ((cell : ℕ) → dying (core (c .pages) u (c .place) (c .claims)) cell ≡ dying c cell)
+        → Inv (machine (record { core = core (c .pages) u (c .place) (c .claims); registers = s .registers; mailboxes = s .mailboxes }) cells tags)
     table-change u k d =
         record {
           registers = λ i. carried-sound t u (getD (s .registers) i empty) k (inv .registers i);
@@ -97,11 +99,11 @@ module _ (s : State) (cells tags : List ℕ) (inv : Inv (machine s cells tags)) 
 
     -- 01 take.
     take-change : (p base reg x i : ℕ) (u : Table) (n : ℕ) → x ≤ 15 → isOpen (rowAt t i .state) ≡ true → Replaced t u p base i 1 (takenRow (rowAt t i) p ∷ []) → n ≡ rowAt t i .length
-        → Inv (machine (record { core = core (c .pages) u (c .place); registers = set (s .registers) (8 * p + reg) (slot (capability base n x) true); mailboxes = s .mailboxes }) cells tags)
+        → Inv (machine (record { core = core (c .pages) u (c .place) (c .claims); registers = set (s .registers) (8 * p + reg) (slot (capability base n x) true); mailboxes = s .mailboxes }) cells tags)
     take-change p base reg x i u n few o r e =
         let k = take-carried t u p base i o r in
         let h : i < length (live t) = omega (arith, r .within) in
-        let d = dies-same c (core (c .pages) u (c .place)) (dyings-one t u i (takenRow (rowAt t i) p ∷ []) h (r .now) (open-still (rowAt t i .state) o) (open-no-dying (takenRow (rowAt t i) p) refl)) in
+        let d = dies-same c (core (c .pages) u (c .place) (c .claims)) (dyings-one t u i (takenRow (rowAt t i) p ∷ []) h (r .now) (open-still (rowAt t i .state) o) (open-no-dying (takenRow (rowAt t i) p) refl)) in
         let j = table-change u k d in
         let (used, row) = row-first t u p base i 1 (takenRow (rowAt t i) p) [] r in
         let start : rowAt t i .base ≡ base = eqb-true (rowAt t i .base) base (and-left (eqb (rowAt t i .base) base) (held (rowAt t i) p) (r .named)) in
@@ -131,7 +133,7 @@ module _ (s : State) (cells tags : List ℕ) (inv : Inv (machine s cells tags)) 
         let (i, o, r) = split-after size t (facts .rows) p base len code in
         let h : i < length (live t) = omega (arith, r .within) in
         table-change u (split-kept c ok p base len code)
-        (dies-same c (core (c .pages) u (c .place))
+        (dies-same c (core (c .pages) u (c .place) (c .claims))
         (dyings-one t u i (lowerPart (rowAt t i) len ∷ upperPart (rowAt t i) len ∷ []) h (r .now) (open-still (rowAt t i .state) o) (unfold dyings in refl)))
 
     keep-merge : (p base : ℕ) → first (mergeReasons t p base) ≡ 0 → Inv (after (coreAlone (withTable c (mergeOf t p base .table))))
@@ -143,7 +145,7 @@ module _ (s : State) (cells tags : List ℕ) (inv : Inv (machine s cells tags)) 
         let h : i + 1 < length (live t) = omega (arith, r .within) in
         let still = alike-still (rowAt t i .state) (rowAt t (i + 1) .state) same in
         table-change u (merge-kept c ok p base code)
-        (dies-same c (core (c .pages) u (c .place))
+        (dies-same c (core (c .pages) u (c .place) (c .claims))
         (dyings-two t u i (joined (rowAt t i) (rowAt t (i + 1)) ∷ []) h (r .now) (still .0) (still .1) (open-no-dying (joined (rowAt t i) (rowAt t (i + 1))) (still .0))))
 
     keep-give : (p base to : ℕ) → first (giveReasons t p base) ≡ 0 → Inv (after (coreAlone (withTable c (giveOf t p base to .table))))
@@ -155,7 +157,7 @@ module _ (s : State) (cells tags : List ℕ) (inv : Inv (machine s cells tags)) 
         let h : i < length (live t) = omega (arith, r .within) in
         let still = open-still (rowAt t i .state) o in
         table-change u (give-kept c ok p base to code)
-        (dies-same c (core (c .pages) u (c .place)) (dyings-one t u i (givenRow (rowAt t i) to ∷ []) h (r .now) still (open-no-dying (givenRow (rowAt t i) to) still)))
+        (dies-same c (core (c .pages) u (c .place) (c .claims)) (dyings-one t u i (givenRow (rowAt t i) to ∷ []) h (r .now) still (open-no-dying (givenRow (rowAt t i) to) still)))
 
     -- 0B, 0D, 0E, 0F, 10: registers and mailboxes alone.
     confined : Holds (Confined t) s
@@ -198,7 +200,7 @@ module _ (s : State) (cells tags : List ℕ) (inv : Inv (machine s cells tags)) 
     keep-swept n = record { registers = inv .registers; mailboxes = inv .mailboxes; memory = keep-sweep c cells tags (inv .memory) layer of-cells of-tags (sweptTo c n) }
 
     -- 08 map, 09 unmap, 0A zero.
-    page-change : (q : Pages) → Memory (core q t (c .place)) cells tags → Inv (machine (record { core = core q t (c .place); registers = s .registers; mailboxes = s .mailboxes }) cells tags)
+    page-change : (q : Pages) → Memory (core q t (c .place) (c .claims)) cells tags → Inv (machine (record { core = core q t (c .place) (c .claims); registers = s .registers; mailboxes = s .mailboxes }) cells tags)
     page-change q m = record { registers = inv .registers; mailboxes = inv .mailboxes; memory = m }
 
     keep-map : (page : VirtualPage) (frame : Frame) → first (mapReasons (c .pages) page frame) ≡ 0 → Inv (after (coreAlone (withPages c (mapOf (c .pages) page frame .pages))))
@@ -206,17 +208,17 @@ module _ (s : State) (cells tags : List ℕ) (inv : Inv (machine s cells tags)) 
     keep-map page frame z =
         let k = mappable (c .pages) page frame z in
         page-change (mapOf (c .pages) page frame .pages)
-        (subst (λ q. Memory (core q t (c .place)) cells tags) (sym (map-done (c .pages) page frame z))
+        (subst (λ q. Memory (core q t (c .place) (c .claims)) cells tags) (sym (map-done (c .pages) page frame z))
         (keep-pages c cells tags (inv .memory) (mapped (c .pages) page frame)
         (λ v at e. ⊎-elim inl (λ q. inr (subst (Blank cells tags) (sym (q .1)) (inv .memory .free (frame .0) (v % 16) (k .free-frame) (omega arith)))) (map-view (c .pages) layer page frame k v at e))
         (map-free (c .pages) layer page frame k)))
 
-    keep-unmap : (page : VirtualPage) → first (unmapReasons (c .pages) page) ≡ 0 → Inv (after (coreAlone (withPages c (unmapOf (c .pages) page .pages))))
+    keep-unmap : (page : VirtualPage) (claimed : Bool) → first (unmapReasons (c .pages) page claimed) ≡ 0 → Inv (after (coreAlone (withPages c (unmapOf (c .pages) page claimed .pages))))
     unfolding done registersAfter mailboxesAfter cellsAfter tagsAfter
-    keep-unmap page z =
-        let k = unmappable (c .pages) page z in
-        page-change (unmapOf (c .pages) page .pages)
-        (subst (λ q. Memory (core q t (c .place)) cells tags) (sym (unmap-done (c .pages) page z))
+    keep-unmap page claimed z =
+        let k = unmappable (c .pages) page claimed z in
+        page-change (unmapOf (c .pages) page claimed .pages)
+        (subst (λ q. Memory (core q t (c .place) (c .claims)) cells tags) (sym (unmap-done (c .pages) page claimed z))
         (keep-pages c cells tags (inv .memory) (unmapped (c .pages) page) (λ v at e. inl (unmap-view (c .pages) layer page k v at e)) (unmap-free (c .pages) layer page k)))
 
     keep-zero : (frame : Frame) → first (dirtyReasons (c .pages) frame) ≡ 0
@@ -238,7 +240,7 @@ module _ (s : State) (cells tags : List ℕ) (inv : Inv (machine s cells tags)) 
         record {
           registers = λ i. carried-sound t u (getD (s .registers) i empty) k (inv .registers i);
           mailboxes = λ i. carried-sound t u (getD (s .mailboxes) i empty) k (inv .mailboxes i);
-          memory = subst (λ x. Memory x cells tags) (sym (revoke-parts c p base code)) (keep-begun (core (freedOf (c .pages) range) t (c .place)) cells tags pages u k);
+          memory = subst (λ x. Memory x cells tags) (sym (revoke-parts c p base code)) (keep-begun (core (freedOf (c .pages) range) t (c .place) (c .claims)) cells tags pages u k);
         }
 
     collect-change : (k : Ends c)
@@ -253,7 +255,7 @@ module _ (s : State) (cells tags : List ℕ) (inv : Inv (machine s cells tags)) 
           mailboxes = λ j. subst (Sound u) (sym (collected-mailboxes c (s .mailboxes) j)) (mail (getD (s .mailboxes) j empty) (inv .mailboxes j));
           memory =
               subst (λ x. Memory x cells tags) (sym (k .parts))
-              (keep-ended (core after-pages t (c .place)) cells tags u (k .row) (k .used) (k .now)
+              (keep-ended (core after-pages t (c .place) (c .claims)) cells tags u (k .row) (k .used) (k .now)
               (keep-pages c cells tags (inv .memory) after-pages (λ v at e. inl (old v at e)) (released-free (c .pages) layer (revoked c)))
               (λ v e. gone v e (lookupOf after-pages v) refl)
               (λ v at e h.
@@ -293,13 +295,29 @@ module _ (s : State) (cells tags : List ℕ) (inv : Inv (machine s cells tags)) 
     unfolding done registersAfter mailboxesAfter cellsAfter tagsAfter
     keep-collect z = let code : collectOf c .code ≡ 0 = unfold collectOf in z in collect-change (ends c ok code)
 
+    -- 12 to 15.
+    keep-claims : (x : Claims) → Inv (after (coreAlone (withClaims c x)))
+    unfolding done registersAfter mailboxesAfter cellsAfter tagsAfter
+    keep-claims x =
+        let k = inv .memory in
+        let memory : Memory (withClaims c x) cells tags =
+        record {
+          confined = k .confined;
+          free = k .free;
+          behind = λ v at e h tagged. dying-apart c x (wordAt cells tags at .cell) ∙ k .behind v at e h tagged;
+          unlent = k .unlent;
+          bytes = k .bytes;
+        } in
+        record { registers = inv .registers; mailboxes = inv .mailboxes; memory = memory }
+
     keep-recored : (k : Core) → Recored c k → Inv (after (coreAlone k))
     keep-recored k (splits p base len z) = keep-split p base len z
     keep-recored k (merges p base z) = keep-merge p base z
     keep-recored k (gives p base to low z) = keep-give p base to z
     keep-recored k (revokes p base z) = keep-revoke p base z
     keep-recored k (maps page frame z) = keep-map page frame z
-    keep-recored k (unmaps page z) = keep-unmap page z
+    keep-recored k (unmaps page z) = keep-unmap page _ z
+    keep-recored k (reclaims x r) = keep-claims x
 
     -- Whatever a granted call does keeps the invariant.
     pub keep-deed : {a : Asked} {e : Effect} → Deed s a e → Inv (after e)

@@ -29,7 +29,7 @@ use Rattle.words.specs.Words.{registerOf, wordAt}
 use Rattle.machine.specs.State.{State}
 use Rattle.machine.specs.Roles.{collects, Asked, asked, roleOf, callerOf}
 use Rattle.machine.specs.Effects.{Effect}
-use Rattle.machine.proofs.Deeds.{Recored, splits, merges, gives, revokes, maps, unmaps, aimedAt, Deed, took, recored, swept, collectedAll, zeroed, filled, loaded, wrote, mailed, received, deed}
+use Rattle.machine.proofs.Deeds.{Recored, splits, merges, gives, revokes, maps, unmaps, reclaims, aimedAt, Deed, took, recored, swept, collectedAll, zeroed, filled, loaded, wrote, mailed, received, deed}
 use Rattle.histories.specs.Runs.{Machine, next, run}
 use Rattle.histories.specs.Live.{Spot, register, mailbox, virtual, wordIn, Live, Into}
 use Rattle.histories.specs.Inv.{Inv, rowAt, Confined}
@@ -76,6 +76,7 @@ module _ (s : State) (ok : coreSound (s .core) ≡ true) (run : running (s .core
   recored-still k (revokes p base z) = absurd (true≢false (sym run ∙ revoke-clear (s .core) (findOf (s .core .table) p base) (unfold revokeReasons in z) .free))
   recored-still k (maps page frame z) = refl
   recored-still k (unmaps page z) = refl
+  recored-still k (reclaims x r) = refl
 
   deed-still : {a : Asked} {e : Effect} → Deed s a e → Still (e .core) ⊎ (a .role ≡ collects)
   deed-still (took p base reg permissions low-p low-reg few z) = inl (take-still _ (s .core .table) (core-facts (s .core) ok .rows) p base)

@@ -12,14 +12,17 @@ use Rattle.capabilities.specs.Refusals.{first}
 use Rattle.capabilities.proofs.Choice.{pick-yes}
 use Rattle.pages.specs.Layer.{serves, inRange, freshOf, blank}
 use Rattle.table.proofs.Truth.{both}
+use Rattle.claims.specs.Sound.{claimsSound}
 use Rattle.reservations.specs.Revocation.{freshCore, coreSound}
 use Rattle.reservations.proofs.CoreKept.{CoreFacts, core-facts}
 use Rattle.calls.specs.declared.Call.{Call}
 use Rattle.machine.specs.Formed.{startOf, fresh}
+use Rattle.machine.specs.Reasons.{lastRefusal}
 use Rattle.machine.specs.Step.{reasonsOn, stepOf, judged, ruled}
 use Rattle.machine.proofs.Keeps.{facts, step-keeps, start-formed}
 use Rattle.machine.proofs.Lengths.{step-sized}
-use Rattle.machine.proofs.Unchanged.{Same, step-same}
+use Rattle.machine.proofs.Sizes.{Same}
+use Rattle.machine.proofs.Unchanged.{step-same}
 use Rattle.machine.proofs.Lowest.{first-within, reasons-rise, ruled-code}
 use Rattle.histories.specs.Runs.{Machine, outcome, next, run, begun, Begins}
 use Rattle.histories.specs.Forming.{Standing, AlwaysFormed, NeverUnformed}
@@ -46,7 +49,7 @@ unfolding run
 standing-run [] m v f k = k
 standing-run (c ∷ calls) m v f k = standing-run calls (next m c) v f (standing-next m v f c k)
 
-in-range : (v f : ℕ) → startOf v f .code ≡ 0 → inRange v f ≡ true
+pub in-range : (v f : ℕ) → startOf v f .code ≡ 0 → inRange v f ≡ true
 unfolding startOf
 in-range v f e = go (inRange v f) refl
   where
@@ -74,6 +77,9 @@ standing-core m v f k = facts (m .state) (k .formed) .core
 pub standing-facts : (m : Machine) (v f : ℕ) → Standing m v f → CoreFacts (m .state .core)
 standing-facts m v f k = core-facts (m .state .core) (standing-core m v f k)
 
+pub standing-claims : (m : Machine) (v f : ℕ) → Standing m v f → claimsSound v (m .state .core .claims) ≡ true
+standing-claims m v f k = subst (λ n. claimsSound n (m .state .core .claims) ≡ true) (k .of-v) (facts (m .state) (k .formed) .claims)
+
 pub standing-serves : (m : Machine) (v f : ℕ) → Standing m v f → serves (m .state .core .pages) (length (m .cells)) (length (m .tags)) ≡ true
 standing-serves m v f k =
     let n : ℕ = 16 * m .state .core .pages .f in
@@ -81,7 +87,7 @@ standing-serves m v f k =
     (eq-eqb (length (m .cells)) (16 * m .state .core .pages .f) (k .of-cells ∙ ap (λ x. 16 * x) (sym (k .of-f))))
     (eq-eqb (length (m .tags)) (16 * m .state .core .pages .f) (k .of-tags ∙ ap (λ x. 16 * x) (sym (k .of-f))))
 
--- Refusals 4 to 19 alone decide.
+-- Refusals from 4 on alone decide.
 pub standing-ruled : (m : Machine) (v f : ℕ) (c : Call) → Standing m v f → outcome m c ≡ ruled (m .state) c (m .cells) (m .tags)
 unfolding outcome stepOf judged
 standing-ruled m v f c k = rw (k .formed, standing-serves m v f k)
@@ -92,4 +98,4 @@ standing-code m v f c k = ap (λ o. o .answer .code) (standing-ruled m v f c k) 
 pub never-unformed : NeverUnformed
 never-unformed m r c =
     let e = standing-code m (r .v) (r .f) c (always-formed m r) in
-    ⊎-elim (λ z. inl (e ∙ z)) (λ z. inr (subst (λ n. 3 < n) (sym e) (z .0))) (first-within 3 19 (reasonsOn (m .state) c) (reasons-rise (m .state) c) .1)
+    ⊎-elim (λ z. inl (e ∙ z)) (λ z. inr (subst (λ n. 3 < n) (sym e) (z .0))) (first-within 3 lastRefusal (reasonsOn (m .state) c) (reasons-rise (m .state) c) .1)

@@ -116,9 +116,9 @@ pub map-done : (s : Pages) (page : VirtualPage) (frame : Frame) → first (mapRe
 unfolding mapOf
 map-done s page frame z = pick-yes (eqb (first (mapReasons s page frame)) 0) (mapped s page frame) s (eq-eqb (first (mapReasons s page frame)) 0 z)
 
-pub unmap-done : (s : Pages) (page : VirtualPage) → first (unmapReasons s page) ≡ 0 → unmapOf s page .pages ≡ unmapped s page
+pub unmap-done : (s : Pages) (page : VirtualPage) (claimed : Bool) → first (unmapReasons s page claimed) ≡ 0 → unmapOf s page claimed .pages ≡ unmapped s page
 unfolding unmapOf
-unmap-done s page z = pick-yes (eqb (first (unmapReasons s page)) 0) (unmapped s page) s (eq-eqb (first (unmapReasons s page)) 0 z)
+unmap-done s page claimed z = pick-yes (eqb (first (unmapReasons s page claimed)) 0) (unmapped s page) s (eq-eqb (first (unmapReasons s page claimed)) 0 z)
 
 module _ (s : Pages) (ok : Layered s) (page : VirtualPage) (k : Unmappable s page) where
   long′ : page .0 < length (s .pages)

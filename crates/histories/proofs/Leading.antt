@@ -3,12 +3,13 @@ use Prim.Native.Nat.{ℕ, zero, suc}
 use mathlib.Core.Bool.{Bool, true, false}
 use mathlib.Core.List.{List, [], _∷_, _++_}
 use mathlib.Core.Path.{_≡_, refl, sym, subst}
+use lib.ListN.{replicate}
 use Rattle.capabilities.specs.Lists.{pick}
 use Rattle.calls.specs.declared.Call.{Call}
 use Rattle.histories.specs.Runs.{Machine, Granted, next, run}
 use Rattle.histories.specs.Forming.{Standing}
 use Rattle.histories.specs.Losing.{AllGranted, nothing, more}
-use Rattle.histories.specs.Restoring.{eachBelow, _andThen_}
+use Rattle.histories.specs.Restoring.{eachBelow, manyBelow, _andThen_}
 use Rattle.histories.proofs.Forming.{standing-run}
 
 pub record Leads (Q : Machine → Type 0) (m : Machine) (calls : List Call) : Type 0 where
@@ -36,14 +37,17 @@ unfolding run
 granted-append [] b m nothing q = q
 granted-append (c ∷ a) b m (more g p) q = more g (granted-append a b (next m c) p q)
 
+-- One list after another.
+leads-append : (P Q : Machine → Type 0) (a b : List Call) (m : Machine) → Leads P m a → (P (run m a) → Leads Q (run m a) b) → Leads Q m (a ++ b)
+leads-append P Q a b m k g =
+    let l = g (k .reaches) in
+    record { granted = granted-append a b m (k .granted) (l .granted); reaches = subst Q (sym (run-append a b m)) (l .reaches) }
+
 -- Two lists, the second computed from where the first leads.
 pub leads-then : (v f : ℕ) (P Q : Machine → Type 0) (a b : Machine → List Call) (m : Machine) → Standing m v f → Leads P m (a m) → ((n : Machine) → Standing n v f → P n → Leads Q n (b n))
     → Leads Q m ((a andThen b) m)
 unfolding _andThen_
-leads-then v f P Q a b m s k g =
-    let n = run m (a m) in
-    let l = g n (standing-run (a m) m v f s) (k .reaches) in
-    record { granted = granted-append (a m) (b n) m (k .granted) (l .granted); reaches = subst Q (sym (run-append (a m) (b n) m)) (l .reaches) }
+leads-then v f P Q a b m s k g = leads-append P Q (a m) (b (run m (a m))) m k (g (run m (a m)) (standing-run (a m) m v f s))
 
 -- A call for each number that passes a test: Q n says that what is at n and above is done.
 pub each-leads : (test : ℕ → Bool) (call : ℕ → Call) (Q : ℕ → Machine → Type 0)
@@ -56,3 +60,12 @@ each-leads test call Q goes skips (suc n) m q = go (test n) refl (each-leads tes
     go : (b : Bool) → test n ≡ b → ((m : Machine) → Q n m → Leads (Q 0) m (eachBelow test call n)) → Leads (Q 0) m (pick (test n) (call n ∷ eachBelow test call n) (eachBelow test call n))
     go true e f = let (g, l) = goes n m q e in rw e (leads-more (Q 0) m (call n) (eachBelow test call n) g (f (next m (call n)) l))
     go false e f = rw e (f m (skips n m q e))
+
+-- So many calls for each number.
+pub many-leads : (times : ℕ → ℕ) (call : ℕ → Call) (Q : ℕ → Machine → Type 0)
+    → ((n : ℕ) (m : Machine) → Q (suc n) m → Leads (Q n) m (replicate (times n) (call n))) → (n : ℕ) (m : Machine) → Q n m → Leads (Q 0) m (manyBelow times call n)
+unfolding manyBelow
+many-leads times call Q goes zero m q = leads-none (Q 0) m q
+many-leads times call Q goes (suc n) m q =
+    let calls = replicate (times n) (call n) in
+    leads-append (Q n) (Q 0) calls (manyBelow times call n) m (goes n m q) (many-leads times call Q goes n (run m calls))

@@ -26,11 +26,17 @@ pub mod Later
 pub mod DeadAtOnce
 pub mod Losing
 pub mod RestoringTakes
+pub mod SoleClaims
+pub mod RestoringClaims
 pub mod RestoringPages
 pub mod RestoringEnds
 pub mod Restoring
 pub mod Frames
 pub mod Examples
+pub mod PageAfter
 pub mod Cleaning
+pub mod LettingGo
+pub mod Sharing
 pub mod RestoringExamples
 pub mod TakersExamples
+pub mod SharingExamples

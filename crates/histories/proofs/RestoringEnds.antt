@@ -40,6 +40,7 @@ use Rattle.words.specs.Words.{empty}
 use Rattle.machine.specs.Effects.{effect, sweptTo}
 use Rattle.machine.specs.Reasons.{Reads, reading, reasons}
 use Rattle.machine.specs.Step.{done, reasonsOn}
+use Rattle.machine.proofs.ClaimsKept.{revoke-claims, collect-claims}
 use Rattle.histories.specs.Runs.{Machine, Granted, next, run}
 use Rattle.histories.specs.Inv.{rowAt}
 use Rattle.histories.specs.Forming.{Standing}
@@ -63,6 +64,7 @@ pub record Finished (c : Core) (n : Machine) : Type 0 where
   pub dies : isRevoking (rowAt (c .table) row .state) ≡ true
   pub rows : live (n .state .core .table) ≡ take row (live (c .table)) ++ collectedRow (rowAt (c .table) row) ∷ drop (row + 1) (live (c .table))
   pub pages : n .state .core .pages ≡ releasedOf (c .pages) (rangeOf (rowAt (c .table) row))
+  pub claims : n .state .core .claims ≡ c .claims
 
 sweep-free : (c : Core) (mail : List Slot) (r : Reads) (n : ℕ) → running c ≡ true → first (reasons c mail r (Sweep 0 n)) ≡ 0
 unfolding reasons first
@@ -72,7 +74,7 @@ collect-free : (c : Core) (mail : List Slot) (r : Reads) → running c ≡ true 
 unfolding reasons first collectReasons
 collect-free c mail r e over = rw (e, le-leb (16 * c .pages .f) (c .place) over)
 
-same-running : (c : Core) (place : ℕ) → running (core (c .pages) (c .table) place) ≡ running c
+same-running : (c : Core) (place : ℕ) → running (core (c .pages) (c .table) place (c .claims)) ≡ running c
 unfolding running
 same-running c place = refl
 
@@ -89,7 +91,7 @@ module _ (m : Machine) (v f : ℕ) (k : Standing m v f) (e : running (m .state .
   n₁ = next m (Sweep 0 cells)
 
   abbrev c₁ : Core
-  c₁ = core (c .pages) (c .table) (16 * c .pages .f)
+  c₁ = core (c .pages) (c .table) (16 * c .pages .f) (c .claims)
 
   sweep-goes : Granted m (Sweep 0 cells)
   sweep-goes = standing-code m v f (Sweep 0 cells) k ∙ sweep-free c (m .state .mailboxes) _ cells e
@@ -98,7 +100,7 @@ module _ (m : Machine) (v f : ℕ) (k : Standing m v f) (e : running (m .state .
   unfolding effect done
   swept-core =
       ap (λ n. n .state .core) (went-next m (Sweep 0 cells) (went m (Sweep 0 cells) sweep-goes))
-      ∙ ap (core (c .pages) (c .table)) (all-swept c cells (standing-facts m v f k .place) (omega (arith, k .of-f)))
+      ∙ ap (λ place. core (c .pages) (c .table) place (c .claims)) (all-swept c cells (standing-facts m v f k .place) (omega (arith, k .of-f)))
 
   collect-goes : Granted n₁ (Collect 0)
   collect-goes =
@@ -117,6 +119,7 @@ module _ (m : Machine) (v f : ℕ) (k : Standing m v f) (e : running (m .state .
         dies = s .dies;
         rows = ap (λ x. live (x .table)) g ∙ s .now;
         pages = ap (λ x. x .pages) (g ∙ s .parts) ∙ ap (releasedOf (c .pages)) (s .range);
+        claims = ap (λ x. x .claims) g ∙ collect-claims c₁;
       })
       (collect-core n₁ (Collect 0) 0 refl w) (collect-ends n₁ (Collect 0) 0 refl w)
 
@@ -237,6 +240,7 @@ module _ (m : Machine) (v f : ℕ) (k : Standing m v f) (bare : Bare v m) where
             ap (λ x. pageAt x p) (e .pages ∙ ap (releasedOf (n₂ .state .core .pages)) range) ∙ released-at (n₂ .state .core .pages) (rangeOf r₀) p (long p h)
             ∙ pick-yes (pageInside (rangeOf r₀) p) Unmapped _ (inside-made (rangeOf r₀) (16 * p) (omega arith) (omega arith));
         quiet = running-by (n .state .core) ∙ ap (λ l. not (none (dyings l))) one;
+        claims = e .claims ∙ ap (λ x. x .claims) (revoke-core m 0 0 revoke-went) ∙ revoke-claims c₀ 0 0 ∙ bare .free;
       }
     where
       long : (p : ℕ) → p < v → p < length (n₂ .state .core .pages .pages)

@@ -20,7 +20,7 @@ use Rattle.reservations.proofs.CoreKept.{core-facts}
 use Rattle.machine.specs.State.{State}
 use Rattle.machine.specs.Roles.{Asked}
 use Rattle.machine.specs.Effects.{MemoryChange, keepMemory, Effect}
-use Rattle.machine.proofs.Deeds.{Recored, splits, merges, gives, revokes, maps, unmaps, Deed, took, recored, swept, collectedAll, zeroed, filled, loaded, wrote, mailed, received}
+use Rattle.machine.proofs.Deeds.{Recored, splits, merges, gives, revokes, maps, unmaps, reclaims, Deed, took, recored, swept, collectedAll, zeroed, filled, loaded, wrote, mailed, received}
 use Rattle.histories.proofs.Keep.{frame-lookup}
 use Rattle.histories.proofs.Layer.{map-done, map-view, unmap-done, unmap-view, freed-shows, released-shows}
 use Rattle.histories.proofs.Findings.{ends, revoke-parts}
@@ -45,7 +45,8 @@ module _ (c : Core) (ok : coreSound c ≡ true) where
       ⊎-elim shownBefore (λ q. wasFree (frame .0) (v % 16) (g .free-frame) (omega arith) (q .1) refl)
       (map-view (c .pages) layer page frame g v at (subst (λ x. lookupOf x v ≡ At at) (map-done (c .pages) page frame z) e))
   recored-came k (unmaps page z) v at e =
-      shownBefore (unmap-view (c .pages) layer page (unmappable (c .pages) page z) v at (subst (λ x. lookupOf x v ≡ At at) (unmap-done (c .pages) page z) e))
+      shownBefore (unmap-view (c .pages) layer page (unmappable (c .pages) page _ z) v at (subst (λ x. lookupOf x v ≡ At at) (unmap-done (c .pages) page _ z) e))
+  recored-came k (reclaims x r) v at e = shownBefore e
 
 pub came : (s : State) → coreSound (s .core) ≡ true → {a : Asked} {e : Effect} → Deed s a e → (v at : ℕ)
     → lookupOf (e .core .pages) v ≡ At at → Came (s .core .pages) (e .memory) v at

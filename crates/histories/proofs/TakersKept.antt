@@ -33,7 +33,7 @@ use Rattle.reservations.proofs.CoreKept.{CoreFacts, core-facts}
 use Rattle.machine.specs.Formed.{wellFormed}
 use Rattle.machine.specs.Roles.{Asked}
 use Rattle.machine.specs.Effects.{Effect}
-use Rattle.machine.proofs.Deeds.{Recored, splits, merges, gives, revokes, maps, unmaps, Deed, took as tookRow, recored, swept, collectedAll, zeroed, filled, loaded, wrote, mailed, received}
+use Rattle.machine.proofs.Deeds.{Recored, splits, merges, gives, revokes, maps, unmaps, reclaims, Deed, took as tookRow, recored, swept, collectedAll, zeroed, filled, loaded, wrote, mailed, received}
 use Rattle.machine.proofs.Keeps.{Facts, facts}
 use Rattle.histories.specs.Runs.{Machine}
 use Rattle.histories.specs.Inv.{rowAt}
@@ -303,6 +303,7 @@ module _ (m : Machine) (formed : wellFormed (m .state) ≡ true) (took : ℕ →
   recored-written k (revokes p base z) = revoke-written p base (unfold revokeOf in z)
   recored-written k (maps page frame z) = all
   recored-written k (unmaps page z) = all
+  recored-written k (reclaims x r) = all
 
   pub deed-written : {a : Asked} {e : Effect} → Deed (m .state) a e → AllWritten (e .core .table) (λ cell. takerBy m (a .caller) (a .role) cell (took cell))
   deed-written (tookRow p base reg permissions low-p low-reg few z) = take-written p base low-p (unfold takeOf in z)

@@ -13,3 +13,4 @@ pub mod Losing
 pub mod Restoring
 pub mod Forgetting
 pub mod Takers
+pub mod Sharing

@@ -1,10 +1,12 @@
 -- Nothing lost, from every state. After every history some calls, each of them granted in its turn, lead back to one Open reservation of
--- all cells, held by party 0, with every page Unmapped. The calls are computed from the state. Assumes nothing.
+-- all cells, held by party 0, with every page Unmapped and the claims of a fresh start. The calls are computed from the state. Assumes
+-- nothing.
 use Prim.Native.Nat.{ℕ, zero, suc, _-_, _*_, _<_}
-use mathlib.Core.Bool.{Bool, false}
+use mathlib.Core.Bool.{Bool, true, false, not, _&&_}
 use mathlib.Core.List.{List, [], _∷_, _++_}
 use mathlib.Core.Path.{_≡_}
 use lib.ListN.{length, replicate}
+use lib.Dec.{eqb}
 use Rattle.capabilities.specs.Lists.{pick}
 use Rattle.pages.specs.declared.PageState.the-variants.{Unmapped}
 use Rattle.pages.specs.Pages.{Pages}
@@ -13,9 +15,11 @@ use Rattle.pages.specs.Layer.{pageAt}
 use Rattle.table.specs.declared.ReservationState.the-variants.{Open}
 use Rattle.table.specs.Table.{Table}
 use Rattle.table.specs.Rows.{isOpen, live, reservation, noTaker}
+use Rattle.claims.specs.Claims.{Claims, inBeing, parentOf, countOf}
+use Rattle.claims.specs.Sound.{freshClaims}
 use Rattle.reservations.specs.Revocation.{running}
 use Rattle.calls.specs.declared.Call.{Call}
-use Rattle.calls.specs.declared.Call.the-variants.{Take, Merge, Revoke, Sweep, Collect, Unmap}
+use Rattle.calls.specs.declared.Call.the-variants.{Take, Merge, Revoke, Sweep, Collect, Unmap, Release, Destroy}
 use Rattle.calls.specs.Commands.{page}
 use Rattle.histories.specs.Runs.{Machine, run, Reached}
 use Rattle.histories.specs.Inv.{rowAt}
@@ -25,6 +29,11 @@ use Rattle.histories.specs.Losing.{AllGranted}
 unfoldable pub eachBelow : (ℕ → Bool) → (ℕ → Call) → ℕ → List Call
 eachBelow test call zero = []
 eachBelow test call (suc n) = pick (test n) (call n ∷ eachBelow test call n) (eachBelow test call n)
+
+-- So many calls for each number below n, the highest first.
+unfoldable pub manyBelow : (ℕ → ℕ) → (ℕ → Call) → ℕ → List Call
+manyBelow times call zero = []
+manyBelow times call (suc n) = replicate (times n) (call n) ++ manyBelow times call n
 
 -- All cells of F frames are swept, and the revocation is collected.
 unfoldable pub ending : ℕ → List Call
@@ -50,7 +59,18 @@ taking m =
 unfoldable pub merging : Machine → List Call
 merging m = replicate (length (live (m .state .core .table)) - 1) (Merge 0 0)
 
--- 4. Each Mapped page is unmapped.
+-- 4. Each principal right below 0 is destroyed, and with it all below it; then 0 alone is in being.
+abbrev pub topAt : Claims → ℕ → Bool
+topAt c p = inBeing c p && (not (eqb p 0) && eqb (parentOf c p) 0)
+
+unfoldable pub destroying : Machine → List Call
+destroying m = eachBelow (topAt (m .state .core .claims)) (λ p. Destroy 0 p) 32
+
+-- 5. Each page that principal 0 counts is released as often as it counts it; then no page has a claim.
+unfoldable pub releasing : Machine → List Call
+releasing m = manyBelow (λ k. countOf (m .state .core .claims) 0 k) (λ k. Release 0 0 (page k)) (m .state .core .pages .v)
+
+-- 6. Each Mapped page is unmapped.
 abbrev pub mappedAt : Pages → ℕ → Bool
 mappedAt s p = isMapped (pageAt s p)
 
@@ -59,7 +79,7 @@ unmapping m =
     let s = m .state .core .pages in
     eachBelow (mappedAt s) (λ p. Unmap 0 (page p)) (s .v)
 
--- 5. The one reservation is revoked, and the revocation brought to its end.
+-- 7. The one reservation is revoked, and the revocation brought to its end.
 unfoldable pub revoking : Machine → List Call
 revoking m = Revoke 0 0 ∷ ending (m .state .core .pages .f)
 
@@ -69,13 +89,15 @@ unfoldable pub _andThen_ : (Machine → List Call) → (Machine → List Call) �
 (a andThen b) m = a m ++ b (run m (a m))
 
 unfoldable pub restoring : Machine → List Call
-restoring = finishing andThen taking andThen merging andThen unmapping andThen revoking
+restoring = finishing andThen taking andThen merging andThen destroying andThen releasing andThen unmapping andThen revoking
 
--- One Open reservation of 16 V cells, held by party 0; every page Unmapped; and no revocation runs.
+-- One Open reservation of 16 V cells, held by party 0; every page Unmapped; no revocation runs; and principal 0 alone is in being, with all
+-- limit unspent and no count.
 pub record Restored (m : Machine) (v : ℕ) : Type 0 where
   pub one : live (m .state .core .table) ≡ reservation 0 (16 * v) Open 0 noTaker ∷ []
   pub pages : (p : ℕ) → p < v → pageAt (m .state .core .pages) p ≡ Unmapped
   pub quiet : running (m .state .core) ≡ false
+  pub claims : m .state .core .claims ≡ freshClaims true
 
 abbrev pub NothingLost : Type 0
 NothingLost = (m : Machine) (r : Reached m) → AllGranted m (restoring m) × Restored (run m (restoring m)) (r .v)

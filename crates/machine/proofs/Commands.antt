@@ -12,6 +12,7 @@ use Rattle.calls.specs.declared.Reading.the-variants.{Read, Refused}
 use Rattle.calls.specs.Reader.{readOf}
 use Rattle.machine.specs.State.{State}
 use Rattle.machine.specs.Formed.{wellFormed}
+use Rattle.machine.specs.Reasons.{lastRefusal}
 use Rattle.machine.specs.Step.{Outcome, left, refused, stepOf}
 use Rattle.machine.specs.Command.{Ran, used, onReading, commandJudged, commandOf}
 use Rattle.machine.proofs.Judging.{pick-by, judged-step, refused-keeps}
@@ -53,9 +54,9 @@ module _ (s : State) (input : List ℕ) (at : ℕ) (cells tags : List ℕ) where
       command-by (λ r. (r .command .answered .code ≡ 0 → ⊥) → outcome r ≡ refused (r .command .answered .code) s cells tags) (λ k n b z. refl)
       (λ c n h. refused-keeps s c cells tags)
 
-  -- Its code is 0 to 19.
-  pub command-at-most : commandOf s input at cells tags .command .answered .code ≤ 19
-  command-at-most = command-by (λ r. r .command .answered .code ≤ 19) (λ k n b. omega arith) (λ c n h. code-at-most s c cells tags)
+  -- Its code is 0, or the number of a refusal.
+  pub command-at-most : commandOf s input at cells tags .command .answered .code ≤ lastRefusal
+  command-at-most = command-by (λ r. r .command .answered .code ≤ lastRefusal) (λ k n b. omega arith) (λ c n h. code-at-most s c cells tags)
 
   -- It keeps the numbers of registers, mailboxes, lent cells and lent tags.
   pub command-sized : Sized s cells tags (outcome (commandOf s input at cells tags))

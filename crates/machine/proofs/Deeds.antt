@@ -4,31 +4,33 @@
 use Prim.Native.Nat.{ℕ, _<_, _≤_}
 use native.Mathlib.Omega.{arith}
 use mathlib.Core.Bool.{true, false, not, _||_}
-use mathlib.Core.List.{[], _∷_}
+use mathlib.Core.List.{List, [], _∷_}
 use mathlib.Core.Path.{_≡_, refl, subst}
-use borrow.Author.Tests.{not-false}
+use borrow.Author.Tests.{leb-false, not-false}
 use lib.Bits.{and-le-l}
 use Rattle.capabilities.specs.Capability.{narrowed, permitted}
-use Rattle.capabilities.specs.Refusals.{first, reason}
+use Rattle.capabilities.specs.Refusals.{Reason, first, reason}
 use Rattle.capabilities.proofs.Refusals.{first-clear}
 use Rattle.pages.specs.declared.Frame.{Frame}
 use Rattle.pages.specs.declared.FrameState.the-variants.{Free}
 use Rattle.pages.specs.declared.VirtualPage.{VirtualPage}
 use Rattle.pages.specs.Layer.{withFrame}
-use Rattle.pages.specs.Mapping.{mapReasons, mapOf, unmapReasons, unmapOf, dirtyReasons}
+use Rattle.pages.specs.Mapping.{noPage, mapReasons, mapOf, unmapReasons, unmapOf, dirtyReasons}
 use Rattle.table.specs.Operations.{takeReasons, splitReasons, splitOf, mergeReasons, mergeOf, giveReasons, giveOf}
+use Rattle.claims.specs.Claims.{Claims, claimed}
+use Rattle.claims.specs.Operations.{createReasons, createOf, claimReasons, claimOf, releaseReasons, releaseOf, destroyReasons, destroyOf}
 use Rattle.reservations.specs.Core.{Core}
 use Rattle.reservations.specs.Revocation.{core, running, revoked, revokeReasons, revokeOf, collectReasons, collectOf}
 use Rattle.sweep.specs.Sweep.{cellsLeft}
 use Rattle.calls.specs.declared.Call.{Call}
-use Rattle.calls.specs.declared.Call.the-variants.{Take, Split, Merge, Give, Revoke, Sweep, Collect, Map, Unmap, Zero, Load, Store, Narrow, Number, Grant, Receive, TakeMasked}
+use Rattle.calls.specs.declared.Call.the-variants.{Take, Split, Merge, Give, Revoke, Sweep, Collect, Map, Unmap, Zero, Load, Store, Narrow, Number, Grant, Receive, TakeMasked, Create, Claim, Release, Destroy}
 use Rattle.words.specs.declared.Slot.{Slot}
 use Rattle.words.specs.Words.{slot, empty, registerOf, mailboxOf, placeNumber, stored}
 use Rattle.words.specs.WordReasons.{unnamed, notManager, mayNotLoad, mayNotStore}
 use Rattle.machine.specs.State.{State}
 use Rattle.machine.specs.Roles.{Sources, fromNone, fromOne, Role, takes, collects, fills, stores, grants, plain, Asked, asked, plainPermissions, roleOf, IsTake}
 use Rattle.machine.specs.Reasons.{addressed, takingReasons, reasons}
-use Rattle.machine.specs.Effects.{keepRegisters, putRegister, fetchInto, collectRegisters, keepMailboxes, putMailbox, collectMailboxes, keepMemory, writeWord, clearFrame, sweepCells, Effect, effectOf, withTable, withPages, sweptTo, taking, effect}
+use Rattle.machine.specs.Effects.{keepRegisters, putRegister, fetchInto, collectRegisters, keepMailboxes, putMailbox, collectMailboxes, keepMemory, writeWord, clearFrame, sweepCells, Effect, effectOf, withTable, withPages, withClaims, sweptTo, taking, effect}
 use Rattle.machine.specs.Step.{reasonsOn, effectOn}
 use Rattle.machine.proofs.Found.{after-five, low-two, low-three, Addressing, addressing, Narrowing, narrowing}
 
@@ -39,7 +41,7 @@ coreAlone k = effectOf k keepRegisters keepMailboxes keepMemory empty
 -- 06, 07, 0A.
 abbrev pub sweeping : Core → ℕ → Effect
 sweeping c n =
-    effectOf (core (c .pages) (c .table) (sweptTo c n)) keepRegisters keepMailboxes (sweepCells (revoked c) (c .place) (sweptTo c n))
+    effectOf (core (c .pages) (c .table) (sweptTo c n) (c .claims)) keepRegisters keepMailboxes (sweepCells (revoked c) (c .place) (sweptTo c n))
     (slot (cellsLeft (c .pages) (sweptTo c n)) false)
 
 abbrev pub collecting : Core → Effect
@@ -69,6 +71,14 @@ granting s p x to = effectOf (s .core) keepRegisters (putMailbox to (registerOf 
 abbrev pub receiving : State → ℕ → ℕ → Effect
 receiving s p d = effectOf (s .core) (putRegister p d (mailboxOf (s .mailboxes) p)) (putMailbox p empty) keepMemory (mailboxOf (s .mailboxes) p)
 
+-- What a call makes of the claims, where there are v pages.
+pub data Reclaimed (v : ℕ) (c : Claims) : Claims → Type 0 where
+  creates : (party parent child limit holder : ℕ) → holder < 8 → first (createReasons c party parent child limit) ≡ 0
+      → Reclaimed v c (createOf c parent child limit holder)
+  claims : (party p page : ℕ) → page < v → first (claimReasons c party p page) ≡ 0 → Reclaimed v c (claimOf c p page)
+  releases : (party p page : ℕ) → page < v → first (releaseReasons c party p page) ≡ 0 → Reclaimed v c (releaseOf c p page)
+  destroys : (party p : ℕ) → first (destroyReasons c party p) ≡ 0 → Reclaimed v c (destroyOf c p)
+
 -- What a call makes of the core where it changes nothing else.
 pub data Recored (c : Core) : Core → Type 0 where
   splits : (p base len : ℕ) → first (splitReasons (c .table) p base len) ≡ 0 → Recored c (withTable c (splitOf (c .table) p base len .table))
@@ -76,7 +86,9 @@ pub data Recored (c : Core) : Core → Type 0 where
   gives : (p base to : ℕ) → to < 8 → first (giveReasons (c .table) p base) ≡ 0 → Recored c (withTable c (giveOf (c .table) p base to .table))
   revokes : (p base : ℕ) → first (revokeReasons c p base) ≡ 0 → Recored c (revokeOf c p base .core)
   maps : (page : VirtualPage) (frame : Frame) → first (mapReasons (c .pages) page frame) ≡ 0 → Recored c (withPages c (mapOf (c .pages) page frame .pages))
-  unmaps : (page : VirtualPage) → first (unmapReasons (c .pages) page) ≡ 0 → Recored c (withPages c (unmapOf (c .pages) page .pages))
+  unmaps : (page : VirtualPage) → first (unmapReasons (c .pages) page (claimed (c .claims) (page .0))) ≡ 0
+      → Recored c (withPages c (unmapOf (c .pages) page (claimed (c .claims) (page .0)) .pages))
+  reclaims : (x : Claims) → Reclaimed (c .pages .v) (c .claims) x → Recored c (withClaims c x)
 
 -- What a call puts into a register of its caller p, where it changes nothing else: a narrower capability, or a number.
 pub data Filling (s : State) (p : ℕ) : Sources → Slot → Type 0 where
@@ -104,6 +116,13 @@ taking-deed s p base reg permissions few z =
     let low = low-two p reg (takeReasons (s .core .table) p base) z in
     took p base reg permissions (low .0) (low .1) few (first-clear 4 (unnamed p || unnamed reg) _ (λ x. omega arith) z .1)
 
+-- 13 and 14: a page below V, and none of the claims' own reasons.
+pub paged-clear : (s : State) (p : ℕ) (page : VirtualPage) (rest : List Reason) → first (reason 4 (unnamed p) ∷ reason 12 (noPage (s .core .pages) page) ∷ rest) ≡ 0
+    → (page .0 < s .core .pages .v) × (first rest ≡ 0)
+paged-clear s p page rest z =
+    let (low, clear) = first-clear 12 (noPage (s .core .pages) page) rest (λ x. omega arith) (first-clear 4 (unnamed p) _ (λ x. omega arith) z .1) in
+    (leb-false (s .core .pages .v) (page .0) low, clear)
+
 -- Every granted call does one of these.
 pub deed : (s : State) (c : Call) → first (reasonsOn s c) ≡ 0 → Deed s (roleOf c) (effectOn s c)
 unfolding reasons effect
@@ -117,7 +136,7 @@ deed s (Sweep p n) z =
     swept p n (not-false (running (s .core)) (first-clear 11 (not (running (s .core))) [] (λ x. omega arith) (after-five (unnamed p) (notManager p) (reason 11 (not (running (s .core))) ∷ []) z) .0))
 deed s (Collect p) z = collectedAll p (after-five (unnamed p) (notManager p) (collectReasons (s .core)) z)
 deed s (Map p page frame) z = recored p _ (maps page frame (after-five (unnamed p) (notManager p) (mapReasons (s .core .pages) page frame) z))
-deed s (Unmap p page) z = recored p _ (unmaps page (after-five (unnamed p) (notManager p) (unmapReasons (s .core .pages) page) z))
+deed s (Unmap p page) z = recored p _ (unmaps page (after-five (unnamed p) (notManager p) (unmapReasons (s .core .pages) page (claimed (s .core .claims) (page .0))) z))
 deed s (Zero p frame) z = zeroed p frame (after-five (unnamed p) (notManager p) (dirtyReasons (s .core .pages) frame) z)
 deed s (Load p a off d) z =
     let w = registerOf (s .registers) p a in
@@ -134,6 +153,16 @@ deed s (Grant p x to) z =
     mailed p x to (not-false (registerOf (s .registers) p x .tag) (first-clear 15 (not (registerOf (s .registers) p x .tag)) _ (λ x. omega arith) (one .1) .0))
 deed s (Receive p d) z = received p d (low-two p d _ z .1)
 deed s (TakeMasked p base reg mask) z = taking-deed s p base reg (permitted mask) (and-le-l 15 mask) z
+deed s (Create p parent child limit holder) z =
+    let rest = createReasons (s .core .claims) p parent child limit in
+    recored p _ (reclaims _ (creates p parent child limit holder (low-two p holder rest z .1) (first-clear 4 (unnamed p || unnamed holder) _ (λ x. omega arith) z .1)))
+deed s (Claim p principal page) z =
+    let found = paged-clear s p page (claimReasons (s .core .claims) p principal (page .0)) z in
+    recored p _ (reclaims _ (claims p principal (page .0) (found .0) (found .1)))
+deed s (Release p principal page) z =
+    let found = paged-clear s p page (releaseReasons (s .core .claims) p principal (page .0)) z in
+    recored p _ (reclaims _ (releases p principal (page .0) (found .0) (found .1)))
+deed s (Destroy p principal) z = recored p _ (reclaims _ (destroys p principal (first-clear 4 (unnamed p) _ (λ x. omega arith) z .1)))
 
 -- What a granted take, and a granted collect, have found, and their effect.
 pub record Taken (s : State) (p base reg permissions : ℕ) (e : Effect) : Type 0 where

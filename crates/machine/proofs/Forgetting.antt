@@ -18,11 +18,13 @@ use Rattle.table.specs.Tiling.{takersSound, freshTable}
 use Rattle.table.specs.Operations.{takeOf}
 use Rattle.table.proofs.Truth.{both}
 use Rattle.table.proofs.Forgetting.{pick-like, granted-like, table-twice, take-reasons, take-length, take-forgets, split-reasons, split-forgets, merge-reasons, merge-forgets, give-reasons, give-forgets}
+use Rattle.claims.specs.Claims.{Claims}
+use Rattle.claims.specs.Sound.{claimsSound}
 use Rattle.reservations.specs.Core.{Core}
 use Rattle.reservations.specs.Revocation.{core, forgetCore, freshCore, coreSound}
 use Rattle.reservations.proofs.Forgetting.{core-twice, running-forgets, revoked-forgets, dying-forgets, revoke-reasons, revoke-forgets, collect-reasons, collect-forgets, core-forgets}
 use Rattle.calls.specs.declared.Call.{Call}
-use Rattle.calls.specs.declared.Call.the-variants.{Take, Split, Merge, Give, Revoke, Sweep, Collect, Map, Unmap, Zero, Load, Store, Narrow, Number, Grant, Receive, TakeMasked}
+use Rattle.calls.specs.declared.Call.the-variants.{Take, Split, Merge, Give, Revoke, Sweep, Collect, Map, Unmap, Zero, Load, Store, Narrow, Number, Grant, Receive, TakeMasked, Create, Claim, Release, Destroy}
 use Rattle.words.specs.declared.Slot.{Slot}
 use Rattle.words.specs.WordReasons.{unnamed, notManager}
 use Rattle.words.specs.Words.{slot, empty, keepTag, wordAt, placeNumber}
@@ -43,8 +45,8 @@ forgetEffect e = effectOf (forgetCore (e .core)) (e .registers) (e .mailboxes) (
 like : {x y : Core} {a : RegisterChange} {m : MailboxChange} {l : MemoryChange} {w : Slot} → x ≡ y → effectOf x a m l w ≡ effectOf y a m l w
 like {a} {m} {l} {w} e = ap (λ k. effectOf k a m l w) e
 
-tabled : {pages : Pages} {x y : Table} {place : ℕ} → x ≡ y → core pages x place ≡ core pages y place
-tabled {pages} {place} e = ap (λ t. core pages t place) e
+tabled : {pages : Pages} {x y : Table} {place : ℕ} {claims : Claims} → x ≡ y → core pages x place claims ≡ core pages y place claims
+tabled {pages} {place} {claims} e = ap (λ t. core pages t place claims) e
 
 module _ (c : Core) (mail : List Slot) (r : Reads) where
   -- The same reasons speak against a call, whatever takers stand in the core.
@@ -67,11 +69,15 @@ module _ (c : Core) (mail : List Slot) (r : Reads) where
   reasons-forget (Grant p s to) = refl
   reasons-forget (Receive p d) = refl
   reasons-forget (TakeMasked p base reg mask) = ap (λ l. reason 4 (unnamed p || unnamed reg) ∷ l) (take-reasons (c .table) p base)
+  reasons-forget (Create p parent child limit holder) = refl
+  reasons-forget (Claim p principal page) = refl
+  reasons-forget (Release p principal page) = refl
+  reasons-forget (Destroy p principal) = refl
 
   taking-forgets : (p base reg permissions : ℕ) → forgetEffect (taking (forgetCore c) p base reg permissions) ≡ forgetEffect (taking c p base reg permissions)
   taking-forgets p base reg permissions =
       like (tabled (take-forgets (c .table) p base))
-      ∙ ap (λ n. forgetEffect (effectOf (core (c .pages) (takeOf (c .table) p base .table) (c .place)) (putRegister p reg (slot (capability base n permissions) true)) keepMailboxes keepMemory (slot n false)))
+      ∙ ap (λ n. forgetEffect (effectOf (core (c .pages) (takeOf (c .table) p base .table) (c .place) (c .claims)) (putRegister p reg (slot (capability base n permissions) true)) keepMailboxes keepMemory (slot n false)))
       (take-length (c .table) p base)
 
   -- A call has the same effect, but for the takers that it leaves.
@@ -85,7 +91,7 @@ module _ (c : Core) (mail : List Slot) (r : Reads) where
   effect-forgets (Revoke p base) = like (revoke-forgets c p base)
   effect-forgets (Sweep p n) =
       like (tabled (table-twice (c .table)))
-      ∙ ap (λ x. forgetEffect (effectOf (core (c .pages) (c .table) (sweptTo c n)) keepRegisters keepMailboxes (sweepCells x (c .place) (sweptTo c n)) (slot (cellsLeft (c .pages) (sweptTo c n)) false)))
+      ∙ ap (λ x. forgetEffect (effectOf (core (c .pages) (c .table) (sweptTo c n) (c .claims)) keepRegisters keepMailboxes (sweepCells x (c .place) (sweptTo c n)) (slot (cellsLeft (c .pages) (sweptTo c n)) false)))
       (revoked-forgets c)
   effect-forgets (Collect p) = like (collect-forgets c)
   effect-forgets (Map p page frame) = like (tabled (table-twice (c .table)))
@@ -99,6 +105,10 @@ module _ (c : Core) (mail : List Slot) (r : Reads) where
   effect-forgets (Number p d value) = like (core-twice c)
   effect-forgets (Grant p s to) = like (core-twice c)
   effect-forgets (Receive p d) = like (core-twice c)
+  effect-forgets (Create p parent child limit holder) = like (tabled (table-twice (c .table)))
+  effect-forgets (Claim p principal page) = like (tabled (table-twice (c .table)))
+  effect-forgets (Release p principal page) = like (tabled (table-twice (c .table)))
+  effect-forgets (Destroy p principal) = like (tabled (table-twice (c .table)))
 
 -- What is done to a state does not go by its takers: by its core go only the capabilities that die, and the frames.
 module _ (s : State) where
@@ -142,11 +152,15 @@ module _ (s : State) where
   unfolding wellFormed formedBare mailboxesSound
   formed-forgets w =
       let boxes = mailboxesSound s in
+      let claims = claimsSound (s .core .pages .v) (s .core .claims) in
       let bare = and-left (formedBare s) (takersSound (live (s .core .table))) w in
-      let front = and-left (coreSound (s .core) && boxes) (sized s) bare in
-      both (coreSound (forgetCore (s .core)) && boxes) (sized s)
+      let lines = and-left ((coreSound (s .core) && boxes) && sized s) claims bare in
+      let front = and-left (coreSound (s .core) && boxes) (sized s) lines in
+      both ((coreSound (forgetCore (s .core)) && boxes) && sized s) claims
+      (both (coreSound (forgetCore (s .core)) && boxes) (sized s)
       (both (coreSound (forgetCore (s .core))) boxes (core-forgets (s .core) (and-left (coreSound (s .core)) boxes front)) (and-right (coreSound (s .core)) boxes front))
-      (and-right (coreSound (s .core) && boxes) (sized s) bare)
+      (and-right (coreSound (s .core) && boxes) (sized s) lines))
+      (and-right ((coreSound (s .core) && boxes) && sized s) claims bare)
 
 module _ (s : State) (c : Call) (cells tags : List ℕ) where
   done-forgets : forgetOutcome (done (forget s) (effectOn (forget s) c) cells tags) ≡ forgetOutcome (done s (effectOn s c) cells tags)
@@ -190,7 +204,7 @@ agree-none : (s : State) → s .core .table ≡ noRows → Agree s
 unfolding wellFormed live takersSound
 agree-none s e =
     ap (λ t. formedBare s && takersSound (live t)) e ∙ and-true (formedBare s)
-    ∙ ap (λ t. formedBare (record { core = core (s .core .pages) t (s .core .place); registers = s .registers; mailboxes = s .mailboxes })) (e ∙ sym (ap forgetTable e))
+    ∙ ap (λ t. formedBare (record { core = core (s .core .pages) t (s .core .place) (s .core .claims); registers = s .registers; mailboxes = s .mailboxes })) (e ∙ sym (ap forgetTable e))
 
 pub agree-start : (v f : ℕ) → Agree (startOf v f .state)
 unfolding startOf fresh freshCore freshTable

@@ -10,15 +10,18 @@ use borrow.Author.Tests.{eqb-true, eq-eqb}
 use Rattle.capabilities.specs.Lists.{pick, each}
 use Rattle.capabilities.specs.Refusals.{first}
 use Rattle.capabilities.proofs.Choice.{and-left, and-right}
-use Rattle.pages.specs.Layer.{inRange, serves}
+use Rattle.pages.specs.Layer.{inRange, freshOf, serves}
 use Rattle.pages.proofs.Formed as layer
 use Rattle.table.specs.Rows.{live}
 use Rattle.table.specs.Tiling.{takersSound}
 use Rattle.table.proofs.TakersKept.{take-takers, give-takers, split-takers, merge-takers}
 use Rattle.table.proofs.Sound as table
 use Rattle.table.proofs.Truth.{both}
+use Rattle.claims.specs.Sound.{claimsSound}
+use Rattle.claims.proofs.KeptCounts.{fresh-sound}
 use Rattle.reservations.specs.Core.{Core}
-use Rattle.reservations.specs.Revocation.{dying, coreSound}
+use Rattle.reservations.specs.Revocation.{freshCore, dying, coreSound}
+use Rattle.reservations.proofs.ClaimsApart.{sound-apart}
 use Rattle.reservations.proofs.CoreKept.{core-facts, core-take, core-split, core-merge, core-give}
 use Rattle.reservations.proofs.Revocations.{core-revoke, core-collect, core-sweep}
 use Rattle.reservations.proofs.Starts.{core-fresh}
@@ -32,9 +35,10 @@ use Rattle.machine.specs.Roles.{Asked}
 use Rattle.machine.specs.Effects.{MailboxChange, keepMailboxes, putMailbox, collectMailboxes, Effect}
 use Rattle.machine.specs.Step.{mailboxesAfter, done, reasonsOn, effectOn, judged, stepOf}
 use Rattle.machine.proofs.Judging.{judged-by, step-by}
-use Rattle.machine.proofs.Deeds.{Recored, splits, merges, gives, revokes, maps, unmaps, Deed, took, recored, swept, collectedAll, zeroed, filled, loaded, wrote, mailed, received, deed}
+use Rattle.machine.proofs.Deeds.{Recored, splits, merges, gives, revokes, maps, unmaps, reclaims, Deed, took, recored, swept, collectedAll, zeroed, filled, loaded, wrote, mailed, received, deed}
 use Rattle.machine.proofs.Lengths.{length-registers, length-mailboxes}
 use Rattle.machine.proofs.Lists.{each-set, each-map}
+use Rattle.machine.proofs.ClaimsKept.{claims-kept}
 use Rattle.machine.proofs.PagesKept.{core-map, core-unmap, core-zero}
 
 -- A well-formed state as plain facts, and the way back.
@@ -44,30 +48,36 @@ pub record Facts (s : State) : Type 0 where
   pub of-registers : length (s .registers) ≡ 64
   pub of-mailboxes : length (s .mailboxes) ≡ 8
   pub takers : takersSound (live (s .core .table)) ≡ true
+  pub claims : claimsSound (s .core .pages .v) (s .core .claims) ≡ true
 
 pub facts : (s : State) → wellFormed s ≡ true → Facts s
 unfolding wellFormed formedBare mailboxesSound
 facts s e =
     let boxes = each mailboxSound 0 (s .mailboxes) in
     let takers = takersSound (live (s .core .table)) in
-    let bare = and-left ((coreSound (s .core) && boxes) && sized s) takers e in
-    let front = and-left (coreSound (s .core) && boxes) (sized s) bare in
-    let back = and-right (coreSound (s .core) && boxes) (sized s) bare in
+    let claims = claimsSound (s .core .pages .v) (s .core .claims) in
+    let bare = and-left (((coreSound (s .core) && boxes) && sized s) && claims) takers e in
+    let lines = and-left ((coreSound (s .core) && boxes) && sized s) claims bare in
+    let front = and-left (coreSound (s .core) && boxes) (sized s) lines in
+    let back = and-right (coreSound (s .core) && boxes) (sized s) lines in
     record {
       core = and-left (coreSound (s .core)) boxes front;
       mailboxes = and-right (coreSound (s .core)) boxes front;
       of-registers = eqb-true (length (s .registers)) 64 (and-left (eqb (length (s .registers)) 64) (eqb (length (s .mailboxes)) 8) back);
       of-mailboxes = eqb-true (length (s .mailboxes)) 8 (and-right (eqb (length (s .registers)) 64) (eqb (length (s .mailboxes)) 8) back);
-      takers = and-right ((coreSound (s .core) && boxes) && sized s) takers e;
+      takers = and-right (((coreSound (s .core) && boxes) && sized s) && claims) takers e;
+      claims = and-right ((coreSound (s .core) && boxes) && sized s) claims bare;
     }
 
 pub formed : (s : State) → Facts s → wellFormed s ≡ true
 unfolding wellFormed formedBare mailboxesSound
 formed s f =
     let boxes = each mailboxSound 0 (s .mailboxes) in
-    both ((coreSound (s .core) && boxes) && sized s) (takersSound (live (s .core .table)))
+    both (((coreSound (s .core) && boxes) && sized s) && claimsSound (s .core .pages .v) (s .core .claims)) (takersSound (live (s .core .table)))
+    (both ((coreSound (s .core) && boxes) && sized s) (claimsSound (s .core .pages .v) (s .core .claims))
     (both (coreSound (s .core) && boxes) (sized s) (both (coreSound (s .core)) boxes (f .core) (f .mailboxes))
     (both (eqb (length (s .registers)) 64) (eqb (length (s .mailboxes)) 8) (eq-eqb (length (s .registers)) 64 (f .of-registers)) (eq-eqb (length (s .mailboxes)) 8 (f .of-mailboxes))))
+    (f .claims))
     (f .takers)
 
 -- The lengths of all arrays of a well-formed state, and so, by `step-keeps` below, of the state after every step.
@@ -135,7 +145,8 @@ recored-kept c k ok (merges p base z) = core-merge c ok p base
 recored-kept c k ok (gives p base to low z) = core-give c ok p base to (omega arith)
 recored-kept c k ok (revokes p base z) = core-revoke c ok p base
 recored-kept c k ok (maps page frame z) = core-map c ok page frame
-recored-kept c k ok (unmaps page z) = core-unmap c ok page
+recored-kept c k ok (unmaps page z) = core-unmap c ok page _
+recored-kept c k ok (reclaims x r) = sound-apart c x ∙ ok
 
 core-kept : (s : State) → coreSound (s .core) ≡ true → {a : Asked} {e : Effect} → Deed s a e → coreSound (e .core) ≡ true
 core-kept s ok (took p base reg permissions low-p low-reg few z) = core-take (s .core) ok p base
@@ -157,6 +168,7 @@ recored-takers c k ok fit (gives p base to low z) = give-takers _ (c .table) (co
 recored-takers c k ok fit (revokes p base z) = revoke-takers c ok fit p base
 recored-takers c k ok fit (maps page frame z) = fit
 recored-takers c k ok fit (unmaps page z) = fit
+recored-takers c k ok fit (reclaims x r) = fit
 
 takers-kept : (s : State) → coreSound (s .core) ≡ true → takersSound (live (s .core .table)) ≡ true → {a : Asked} {e : Effect} → Deed s a e
     → takersSound (live (e .core .table)) ≡ true
@@ -186,6 +198,7 @@ done-keeps s c cells tags w m e =
       of-registers = length-registers (x .registers) s cells tags ∙ f .of-registers;
       of-mailboxes = length-mailboxes (x .mailboxes) s ∙ f .of-mailboxes;
       takers = takers-kept s (f .core) (f .takers) d;
+      claims = claims-kept s (f .core) (f .claims) d;
     })
 
 -- Every call, granted or refused, keeps the state well formed.
@@ -197,9 +210,13 @@ module _ (s : State) (c : Call) (cells tags : List ℕ) (w : wellFormed s ≡ tr
   step-keeps =
       step-by s c cells tags (λ o. wellFormed (o .answer .state) ≡ true) (λ g. done-keeps s c cells tags w (g .served) (g .clear)) (λ k n. w)
 
+fresh-claims : (v f : ℕ) → inRange v f ≡ true → claimsSound (fresh v f .core .pages .v) (fresh v f .core .claims) ≡ true
+unfolding fresh freshCore
+fresh-claims v f e = rw e (fresh-sound (freshOf v f .v))
+
 fresh-formed : (v f : ℕ) → inRange v f ≡ true → wellFormed (fresh v f) ≡ true
 unfolding fresh
-fresh-formed v f e = formed (fresh v f) (record { core = core-fresh v f e; mailboxes = unfold each in refl; of-registers = refl; of-mailboxes = refl; takers = fresh-takers v f e })
+fresh-formed v f e = formed (fresh v f) (record { core = core-fresh v f e; mailboxes = unfold each in refl; of-registers = refl; of-mailboxes = refl; takers = fresh-takers v f e; claims = fresh-claims v f e })
 
 -- A granted start is well formed.
 pub start-formed : (v f : ℕ) → startOf v f .code ≡ 0 → wellFormed (startOf v f .state) ≡ true

@@ -8,6 +8,8 @@ pub mod Dependence
 pub mod Lists
 pub mod PagesKept
 pub mod Lengths
+pub mod Sizes
+pub mod ClaimsKept
 pub mod Keeps
 pub mod Forgetting
 pub mod Commands
@@ -17,3 +19,4 @@ pub mod EdgesMet
 pub mod WrongMachines
 pub mod Shapes
 pub mod Masking
+pub mod Undoing

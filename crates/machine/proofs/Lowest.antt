@@ -15,12 +15,13 @@ use Rattle.capabilities.proofs.Choice.{and-left, and-right}
 use Rattle.pages.specs.Layer.{serves}
 use Rattle.pages.specs.Mapping.{mapReasons, unmapReasons, dirtyReasons}
 use Rattle.table.specs.Operations.{openReasons, takeReasons, splitReasonsAt, splitReasons, mergeReasonsAt, mergeReasons, giveReasons}
+use Rattle.claims.specs.Operations.{createReasons, claimReasons, releaseReasons, destroyReasons}
 use Rattle.reservations.specs.Revocation.{revokeReasonsAt, revokeReasons, collectReasons}
 use Rattle.calls.specs.declared.Call.{Call}
-use Rattle.calls.specs.declared.Call.the-variants.{Take, Split, Merge, Give, Revoke, Sweep, Collect, Map, Unmap, Zero, Load, Store, Narrow, Number, Grant, Receive, TakeMasked}
+use Rattle.calls.specs.declared.Call.the-variants.{Take, Split, Merge, Give, Revoke, Sweep, Collect, Map, Unmap, Zero, Load, Store, Narrow, Number, Grant, Receive, TakeMasked, Create, Claim, Release, Destroy}
 use Rattle.machine.specs.State.{State}
 use Rattle.machine.specs.Formed.{wellFormed}
-use Rattle.machine.specs.Reasons.{reasons}
+use Rattle.machine.specs.Reasons.{lastRefusal, reasons}
 use Rattle.machine.specs.Step.{refused, done, reasonsOn, effectOn, ruled, judged, stepOf}
 use Rattle.machine.proofs.Judging.{pick-by}
 
@@ -123,9 +124,9 @@ rising-wider lower above most (r ∷ rest) h e =
     let b : above < r .number = ltb-true above (r .number) (and-left (ltb above (r .number)) (rising (r .number) most rest) e) in
     rw (lt-ltb lower (r .number) (omega arith)) (and-right (ltb above (r .number)) (rising (r .number) most rest) e)
 
--- The reasons 4 to 19 against each kind of call stand in the order of their numbers.
-pub reasons-rise : (s : State) (c : Call) → rising 3 19 (reasonsOn s c) ≡ true
-unfolding rising reasons openReasons takeReasons splitReasonsAt splitReasons mergeReasonsAt mergeReasons giveReasons revokeReasonsAt revokeReasons collectReasons mapReasons unmapReasons dirtyReasons
+-- The reasons from 4 on against each kind of call stand in the order of their numbers.
+pub reasons-rise : (s : State) (c : Call) → rising 3 lastRefusal (reasonsOn s c) ≡ true
+unfolding rising reasons openReasons takeReasons splitReasonsAt splitReasons mergeReasonsAt mergeReasons giveReasons revokeReasonsAt revokeReasons collectReasons mapReasons unmapReasons dirtyReasons createReasons claimReasons releaseReasons destroyReasons
 reasons-rise s (Take p base reg) = refl
 reasons-rise s (Split p base len) = refl
 reasons-rise s (Merge p base) = refl
@@ -143,13 +144,17 @@ reasons-rise s (Number p d value) = refl
 reasons-rise s (Grant p r to) = refl
 reasons-rise s (Receive p d) = refl
 reasons-rise s (TakeMasked p base reg mask) = refl
+reasons-rise s (Create p parent child limit holder) = refl
+reasons-rise s (Claim p principal page) = refl
+reasons-rise s (Release p principal page) = refl
+reasons-rise s (Destroy p principal) = refl
 
 -- The same of all the reasons, 1 and 2 before the others.
-pub all-rise : (s : State) (c : Call) (cells tags : List ℕ) → rising 0 19 (allReasons s c cells tags) ≡ true
-all-rise s c cells tags = unfold rising in rising-wider 2 3 19 (reasonsOn s c) (omega arith) (reasons-rise s c)
+pub all-rise : (s : State) (c : Call) (cells tags : List ℕ) → rising 0 lastRefusal (allReasons s c cells tags) ≡ true
+all-rise s c cells tags = unfold rising in rising-wider 2 3 lastRefusal (reasonsOn s c) (omega arith) (reasons-rise s c)
 
 module _ (s : State) (c : Call) (cells tags : List ℕ) where
-  -- By refusals 4 to 19 the number answered is that of the first of them that applies.
+  -- By refusals from 4 on the number answered is that of the first of them that applies.
   pub ruled-code : ruled s c cells tags .answer .code ≡ first (reasonsOn s c)
   unfolding ruled done
   ruled-code =
@@ -180,8 +185,8 @@ module _ (s : State) (c : Call) (cells tags : List ℕ) where
   pub lowest : Lowest (stepOf s c cells tags .answer .code) (allReasons s c cells tags)
   lowest =
       subst (λ k. Lowest k (allReasons s c cells tags)) (sym step-code)
-      (first-lowest 0 19 (allReasons s c cells tags) (all-rise s c cells tags))
+      (first-lowest 0 lastRefusal (allReasons s c cells tags) (all-rise s c cells tags))
 
-  -- An answer's code is 0 to 19.
-  pub code-at-most : stepOf s c cells tags .answer .code ≤ 19
-  code-at-most = rw step-code (first-most 0 19 (allReasons s c cells tags) (all-rise s c cells tags))
+  -- An answer's code is 0, or the number of a refusal.
+  pub code-at-most : stepOf s c cells tags .answer .code ≤ lastRefusal
+  code-at-most = rw step-code (first-most 0 lastRefusal (allReasons s c cells tags) (all-rise s c cells tags))

@@ -153,18 +153,18 @@ module _ (s : Pages) (h : wellFormed s ≡ true) where
       granted = eqb (first (mapReasons s page frame)) 0
 
   -- 09, granted or refused.
-  pub unmap-follows : (page : VirtualPage) → Follows s (unmapOf s page .pages)
-  unmap-follows page = record {
+  pub unmap-follows : (page : VirtualPage) (claimed : Bool) → Follows s (unmapOf s page claimed .pages)
+  unmap-follows page claimed = record {
     same-v = unfold unmapOf in pick-by (λ t. t .v ≡ s .v) granted (unmapped s page) s (λ e. unmapped-size s page .0) (λ e. refl);
     same-f = unfold unmapOf in pick-by (λ t. t .f ≡ s .f) granted (unmapped s page) s (λ e. unmapped-size s page .1) (λ e. refl);
-    layer = unmap-keeps s page h;
+    layer = unmap-keeps s page claimed h;
     freed = λ r a.
         unfold unmapOf in
         pick-by (λ t. allFreed t r ≡ true) granted (unmapped s page) s (λ e. unmap-freed s page r a) (λ e. a);
   }
     where
       granted : Bool
-      granted = eqb (first (unmapReasons s page)) 0
+      granted = eqb (first (unmapReasons s page claimed)) 0
 
   -- 0A, where it is granted.
   pub zero-follows : (frame : Frame) → first (dirtyReasons s frame) ≡ 0 → Follows s (withFrame s (frame .0) Free)
@@ -182,8 +182,8 @@ module _ (c : Core) (ok : coreSound c ≡ true) where
   pub core-map : (page : VirtualPage) (frame : Frame) → coreSound (withPages c (mapOf (c .pages) page frame .pages)) ≡ true
   core-map page frame = pages-kept c (mapOf (c .pages) page frame .pages) ok (map-follows (c .pages) (core-facts c ok .layer) page frame)
 
-  pub core-unmap : (page : VirtualPage) → coreSound (withPages c (unmapOf (c .pages) page .pages)) ≡ true
-  core-unmap page = pages-kept c (unmapOf (c .pages) page .pages) ok (unmap-follows (c .pages) (core-facts c ok .layer) page)
+  pub core-unmap : (page : VirtualPage) (claimed : Bool) → coreSound (withPages c (unmapOf (c .pages) page claimed .pages)) ≡ true
+  core-unmap page claimed = pages-kept c (unmapOf (c .pages) page claimed .pages) ok (unmap-follows (c .pages) (core-facts c ok .layer) page claimed)
 
   pub core-zero : (frame : Frame) → first (dirtyReasons (c .pages) frame) ≡ 0 → coreSound (withPages c (withFrame (c .pages) (frame .0) Free)) ≡ true
   core-zero frame e = pages-kept c (withFrame (c .pages) (frame .0) Free) ok (zero-follows (c .pages) (core-facts c ok .layer) frame e)

@@ -5,17 +5,22 @@ use native.Mathlib.Omega.{arith}
 use mathlib.Core.Bool.{_&&_, _||_}
 use mathlib.Core.List.{List}
 use mathlib.Core.Path.{_≡_, refl, sym, ap, subst, _∙_}
-use lib.ListN.{getD}
+use lib.ListN.{length, getD}
 use lib.Seq.{set-getD}
 use lib.Dec.{eqb}
 use borrow.Author.Tests.{eqb-true}
 use Rattle.capabilities.specs.Capability.{permitted}
 use Rattle.capabilities.specs.Lists.{pick}
 use Rattle.capabilities.proofs.Choice.{and-left, and-right}
+use Rattle.capabilities.specs.Refusals.{Reason, first}
 use Rattle.capabilities.proofs.Refusals.{first-clear}
+use Rattle.pages.specs.Layer.{serves}
 use Rattle.pages.specs.Mapping.{unmapReasons, unmapOf}
 use Rattle.sweep.specs.Sweep.{sweepOf}
 use Rattle.table.specs.Operations.{takeReasons, takeOf, splitReasons, splitOf, mergeReasons, mergeOf}
+use Rattle.claims.specs.Claims.{Claims, limitOf, claimed}
+use Rattle.claims.specs.Tree.{leadsUp}
+use Rattle.claims.specs.Operations.{createOf, claimReasons, claimOf, releaseOf, destroyReasons, returned, destroyOf}
 use Rattle.reservations.specs.Revocation.{revokeReasons, revokeOf, collectReasons, collectOf}
 use Rattle.calls.specs.declared.Call.{Call}
 use Rattle.calls.specs.declared.Call.the-variants.{Take, Split, Merge, Revoke, Collect, Unmap}
@@ -25,11 +30,13 @@ use Rattle.calls.proofs.Table.{listed}
 use Rattle.words.specs.Words.{loaded, stored, collectedRegister, collectedMailbox}
 use Rattle.words.specs.WordReasons.{unnamed, notManager}
 use Rattle.machine.specs.State.{State}
+use Rattle.machine.specs.Formed.{wellFormed}
 use Rattle.machine.specs.Roles.{plainPermissions}
 use Rattle.machine.specs.Reasons.{reasons}
-use Rattle.machine.specs.Effects.{effect}
-use Rattle.machine.specs.Step.{Outcome, left, refused, registersAfter, mailboxesAfter, cellsAfter, tagsAfter, wordAfter, done, effectOn, withCore}
-use Rattle.machine.specs.Variants.{Obeys, instead, sweepBy, takeBy, maskBy, plainBy, splitBy, mergeBy, revokeBy, endBy, unmapBy, storeBy, loadBy, collectBy}
+use Rattle.machine.specs.Effects.{Effect, effect}
+use Rattle.machine.specs.Step.{Outcome, left, refused, registersAfter, mailboxesAfter, cellsAfter, tagsAfter, wordAfter, done, reasonsOn, effectOn, ruled, judged, stepOf, withCore}
+use Rattle.machine.specs.Variants.{Obeys, instead, sweepBy, takeBy, maskBy, plainBy, splitBy, mergeBy, revokeBy, endBy, unmapBy, storeBy, loadBy, collectBy, createBy, claimBy, releaseBy, destroyBy, ruledBy, claimAgainst, destroyAgainst, toldBy}
+use Rattle.machine.specs.WrongClaims.{destroys}
 use Rattle.machine.specs.WrongMachines.{keptByte}
 use Rattle.machine.proofs.Found.{after-five}
 use Rattle.machine.proofs.Judging.{Granted, pick-by, step-by}
@@ -43,7 +50,13 @@ Exact made s c =
     (cells tags : List ℕ) → Granted s c cells tags
     → made s c cells tags (done s (effectOn s c) cells tags) ≡ done s (effectOn s c) cells tags
 
--- It is enough that this holds of the calls of the kind, whatever their operands.
+-- What holds of the calls of a kind, whatever their operands, holds of a call of that kind.
+of-kind : (P : Call → Type 0) (kind : ℕ) → ((x : ℕ → ℕ) → P (commandOf kind .make x)) → (c : Call) → kindOf c ≡ kind → P c
+of-kind P kind all c e =
+    let x : ℕ → ℕ = λ i. getD (operandsOf c) i 0 in
+    subst P (ap (λ k. commandOf k .make x) (sym e) ∙ listed c .made) (all x)
+
+-- It is enough that this holds of the calls of the kind.
 obeys-by : (kind : ℕ) (made : Made) → ((s : State) (x : ℕ → ℕ) → Exact made s (commandOf kind .make x)) → Obeys (instead kind made)
 unfolding instead
 obeys-by kind made exact s c cells tags =
@@ -51,14 +64,9 @@ obeys-by kind made exact s c cells tags =
     let granted = done s (effectOn s c) cells tags in
     step-by s c cells tags (λ o. pick (mine && eqb (o .answer .code) 0) (made s c cells tags o) o ≡ o)
     (λ g. pick-by (λ o. o ≡ granted) (mine && eqb (granted .answer .code) 0) (made s c cells tags granted) granted
-    (λ e. of-kind (eqb-true (kindOf c) kind (and-left mine (eqb (granted .answer .code) 0) e)) cells tags g) (λ e. refl))
+    (λ e. of-kind (Exact made s) kind (exact s) c (eqb-true (kindOf c) kind (and-left mine (eqb (granted .answer .code) 0) e)) cells tags g) (λ e. refl))
     (λ k n. pick-by (λ o. o ≡ refused k s cells tags) (mine && eqb k 0) (made s c cells tags (refused k s cells tags)) (refused k s cells tags)
     (λ e. absurd (n (eqb-true k 0 (and-right mine (eqb k 0) e)))) (λ e. refl))
-  where
-    of-kind : kindOf c ≡ kind → Exact made s c
-    of-kind e =
-        let x : ℕ → ℕ = λ i. getD (operandsOf c) i 0 in
-        subst (Exact made s) (ap (λ k. commandOf k .make x) (sym e) ∙ listed c .made) (exact s x)
 
 pub sweep-obeys : Obeys (sweepBy sweepOf)
 unfolding sweepBy sweepOf done effect registersAfter mailboxesAfter cellsAfter tagsAfter wordAfter withCore
@@ -110,9 +118,9 @@ module _ (s : State) (cells tags : List ℕ) where
   unfolding collectOf reasons
   collect-clear p g = after-five (unnamed p) (notManager p) (collectReasons (s .core)) (g .clear)
 
-  unmap-clear : (p n : ℕ) → Granted s (Unmap p (page n)) cells tags → unmapOf (s .core .pages) (page n) .code ≡ 0
+  unmap-clear : (p n : ℕ) → Granted s (Unmap p (page n)) cells tags → unmapOf (s .core .pages) (page n) (claimed (s .core .claims) n) .code ≡ 0
   unfolding unmapOf reasons
-  unmap-clear p n g = after-five (unnamed p) (notManager p) (unmapReasons (s .core .pages) (page n)) (g .clear)
+  unmap-clear p n g = after-five (unnamed p) (notManager p) (unmapReasons (s .core .pages) (page n) (claimed (s .core .claims) n)) (g .clear)
 
 pub take-obeys : Obeys (takeBy takeOf)
 unfolding takeBy done effect registersAfter mailboxesAfter cellsAfter tagsAfter wordAfter withCore
@@ -137,3 +145,56 @@ end-obeys = obeys-by 0x07 _ (λ s x cells tags g. rw (collect-clear s cells tags
 pub unmap-obeys : Obeys (unmapBy unmapOf)
 unfolding unmapBy done effect registersAfter mailboxesAfter cellsAfter tagsAfter wordAfter withCore
 unmap-obeys = obeys-by 0x09 _ (λ s x cells tags g. rw (unmap-clear s cells tags (x 0) (x 1) g))
+
+pub create-obeys : Obeys (createBy createOf)
+unfolding createBy effect
+create-obeys = obeys-by 0x12 _ (λ s x cells tags g. refl)
+
+pub claim-obeys : Obeys (claimBy claimOf)
+unfolding claimBy effect
+claim-obeys = obeys-by 0x13 _ (λ s x cells tags g. refl)
+
+pub release-obeys : Obeys (releaseBy releaseOf)
+unfolding releaseBy effect
+release-obeys = obeys-by 0x14 _ (λ s x cells tags g. refl)
+
+pub destroy-obeys : Obeys (destroyBy destroyOf)
+unfolding destroyBy effect
+destroy-obeys = obeys-by 0x15 _ (λ s x cells tags g. refl)
+
+-- The wrong destroys are the rule's with one part changed.
+pub destroys-own : (c : Claims) (p : ℕ) → destroys (λ d top q. leadsUp d top q) (λ d q. limitOf d q) c p ≡ destroyOf c p
+unfolding destroys destroyOf returned
+destroys-own c p = refl
+
+-- The reasons and the effect that stand for the rule's own.
+abbrev Own : (State → Call → List Reason) → (State → Call → Effect) → State → Call → Type 0
+Own against does s c = (against s c ≡ reasonsOn s c) × (does s c ≡ effectOn s c)
+
+-- Where they are so of the calls of the kind, the shape is the rule.
+ruled-by-own : (kind : ℕ) (against : State → Call → List Reason) (does : State → Call → Effect)
+    → ((s : State) (x : ℕ → ℕ) → Own against does s (commandOf kind .make x)) → Obeys (ruledBy kind against does)
+unfolding ruledBy stepOf judged ruled
+ruled-by-own kind against does own s c cells tags =
+    let mine = eqb (kindOf c) kind in
+    let fit = serves (s .core .pages) (length cells) (length tags) in
+    let code = first (against s c) in
+    pick-by (λ o. o ≡ stepOf s c cells tags) (mine && (wellFormed s && fit)) (pick (eqb code 0) (done s (does s c) cells tags) (refused code s cells tags))
+    (stepOf s c cells tags)
+    (λ e.
+    let given = and-right mine (wellFormed s && fit) e in
+    let k = of-kind (Own against does s) kind (own s) c (eqb-true (kindOf c) kind (and-left mine (wellFormed s && fit) e)) in
+    rw (k .0, k .1, and-left (wellFormed s) fit given, and-right (wellFormed s) fit given))
+    (λ e. refl)
+
+pub claim-against-obeys : Obeys (claimAgainst claimReasons)
+unfolding claimAgainst reasons
+claim-against-obeys = ruled-by-own 0x13 _ _ (λ s x. (refl, refl))
+
+pub destroy-against-obeys : Obeys (destroyAgainst destroyReasons)
+unfolding destroyAgainst reasons
+destroy-against-obeys = ruled-by-own 0x15 _ _ (λ s x. (refl, refl))
+
+pub told-obeys : Obeys (toldBy (λ k n. claimed k n))
+unfolding toldBy reasons effect
+told-obeys = ruled-by-own 0x09 _ _ (λ s x. (refl, refl))

@@ -19,6 +19,7 @@ use Rattle.calls.specs.declared.Reading.the-variants.{Read}
 use Rattle.calls.proofs.RoundTrip.{round-trip}
 use Rattle.machine.specs.State.{State}
 use Rattle.machine.specs.Formed.{wellFormed}
+use Rattle.machine.specs.Reasons.{lastRefusal}
 use Rattle.machine.specs.Step.{refused, reasonsOn, ruled, judged, stepOf}
 use Rattle.machine.specs.Command.{used, onReading, commandJudged, commandOf}
 use Rattle.machine.proofs.Lowest.{first-within, reasons-rise, ruled-code}
@@ -29,9 +30,9 @@ usedUnder code n = pick (eqb code 1 || eqb code 2) 0 n
 
 -- A call judged by its own reasons answers neither 1 nor 2.
 late : (s : State) (c : Call) (cells tags : List ℕ) (n : ℕ) → usedUnder (ruled s c cells tags .answer .code) n ≡ n
-late s c cells tags n = rw (ruled-code s c cells tags) (go (first-within 3 19 (reasonsOn s c) (reasons-rise s c) .1))
+late s c cells tags n = rw (ruled-code s c cells tags) (go (first-within 3 lastRefusal (reasonsOn s c) (reasons-rise s c) .1))
   where
-    go : (first (reasonsOn s c) ≡ 0) ⊎ ((3 < first (reasonsOn s c)) × (first (reasonsOn s c) ≤ 19)) → usedUnder (first (reasonsOn s c)) n ≡ n
+    go : (first (reasonsOn s c) ≡ 0) ⊎ ((3 < first (reasonsOn s c)) × (first (reasonsOn s c) ≤ lastRefusal)) → usedUnder (first (reasonsOn s c)) n ≡ n
     go (inl z) = rw z
     go (inr p) = rw (ne-eqb (first (reasonsOn s c)) 1 (λ z. omega (arith, p .0)), ne-eqb (first (reasonsOn s c)) 2 (λ z. omega (arith, p .0)))
 

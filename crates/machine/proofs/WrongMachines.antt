@@ -8,16 +8,18 @@ use borrow.Author.Tests.{eq-eqb}
 use Rattle.capabilities.proofs.Choice.{and-left, and-right, both}
 use Rattle.pages.specs.Numbers.{pageCode, frameCode}
 use Rattle.table.specs.Numbers.{rowCode}
+use Rattle.claims.specs.Numbers.{principalCode}
 use Rattle.calls.specs.declared.Call.the-variants.{Take}
 use Rattle.machine.specs.Step.{Outcome, stepOf}
 use Rattle.machine.specs.Forgetting.{startBare}
 use Rattle.machine.specs.Edges.{same, all}
-use Rattle.machine.specs.Variants.{Rule, Obeys, instead, sweepBy, takeBy, maskBy, plainBy, splitBy, mergeBy, revokeBy, endBy, unmapBy, storeBy, loadBy, collectBy}
-use Rattle.machine.specs.WrongMachines.{Wrong, clearsAll, inventsLeft, inventsLength, pleadsFull, takesForNobody, takesForManager, keepsLower, saysSeveral, joinsOwn, revokesForNobody, collectsNoTaker, filtersAtRest, dropsNumber, clearsByte, turnsDown, answersAlike, keepsState, releases, tagged, tellsTags, refusalWrites, after, from, lent, splits, neighbours, machines, numbers, leaves, differs, shown, startRefused, NoneObeys}
+use Rattle.machine.specs.Variants.{Rule, Obeys, instead, sweepBy, takeBy, maskBy, plainBy, splitBy, mergeBy, revokeBy, endBy, unmapBy, storeBy, loadBy, collectBy, createBy, claimBy, releaseBy, destroyBy, ruledBy, claimAgainst, destroyAgainst, toldBy}
+use Rattle.machine.specs.WrongClaims.{takesNoLimit, spendsAlways, returnsAlways, destroys, ownMayDestroy, passesLast, allCounts}
+use Rattle.machine.specs.WrongMachines.{Wrong, clearsAll, inventsLeft, inventsLength, pleadsFull, takesForNobody, takesForManager, keepsLower, saysSeveral, joinsOwn, revokesForNobody, collectsNoTaker, filtersAtRest, dropsNumber, clearsByte, turnsDown, answersAlike, keepsState, releases, tagged, tellsTags, refusalWrites, after, from, lent, splits, neighbours, family, counted, machines, numbers, leaves, differs, shown, startRefused, NoneObeys}
 use Rattle.machine.proofs.Computing.{computing}
 
 pub all-shown : all shown machines ≡ true
-unfolding all shown machines differs numbers same instead sweepBy takeBy maskBy plainBy splitBy mergeBy revokeBy endBy unmapBy storeBy loadBy collectBy clearsAll inventsLeft inventsLength pleadsFull takesForNobody takesForManager keepsLower saysSeveral joinsOwn revokesForNobody collectsNoTaker filtersAtRest dropsNumber clearsByte turnsDown answersAlike keepsState releases tagged tellsTags refusalWrites after from lent splits neighbours pageCode frameCode rowCode computing
+unfolding all shown machines differs numbers same instead sweepBy takeBy maskBy plainBy splitBy mergeBy revokeBy endBy unmapBy storeBy loadBy collectBy createBy claimBy releaseBy destroyBy ruledBy claimAgainst destroyAgainst toldBy clearsAll inventsLeft inventsLength pleadsFull takesForNobody takesForManager keepsLower saysSeveral joinsOwn revokesForNobody collectsNoTaker filtersAtRest dropsNumber clearsByte turnsDown answersAlike keepsState releases tagged tellsTags refusalWrites takesNoLimit spendsAlways returnsAlways destroys ownMayDestroy passesLast allCounts after from lent splits neighbours family counted pageCode frameCode rowCode principalCode computing
 all-shown = refl
 
 -- A fresh table with taker 0: a take that the rule grants from a start is refused under 1.

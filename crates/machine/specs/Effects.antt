@@ -14,10 +14,12 @@ use Rattle.pages.specs.Mapping.{mapOf, unmapOf}
 use Rattle.sweep.specs.Sweep.{reached, cellsLeft}
 use Rattle.table.specs.Table.{Table}
 use Rattle.table.specs.Operations.{takeOf, splitOf, mergeOf, giveOf}
+use Rattle.claims.specs.Claims.{Claims, claimed}
+use Rattle.claims.specs.Operations.{createOf, claimOf, releaseOf, destroyOf}
 use Rattle.reservations.specs.Core.{Core}
 use Rattle.reservations.specs.Revocation.{core, revoked, revokeOf, collectOf}
 use Rattle.calls.specs.declared.Call.{Call}
-use Rattle.calls.specs.declared.Call.the-variants.{Take, Split, Merge, Give, Revoke, Sweep, Collect, Map, Unmap, Zero, Load, Store, Narrow, Number, Grant, Receive, TakeMasked}
+use Rattle.calls.specs.declared.Call.the-variants.{Take, Split, Merge, Give, Revoke, Sweep, Collect, Map, Unmap, Zero, Load, Store, Narrow, Number, Grant, Receive, TakeMasked, Create, Claim, Release, Destroy}
 use Rattle.words.specs.declared.Slot.{Slot}
 use Rattle.words.specs.Words.{slot, empty, mailboxOf, placeNumber, stored}
 use Rattle.machine.specs.Roles.{plainPermissions}
@@ -57,10 +59,13 @@ abbrev pub effectOf : Core → RegisterChange → MailboxChange → MemoryChange
 effectOf c r m l w = record { core = c; registers = r; mailboxes = m; memory = l; answer = w }
 
 abbrev pub withTable : Core → Table → Core
-withTable c t = core (c .pages) t (c .place)
+withTable c t = core (c .pages) t (c .place) (c .claims)
 
 abbrev pub withPages : Core → Pages → Core
-withPages c p = core p (c .table) (c .place)
+withPages c p = core p (c .table) (c .place) (c .claims)
+
+abbrev pub withClaims : Core → Claims → Core
+withClaims c x = core (c .pages) (c .table) (c .place) x
 
 -- "An answer is a code, a number and a tag .. number and tag are 0 where nothing above names them."
 abbrev pub tableChange : Core → Table → Effect
@@ -68,6 +73,9 @@ tableChange c t = effectOf (withTable c t) keepRegisters keepMailboxes keepMemor
 
 abbrev pub pageChange : Core → Pages → Effect
 pageChange c p = effectOf (withPages c p) keepRegisters keepMailboxes keepMemory empty
+
+abbrev pub claimsChange : Core → Claims → Effect
+claimsChange c x = effectOf (withClaims c x) keepRegisters keepMailboxes keepMemory empty
 
 -- 06: the place that a sweep of n cells reaches.
 abbrev pub sweptTo : Core → ℕ → ℕ
@@ -92,13 +100,13 @@ effect c mail r (Give p base to) = tableChange c (giveOf (c .table) p base to .t
 effect c mail r (Revoke p base) = effectOf (revokeOf c p base .core) keepRegisters keepMailboxes keepMemory empty
 -- 06 sweep: "Passes the next n cells of lent memory .. Answers the cells left."
 effect c mail r (Sweep p n) =
-    effectOf (core (c .pages) (c .table) (sweptTo c n)) keepRegisters keepMailboxes (sweepCells (revoked c) (c .place) (sweptTo c n))
+    effectOf (core (c .pages) (c .table) (sweptTo c n) (c .claims)) keepRegisters keepMailboxes (sweepCells (revoked c) (c .place) (sweptTo c n))
     (slot (cellsLeft (c .pages) (sweptTo c n)) false)
 -- 07 collect: "Clears, in all registers and mailboxes, the tag of capabilities with base in the range."
 effect c mail r (Collect p) = effectOf (collectOf c .core) collectRegisters collectMailboxes keepMemory empty
 -- 08 map, 09 unmap: the page layer's own rules. 0A zero: "its cells and tags become 0, and the frame Free."
 effect c mail r (Map p page frame) = pageChange c (mapOf (c .pages) page frame .pages)
-effect c mail r (Unmap p page) = pageChange c (unmapOf (c .pages) page .pages)
+effect c mail r (Unmap p page) = pageChange c (unmapOf (c .pages) page (claimed (c .claims) (page .0)) .pages)
 effect c mail r (Zero p frame) =
     effectOf (withPages c (withFrame (c .pages) (frame .0) Free)) keepRegisters keepMailboxes (clearFrame frame) empty
 -- 0B load: "The cell at base + off of the capability in a goes to d and is the answer". Of a word that is fetched the answer is that
@@ -116,3 +124,8 @@ effect c mail r (Number p d value) = effectOf c (putRegister p d (slot value fal
 -- 0F grant: "Copies into the mailbox of `to`." 10 receive: "Moves the caller's mailbox to d; answers it."
 effect c mail r (Grant p s to) = effectOf c keepRegisters (putMailbox to (r .one)) keepMemory empty
 effect c mail r (Receive p d) = effectOf c (putRegister p d (mailboxOf mail p)) (putMailbox p empty) keepMemory (mailboxOf mail p)
+-- 12 create, 13 claim, 14 release, 15 destroy: the claims' own rules.
+effect c mail r (Create p parent child limit holder) = claimsChange c (createOf (c .claims) parent child limit holder)
+effect c mail r (Claim p principal page) = claimsChange c (claimOf (c .claims) principal (page .0))
+effect c mail r (Release p principal page) = claimsChange c (releaseOf (c .claims) principal (page .0))
+effect c mail r (Destroy p principal) = claimsChange c (destroyOf (c .claims) principal)

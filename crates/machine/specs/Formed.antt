@@ -1,5 +1,6 @@
 -- Document 01, 'Things and their sizes': "A state is well formed if the four lines above hold, V and F are in range,
--- and all unused entries are 0." Registers are in none of those lines. Document 02, 2026-04, asks for takers. Assumes nothing.
+-- and all unused entries are 0." Registers are in none of those lines. Document 02 asks for takers (2026-04) and for claims (2026-02).
+-- Assumes nothing.
 use Prim.Native.Nat.{ℕ}
 use mathlib.Core.Bool.{Bool, _&&_, _||_}
 use lib.ListN.{length, replicate}
@@ -9,6 +10,7 @@ use Rattle.pages.specs.Layer.{inRange}
 use Rattle.table.specs.Rows.{live}
 use Rattle.table.specs.Tiling.{takersSound}
 use Rattle.reservations.specs.Revocation.{freshCore, coreSound}
+use Rattle.claims.specs.Sound.{claimsSound}
 use Rattle.words.specs.declared.Slot.{Slot}
 use Rattle.words.specs.Words.{empty}
 use Rattle.machine.specs.State.{State}
@@ -25,9 +27,9 @@ mailboxesSound s = each mailboxSound 0 (s .mailboxes)
 abbrev pub sized : State → Bool
 sized s = eqb (length (s .registers)) 64 && eqb (length (s .mailboxes)) 8
 
--- Document 01's lines, which ask for no taker.
+-- Document 01's lines and those of the claims, which ask for no taker.
 unfoldable pub formedBare : State → Bool
-formedBare s = (coreSound (s .core) && mailboxesSound s) && sized s
+formedBare s = ((coreSound (s .core) && mailboxesSound s) && sized s) && claimsSound (s .core .pages .v) (s .core .claims)
 
 -- "A state is not well formed if an Open one's taker isn't 9 or a Taken or Revoking one's is above 8."
 unfoldable pub wellFormed : State → Bool

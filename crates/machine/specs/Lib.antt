@@ -5,8 +5,10 @@ pub mod Roles
 pub mod Reasons
 pub mod Effects
 pub mod Step
+pub mod Undoing
 pub mod Forgetting
 pub mod Command
 pub mod Edges
 pub mod Variants
+pub mod WrongClaims
 pub mod WrongMachines

@@ -1,21 +1,27 @@
--- Document 01, 'Why a call is turned down', 4 to 19: for each kind of call the reasons against it, in the order of their
--- numbers. They look at the core, the mailboxes and the registers that the call reads, and at nothing else. Assumes nothing.
+-- Document 01, 'Why a call is turned down', 4 to 19, and document 02's 20 to 22: for each kind of call the reasons against it, in the order
+-- of their numbers. They look at the core, the mailboxes and the registers that the call reads, and at nothing else. Assumes nothing.
 use Prim.Native.Nat.{ℕ, _+_}
 use mathlib.Core.Bool.{not, _||_}
 use mathlib.Core.List.{List, [], _∷_}
 use Rattle.capabilities.specs.Capability.{baseOf}
 use Rattle.capabilities.specs.Refusals.{Reason, reason}
 use Rattle.pages.specs.declared.Place.{Place}
-use Rattle.pages.specs.Mapping.{lookupOf, mapReasons, unmapReasons, dirtyReasons}
+use Rattle.pages.specs.Mapping.{noPage, lookupOf, mapReasons, unmapReasons, dirtyReasons}
 use Rattle.table.specs.Operations.{takeReasons, splitReasons, mergeReasons, giveReasons}
+use Rattle.claims.specs.Claims.{claimed}
+use Rattle.claims.specs.Operations.{createReasons, claimReasons, releaseReasons, destroyReasons}
 use Rattle.reservations.specs.Core.{Core}
 use Rattle.reservations.specs.Revocation.{running, revokeReasons, collectReasons}
 use Rattle.calls.specs.declared.Call.{Call}
-use Rattle.calls.specs.declared.Call.the-variants.{Take, Split, Merge, Give, Revoke, Sweep, Collect, Map, Unmap, Zero, Load, Store, Narrow, Number, Grant, Receive, TakeMasked}
+use Rattle.calls.specs.declared.Call.the-variants.{Take, Split, Merge, Give, Revoke, Sweep, Collect, Map, Unmap, Zero, Load, Store, Narrow, Number, Grant, Receive, TakeMasked, Create, Claim, Release, Destroy}
 use Rattle.words.specs.declared.Slot.{Slot}
 use Rattle.words.specs.WordReasons.{unnamed, notManager, loadReasons, storeReasons, narrowReasons, grantReasons, receiveReasons}
 use Rattle.words.specs.Words.{empty, registerOf, mailboxOf}
 use Rattle.machine.specs.Roles.{Sources, fromNone, fromOne, fromTwo, roleOf, callerOf, sourcesOf}
+
+-- The highest number of a refusal.
+abbrev pub lastRefusal : ℕ
+lastRefusal = 22
 
 -- The words that a call reads in registers: at most two, in the order of its operands.
 pub record Reads : Type 0 where
@@ -53,7 +59,7 @@ reasons c mail r (Revoke p base) = reason 4 (unnamed p) ∷ reason 5 (notManager
 reasons c mail r (Sweep p n) = reason 4 (unnamed p) ∷ reason 5 (notManager p) ∷ reason 11 (not (running c)) ∷ []
 reasons c mail r (Collect p) = reason 4 (unnamed p) ∷ reason 5 (notManager p) ∷ collectReasons c
 reasons c mail r (Map p page frame) = reason 4 (unnamed p) ∷ reason 5 (notManager p) ∷ mapReasons (c .pages) page frame
-reasons c mail r (Unmap p page) = reason 4 (unnamed p) ∷ reason 5 (notManager p) ∷ unmapReasons (c .pages) page
+reasons c mail r (Unmap p page) = reason 4 (unnamed p) ∷ reason 5 (notManager p) ∷ unmapReasons (c .pages) page (claimed (c .claims) (page .0))
 reasons c mail r (Zero p frame) = reason 4 (unnamed p) ∷ reason 5 (notManager p) ∷ dirtyReasons (c .pages) frame
 reasons c mail r (Load p a off d) = loadReasons p a d (r .one) off (addressed c (r .one) off)
 reasons c mail r (Store p a off s) = storeReasons p a s (r .one) (r .two) off (addressed c (r .one) off)
@@ -62,3 +68,9 @@ reasons c mail r (Number p d value) = reason 4 (unnamed p || unnamed d) ∷ []
 reasons c mail r (Grant p s to) = grantReasons p s to (r .one) (mailboxOf mail to)
 reasons c mail r (Receive p d) = receiveReasons p d (mailboxOf mail p)
 reasons c mail r (TakeMasked p base reg mask) = takingReasons c p base reg
+reasons c mail r (Create p parent child limit holder) = reason 4 (unnamed p || unnamed holder) ∷ createReasons (c .claims) p parent child limit
+reasons c mail r (Claim p principal page) =
+    reason 4 (unnamed p) ∷ reason 12 (noPage (c .pages) page) ∷ claimReasons (c .claims) p principal (page .0)
+reasons c mail r (Release p principal page) =
+    reason 4 (unnamed p) ∷ reason 12 (noPage (c .pages) page) ∷ releaseReasons (c .claims) p principal (page .0)
+reasons c mail r (Destroy p principal) = reason 4 (unnamed p) ∷ destroyReasons (c .claims) p principal

@@ -4,7 +4,7 @@ use Prim.Native.Nat.{ℕ}
 use mathlib.Core.Path.{_≡_}
 use Rattle.capabilities.specs.Capability.{permitted}
 use Rattle.calls.specs.declared.Call.{Call}
-use Rattle.calls.specs.declared.Call.the-variants.{Take, Split, Merge, Give, Revoke, Sweep, Collect, Map, Unmap, Zero, Load, Store, Narrow, Number, Grant, Receive, TakeMasked}
+use Rattle.calls.specs.declared.Call.the-variants.{Take, Split, Merge, Give, Revoke, Sweep, Collect, Map, Unmap, Zero, Load, Store, Narrow, Number, Grant, Receive, TakeMasked, Create, Claim, Release, Destroy}
 
 -- The registers of its caller that a call reads: at most two, in the order of its operands.
 pub data Sources : Type 0 where
@@ -56,6 +56,11 @@ roleOf (Number p d value) = asked p (fills fromNone)
 roleOf (Grant p s to) = asked p (grants s)
 roleOf (Receive p d) = asked p plain
 roleOf (TakeMasked p base reg mask) = asked p (takes base reg (permitted mask))
+-- Document 02, 2026-02: "The privacy rule counts these as calls that agree."
+roleOf (Create p parent child limit holder) = asked p plain
+roleOf (Claim p principal page) = asked p plain
+roleOf (Release p principal page) = asked p plain
+roleOf (Destroy p principal) = asked p plain
 
 -- The party that makes a call.
 abbrev pub callerOf : Call → ℕ

@@ -73,14 +73,14 @@ done s e cells tags =
     (record { core = e .core; registers = registersAfter (e .registers) s cells tags; mailboxes = mailboxesAfter (e .mailboxes) s }))
     (cellsAfter (e .memory) cells) (tagsAfter (e .memory) (s .core) cells tags)
 
--- The reasons 4 to 19 against a call on a state, and its effect there.
+-- The reasons from 4 on against a call on a state, and its effect there.
 abbrev pub reasonsOn : State → Call → List Reason
 reasonsOn s c = reasons (s .core) (s .mailboxes) (reads (s .registers) c) c
 
 abbrev pub effectOn : State → Call → Effect
 effectOn s c = effect (s .core) (s .mailboxes) (reads (s .registers) c) c
 
--- A call by refusals 4 to 19.
+-- A call by refusals from 4 on.
 unfoldable pub ruled : State → Call → List ℕ → List ℕ → Outcome
 ruled s c cells tags =
     let code = first (reasonsOn s c) in

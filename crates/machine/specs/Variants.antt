@@ -1,18 +1,22 @@
 -- The rule with one part replaced by another of the same type. The wrong machines have these shapes; with the rule's own part each is
 -- the rule (`Shapes`). Assumes nothing.
 use Prim.Native.Nat.{ℕ, _+_, _*_}
-use mathlib.Core.Bool.{false, _&&_}
-use mathlib.Core.List.{List, map}
+use mathlib.Core.Bool.{Bool, false, _&&_}
+use mathlib.Core.List.{List, _∷_, map}
 use mathlib.Core.Path.{_≡_}
-use lib.ListN.{getD, set}
+use lib.ListN.{length, getD, set}
 use lib.Dec.{eqb}
 use Rattle.capabilities.specs.declared.Range.{Range}
 use Rattle.capabilities.specs.Lists.{pick}
+use Rattle.capabilities.specs.Refusals.{Reason, reason, first}
 use Rattle.pages.specs.declared.VirtualPage.{VirtualPage}
 use Rattle.pages.specs.Pages.{Pages, Paged}
+use Rattle.pages.specs.Layer.{serves}
+use Rattle.pages.specs.Mapping.{noPage, unmapReasons, unmapOf}
 use Rattle.sweep.specs.Sweep.{Passed}
 use Rattle.table.specs.Table.{Table, Tabled}
 use Rattle.table.specs.Table.{Taken as Took}
+use Rattle.claims.specs.Claims.{Claims, claimed}
 use Rattle.reservations.specs.Core.{Core, Cored}
 use Rattle.reservations.specs.Revocation.{core, revoked}
 use Rattle.calls.specs.declared.Call.{Call}
@@ -20,11 +24,12 @@ use Rattle.calls.specs.Commands.{page, operandsOf}
 use Rattle.calls.specs.Commands.{byteOf as kindOf}
 use Rattle.words.specs.declared.Slot.{Slot}
 use Rattle.words.specs.Words.{slot, empty, byteOf, placeNumber, wordAt}
+use Rattle.words.specs.WordReasons.{unnamed, notManager}
 use Rattle.machine.specs.State.{State}
-use Rattle.machine.specs.Formed.{answered}
+use Rattle.machine.specs.Formed.{wellFormed, answered}
 use Rattle.machine.specs.Reasons.{reads, addressed}
-use Rattle.machine.specs.Effects.{withTable, withPages, taking}
-use Rattle.machine.specs.Step.{Outcome, left, done, withCore, stepOf}
+use Rattle.machine.specs.Effects.{Effect, withTable, withPages, pageChange, claimsChange, taking}
+use Rattle.machine.specs.Step.{Outcome, left, refused, done, effectOn, withCore, stepOf}
 
 -- What a step is: the type of the rule `stepOf`.
 abbrev pub Rule : Type 0
@@ -49,7 +54,7 @@ sweepBy sweep =
     instead 0x06
     (λ s c cells tags o.
     let p = sweep (s .core .pages) (revoked (s .core)) (s .core .place) (operand c 1) cells tags in
-    let after = withCore s (core (s .core .pages) (s .core .table) (p .answer .place)) in
+    let after = withCore s (core (s .core .pages) (s .core .table) (p .answer .place) (s .core .claims)) in
     left (answered (p .answer .code) (slot (p .answer .left) false) after) cells (p .tags))
 
 unfoldable pub takeBy : (Table → ℕ → ℕ → Took) → Rule
@@ -96,11 +101,11 @@ endBy end =
     let r = end (s .core) in
     left (answered (r .code) empty (withCore (o .answer .state) (r .core))) cells tags)
 
-unfoldable pub unmapBy : (Pages → VirtualPage → Paged) → Rule
+unfoldable pub unmapBy : (Pages → VirtualPage → Bool → Paged) → Rule
 unmapBy unmap =
     instead 0x09
     (λ s c cells tags o.
-    let p = unmap (s .core .pages) (page (operand c 1)) in
+    let p = unmap (s .core .pages) (page (operand c 1)) (claimed (s .core .claims) (operand c 1)) in
     left (answered (p .code) empty (withCore s (withPages (s .core) (p .pages)))) cells tags)
 
 -- The rule, but with another word put into the register by a load, or answered, of the type of `loaded`; or another tag byte left at the
@@ -134,3 +139,50 @@ collectBy register mailbox =
     let words = map (register (s .core)) (s .registers) in
     let mail = map (mailbox (s .core)) (s .mailboxes) in
     left (answered 0 empty (record { core = o .answer .state .core; registers = words; mailboxes = mail })) cells tags)
+
+-- The rule, but with other claims left by a granted create, claim, release or destroy, of the type of `createOf`, `claimOf`, `releaseOf` or
+-- `destroyOf`.
+abbrev pub claimsBy : ℕ → (Claims → (ℕ → ℕ) → Claims) → Rule
+claimsBy kind made = instead kind (λ s c cells tags o. done s (claimsChange (s .core) (made (s .core .claims) (operand c))) cells tags)
+
+unfoldable pub createBy : (Claims → ℕ → ℕ → ℕ → ℕ → Claims) → Rule
+createBy create = claimsBy 0x12 (λ k x. create k (x 1) (x 2) (x 3) (x 4))
+
+unfoldable pub claimBy : (Claims → ℕ → ℕ → Claims) → Rule
+claimBy claim = claimsBy 0x13 (λ k x. claim k (x 1) (x 2))
+
+unfoldable pub releaseBy : (Claims → ℕ → ℕ → Claims) → Rule
+releaseBy release = claimsBy 0x14 (λ k x. release k (x 1) (x 2))
+
+unfoldable pub destroyBy : (Claims → ℕ → Claims) → Rule
+destroyBy destroy = claimsBy 0x15 (λ k x. destroy k (x 1))
+
+-- The rule, but that after refusals 1 and 2 other reasons speak against a call of one kind, which has another effect where none of them does.
+-- So it can grant what the rule refuses, and refuse what the rule grants.
+unfoldable pub ruledBy : ℕ → (State → Call → List Reason) → (State → Call → Effect) → Rule
+ruledBy kind against does s c cells tags =
+    let code = first (against s c) in
+    pick (eqb (kindOf c) kind && (wellFormed s && serves (s .core .pages) (length cells) (length tags)))
+    (pick (eqb code 0) (done s (does s c) cells tags) (refused code s cells tags)) (stepOf s c cells tags)
+
+-- With other reasons against a claim or a destroy, of the type of `claimReasons` or `destroyReasons`.
+unfoldable pub claimAgainst : (Claims → ℕ → ℕ → ℕ → List Reason) → Rule
+claimAgainst against =
+    ruledBy 0x13
+    (λ s c.
+    reason 4 (unnamed (operand c 0)) ∷ reason 12 (noPage (s .core .pages) (page (operand c 2)))
+    ∷ against (s .core .claims) (operand c 0) (operand c 1) (operand c 2))
+    effectOn
+
+unfoldable pub destroyAgainst : (Claims → ℕ → ℕ → List Reason) → Rule
+destroyAgainst against =
+    ruledBy 0x15 (λ s c. reason 4 (unnamed (operand c 0)) ∷ against (s .core .claims) (operand c 0) (operand c 1)) effectOn
+
+-- With another test of a page's claims, of the type of `claimed`, that an unmap is told of.
+unfoldable pub toldBy : (Claims → ℕ → Bool) → Rule
+toldBy told =
+    ruledBy 0x09
+    (λ s c.
+    reason 4 (unnamed (operand c 0)) ∷ reason 5 (notManager (operand c 0))
+    ∷ unmapReasons (s .core .pages) (page (operand c 1)) (told (s .core .claims) (operand c 1)))
+    (λ s c. pageChange (s .core) (unmapOf (s .core .pages) (page (operand c 1)) (told (s .core .claims) (operand c 1)) .pages))

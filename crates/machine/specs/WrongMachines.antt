@@ -27,20 +27,24 @@ use Rattle.table.specs.Rows.{noTaker, severalTakers, reservation, rangeOf}
 use Rattle.table.specs.Find.{findOf, nextOf, revokingOf, rowOf, withRow}
 use Rattle.table.specs.Operations.{tabled, takeOf, splitOf, mergeOf}
 use Rattle.table.specs.Numbers.{numbersOf as rowNumbers}
+use Rattle.claims.specs.Claims.{claimed, withUnspent}
+use Rattle.claims.specs.Operations.{createOf, claimReasons, withCount, claimOf, releaseOf, destroyReasons, destroyOf}
 use Rattle.reservations.specs.Core.{Core, Cored}
 use Rattle.reservations.specs.Revocation.{core, running, dying, revokeOf, collectOf}
 use Rattle.calls.specs.declared.Call.{Call}
-use Rattle.calls.specs.declared.Call.the-variants.{Take, Split, Merge, Give, Revoke, Sweep, Collect, Map, Unmap, Zero, Load, Store, Number, Grant, TakeMasked}
+use Rattle.calls.specs.declared.Call.the-variants.{Take, Split, Merge, Give, Revoke, Sweep, Collect, Map, Unmap, Zero, Load, Store, Number, Grant, TakeMasked, Create, Claim, Release, Destroy}
 use Rattle.calls.specs.Commands.{page, frame}
 use Rattle.words.specs.declared.Slot.{Slot}
 use Rattle.words.specs.Words.{slot, empty, byteOf, tagOf, keepTag, loaded, stored, collectedRegister, collectedMailbox}
 use Rattle.words.specs.Lent.{cellsOf, bytesOf}
 use Rattle.machine.specs.Formed.{answered, startOf}
 use Rattle.machine.specs.Roles.{plainPermissions}
-use Rattle.machine.specs.Step.{Outcome, left, refused, stepOf}
+use Rattle.machine.specs.Effects.{withClaims}
+use Rattle.machine.specs.Step.{Outcome, left, refused, withCore, stepOf}
 use Rattle.machine.specs.Forgetting.{startBare}
 use Rattle.machine.specs.Edges.{same}
-use Rattle.machine.specs.Variants.{Rule, Obeys, sweepBy, takeBy, maskBy, plainBy, splitBy, mergeBy, revokeBy, endBy, unmapBy, storeBy, loadBy, collectBy}
+use Rattle.machine.specs.Variants.{Rule, Obeys, sweepBy, takeBy, maskBy, plainBy, splitBy, mergeBy, revokeBy, endBy, unmapBy, storeBy, loadBy, collectBy, createBy, claimBy, releaseBy, destroyBy, claimAgainst, destroyAgainst, toldBy}
+use Rattle.machine.specs.WrongClaims.{takesNoLimit, spendsAlways, returnsAlways, dropsChildren, returnsUnspent, ownMayDestroy, passesLast, toldNothing, toldOfOther, claimNumbers}
 
 -- "A sweep that clears all on its first call and feigns the rest": it answers as the rule does.
 unfoldable pub clearsAll : Pages → Range → ℕ → ℕ → List ℕ → List ℕ → Passed
@@ -117,7 +121,7 @@ joinsOwn t party base =
 -- A revoke and a collect that leave the taker as it was: 9 in the one that was Open, the party's in the one that is.
 abbrev pub leavesIn : Core → Found → Cored → Cored
 leavesIn c f r =
-    record { code = r .code; core = core (r .core .pages) (withTaker (r .core .table) f (rowOf (c .table) f .taker)) (r .core .place) }
+    record { code = r .code; core = core (r .core .pages) (withTaker (r .core .table) f (rowOf (c .table) f .taker)) (r .core .place) (r .core .claims) }
 
 unfoldable pub revokesForNobody : Core → ℕ → ℕ → Cored
 revokesForNobody c party base = leavesIn c (findOf (c .table) party base) (revokeOf c party base)
@@ -170,9 +174,9 @@ abbrev pub untouched : Core → Slot → Slot
 untouched c w = w
 
 -- "Making an unmapped page Unmapped, so that it is mapped again before its capabilities are gone."
-unfoldable pub releases : Pages → VirtualPage → Paged
-releases s page =
-    let p = unmapOf s page in
+unfoldable pub releases : Pages → VirtualPage → Bool → Paged
+releases s page claimed =
+    let p = unmapOf s page claimed in
     paged (p .code) s (withPage (p .pages) (page .0) Unmapped)
 
 -- How many tags are set.
@@ -234,6 +238,18 @@ splits base (suc n) = Split 0 base 1 ∷ splits (base + 1) n
 unfoldable pub neighbours : ℕ → List Call
 neighbours party = Split 0 0 16 ∷ Give 0 16 party ∷ Take 0 0 0 ∷ Take party 16 1 ∷ []
 
+-- Principal 1 is made under 0, held by a party, then 2 under 1 and 3 under 2.
+unfoldable pub family : ℕ → List Call
+family party = Create 0 0 1 100 party ∷ Create party 1 2 50 party ∷ Create party 2 3 20 party ∷ []
+
+-- A start after so many claims of page 0 by principal 0, written down at once.
+unfoldable pub counted : ℕ → Outcome
+counted n =
+    let o = from 2 [] in
+    let s = o .answer .state in
+    let k = withCount (withUnspent (s .core .claims) 0 8191) 0 0 n in
+    left (answered 0 empty (withCore s (withClaims (s .core) k))) (o .cells) (o .tags)
+
 unfoldable pub machines : List Wrong
 machines =
     -- The six that must be unprovable.
@@ -270,7 +286,17 @@ machines =
     ∷ entry (λ f. loadBy loaded f keptByte) loadsDying loaded (from 2 (revoking 0)) (Load 0 1 5 3)
     ∷ entry (λ f. loadBy loaded loaded f) clearsByte keptByte (from 2 (revoking 0)) (Load 0 1 5 3)
     ∷ entry (λ f. loadBy f f keptByte) filtersAtRest loaded (from 2 lent) (Load 0 1 5 3)
-    ∷ entry (λ f. loadBy f f keptByte) dropsNumber loaded (from 2 (revoking 0)) (Load 0 1 5 3) ∷ []
+    ∷ entry (λ f. loadBy f f keptByte) dropsNumber loaded (from 2 (revoking 0)) (Load 0 1 5 3)
+    -- Claims on pages. The frame shows page 1.
+    ∷ entry createBy takesNoLimit createOf (from 2 []) (Create 0 0 1 100 3)
+    ∷ entry claimBy spendsAlways claimOf (from 2 (Claim 0 0 (page 1) ∷ [])) (Claim 0 0 (page 1))
+    ∷ entry releaseBy returnsAlways releaseOf (from 2 (Claim 0 0 (page 1) ∷ Claim 0 0 (page 1) ∷ [])) (Release 0 0 (page 1))
+    ∷ entry destroyBy dropsChildren destroyOf (from 2 (family 3)) (Destroy 0 1)
+    ∷ entry destroyBy returnsUnspent destroyOf (from 2 (family 3 ++ (Claim 3 1 (page 0) ∷ []))) (Destroy 0 1)
+    ∷ entry destroyAgainst ownMayDestroy destroyReasons (from 2 (family 3)) (Destroy 3 1)
+    ∷ entry claimAgainst passesLast claimReasons (counted 65535) (Claim 0 0 (page 0))
+    ∷ entry toldBy toldNothing (λ k n. claimed k n) (from 2 (lent ++ (Claim 0 0 (page 1) ∷ []))) (Unmap 0 (page 1))
+    ∷ entry toldBy toldOfOther (λ k n. claimed k n) (from 2 (lent ++ (Claim 0 0 (page 0) ∷ []))) (Unmap 0 (page 1)) ∷ []
 
 -- All numbers of an outcome, so that outcomes with different numbers differ.
 unfoldable pub numbers : Outcome → List ℕ
@@ -283,7 +309,8 @@ numbers o =
     ++ (map (λ e. frameCode (e .state)) (p .frames)
     ++ (rowNumbers (s .core .table)
     ++ (cellsOf (s .registers)
-    ++ (bytesOf (s .registers) ++ (cellsOf (s .mailboxes) ++ (bytesOf (s .mailboxes) ++ (o .cells ++ o .tags))))))))
+    ++ (bytesOf (s .registers)
+    ++ (cellsOf (s .mailboxes) ++ (bytesOf (s .mailboxes) ++ (claimNumbers (s .core .claims) ++ (o .cells ++ o .tags)))))))))
 
 abbrev pub leaves : Rule → Wrong → Outcome
 leaves m w = m (w .before .answer .state) (w .call) (w .before .cells) (w .before .tags)

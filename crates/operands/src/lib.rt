@@ -82,6 +82,20 @@ fn value_numbers(party: u8, d: u8, value: u64) -> [u64; 7]
     [14, party as u64, d as u64, value, 0, 0, 0]
 }
 
+fn create_numbers(party: u8, parent: u8, child: u8, limit: u16, holder: u8) -> [u64; 7]
+    ensures { λ r. ⌜ r ≡ 18 ∷ party ∷ parent ∷ child ∷ limit ∷ holder ∷ 0 ∷ [] ⌝ }
+{
+    [
+        18,
+        party as u64,
+        parent as u64,
+        child as u64,
+        limit as u64,
+        holder as u64,
+        0,
+    ]
+}
+
 // A call's seven numbers. Each arm only calls, so that a new kind adds needs to the proof and renames none.
 pub fn numbers_of(call: Call) -> [u64; 7]
     ensures { λ r. ⌜ r ≡ numbersOf call ⌝ }
@@ -116,6 +130,24 @@ pub fn numbers_of(call: Call) -> [u64; 7]
             reg,
             mask,
         } => base_numbers(17, party, base, reg, mask),
+        Call::Create {
+            party,
+            parent,
+            child,
+            limit,
+            holder,
+        } => create_numbers(party, parent, child, limit, holder),
+        Call::Claim {
+            party,
+            principal,
+            page,
+        } => byte_numbers(19, party, principal, page.0),
+        Call::Release {
+            party,
+            principal,
+            page,
+        } => byte_numbers(20, party, principal, page.0),
+        Call::Destroy { party, principal } => byte_numbers(21, party, principal, 0),
     }
 }
 

@@ -207,6 +207,47 @@ fn take_masked_from(numbers: &[u64]) -> Call
     }
 }
 
+fn create_from(numbers: &[u64]) -> Call
+    ensures { λ r. ⌜ r ≡ callOf (commandOf 0x12) (now (numbers .entry)) ⌝ }
+{
+    Call::Create {
+        party: byte_at(numbers, 1),
+        parent: byte_at(numbers, 2),
+        child: byte_at(numbers, 3),
+        limit: two_at(numbers, 4),
+        holder: byte_at(numbers, 5),
+    }
+}
+
+fn claim_from(numbers: &[u64]) -> Call
+    ensures { λ r. ⌜ r ≡ callOf (commandOf 0x13) (now (numbers .entry)) ⌝ }
+{
+    Call::Claim {
+        party: byte_at(numbers, 1),
+        principal: byte_at(numbers, 2),
+        page: page_at(numbers, 3),
+    }
+}
+
+fn release_from(numbers: &[u64]) -> Call
+    ensures { λ r. ⌜ r ≡ callOf (commandOf 0x14) (now (numbers .entry)) ⌝ }
+{
+    Call::Release {
+        party: byte_at(numbers, 1),
+        principal: byte_at(numbers, 2),
+        page: page_at(numbers, 3),
+    }
+}
+
+fn destroy_from(numbers: &[u64]) -> Call
+    ensures { λ r. ⌜ r ≡ callOf (commandOf 0x15) (now (numbers .entry)) ⌝ }
+{
+    Call::Destroy {
+        party: byte_at(numbers, 1),
+        principal: byte_at(numbers, 2),
+    }
+}
+
 // The call that numbers make. The table answers with take for a number that is no command.
 pub fn call_from(numbers: &[u64]) -> Call
     ensures { λ r. ⌜ r ≡ callFrom (now (numbers .entry)) ⌝ }
@@ -229,6 +270,10 @@ pub fn call_from(numbers: &[u64]) -> Call
         15 => grant_from(numbers),
         16 => receive_from(numbers),
         17 => take_masked_from(numbers),
+        18 => create_from(numbers),
+        19 => claim_from(numbers),
+        20 => release_from(numbers),
+        21 => destroy_from(numbers),
         _ => take_from(numbers),
     }
 }

@@ -49,9 +49,9 @@ mappable s page frame e =
       free-frame = is-free _ (not-false _ (c .0));
     }
 
-pub unmappable : (s : Pages) (page : VirtualPage) → first (unmapReasons s page) ≡ 0 → Unmappable s page
+pub unmappable : (s : Pages) (page : VirtualPage) (claimed : Bool) → first (unmapReasons s page claimed) ≡ 0 → Unmappable s page
 unfolding unmapReasons
-unmappable s page e =
+unmappable s page claimed e =
     let a = first-clear 12 (noPage s page) _ (λ x. omega arith) e in
     let b = first-clear 13 (not (isMapped (pageAt s (page .0)))) _ (λ x. omega arith) (a .1) in
     record { low-page = leb-false (s .v) (page .0) (a .0); shown = not-false _ (b .0) }
@@ -118,11 +118,11 @@ unmapped-sound s page h m = go (pageAt s (page .0)) refl
     go Freed e = absurd (false≢true (rw e at (m .shown)))
     go (Mapped g) e = at g e
 
-pub unmap-keeps : (s : Pages) (page : VirtualPage) → wellFormed s ≡ true → wellFormed (unmapOf s page .pages) ≡ true
+pub unmap-keeps : (s : Pages) (page : VirtualPage) (claimed : Bool) → wellFormed s ≡ true → wellFormed (unmapOf s page claimed .pages) ≡ true
 unfolding unmapOf
-unmap-keeps s page h =
-    paged-keeps (first (unmapReasons s page)) s (unmapped s page) h
-    (λ e. formed (unmapped s page) (unmapped-sound s page (sound s h) (unmappable s page e)))
+unmap-keeps s page claimed h =
+    paged-keeps (first (unmapReasons s page claimed)) s (unmapped s page) h
+    (λ e. formed (unmapped s page) (unmapped-sound s page (sound s h) (unmappable s page claimed e)))
 
 -- A fresh layer is well formed if V and F are in range.
 pub fresh-formed : (v f : ℕ) → inRange v f ≡ true → wellFormed (freshOf v f) ≡ true

@@ -41,10 +41,11 @@ module _ (v f : ℕ) (pages frames : List ℕ) where
   unfolding first mapReasons
   map-read page frame = rw (page-read v f pages frames (page .0), frame-read v f pages frames (frame .0))
 
-  pub unmap-read : (page : VirtualPage)
-      → first (unmapReasons (layerOf v f pages frames) page) ≡ pick (leb v (page .0)) 12 (pick (not (isMapped (pageFrom (getD pages (page .0) 0)))) 13 0)
+  pub unmap-read : (page : VirtualPage) (claimed : Bool)
+      → first (unmapReasons (layerOf v f pages frames) page claimed)
+      ≡ pick (leb v (page .0)) 12 (pick (not (isMapped (pageFrom (getD pages (page .0) 0)))) 13 (pick claimed 22 0))
   unfolding first unmapReasons
-  unmap-read page = rw (page-read v f pages frames (page .0))
+  unmap-read page claimed = rw (page-read v f pages frames (page .0))
 
   pub zero-read : (frame : Frame) (cells tags : ℕ)
       → first (zeroReasons (layerOf v f pages frames) frame cells tags)
@@ -59,10 +60,10 @@ soiled-shown s Unmapped e = absurd (false≢true e)
 soiled-shown s Freed e = absurd (false≢true e)
 soiled-shown s (Mapped g) e = refl
 
-pub unmap-put : (s : Pages) (page : VirtualPage) → first (unmapReasons s page) ≡ 0
+pub unmap-put : (s : Pages) (page : VirtualPage) (claimed : Bool) → first (unmapReasons s page claimed) ≡ 0
     → unmapped s page ≡ withFrame (withPage s (page .0) Freed) (frameNumber (pageAt s (page .0))) Dirty
 unfolding unmapped unmapReasons
-unmap-put s page e =
+unmap-put s page claimed e =
     let one = first-clear 12 (noPage s page) _ (λ x. omega arith) e in
     let two = first-clear 13 (not (isMapped (pageAt s (page .0)))) _ (λ x. omega arith) (one .1) in
     soiled-shown (withPage s (page .0) Freed) (pageAt s (page .0)) (not-false _ (two .0))

@@ -44,9 +44,10 @@ mapped s page frame = withFrame (withPage s (page .0) (Mapped frame)) (frame .0)
 unfoldable pub mapOf : Pages → VirtualPage → Frame → Paged
 mapOf s page frame = paged (first (mapReasons s page frame)) s (mapped s page frame)
 
--- 09 unmap: refusals 12 and 13 (the page is not Mapped). "The page becomes Freed, the frame Dirty."
-unfoldable pub unmapReasons : Pages → VirtualPage → List Reason
-unmapReasons s page = reason 12 (noPage s page) ∷ reason 13 (not (isMapped (pageAt s (page .0)))) ∷ []
+-- 09 unmap: refusals 12 and 13 (the page is not Mapped); document 02, 2026-02: 22, "the page to unmap has a claim", which the layer is told.
+-- "The page becomes Freed, the frame Dirty."
+unfoldable pub unmapReasons : Pages → VirtualPage → Bool → List Reason
+unmapReasons s page claimed = reason 12 (noPage s page) ∷ reason 13 (not (isMapped (pageAt s (page .0)))) ∷ reason 22 claimed ∷ []
 
 unfoldable pub soiled : Pages → PageState → Pages
 soiled s Unmapped = s
@@ -56,8 +57,8 @@ soiled s (Mapped frame) = withFrame s (frame .0) Dirty
 unfoldable pub unmapped : Pages → VirtualPage → Pages
 unmapped s page = soiled (withPage s (page .0) Freed) (pageAt s (page .0))
 
-unfoldable pub unmapOf : Pages → VirtualPage → Paged
-unmapOf s page = paged (first (unmapReasons s page)) s (unmapped s page)
+unfoldable pub unmapOf : Pages → VirtualPage → Bool → Paged
+unmapOf s page claimed = paged (first (unmapReasons s page claimed)) s (unmapped s page)
 
 -- 0A zero: refusals 12 and 14 (the frame is not Dirty); and before them 2, where the lent memory is of another size.
 unfoldable pub dirtyReasons : Pages → Frame → List Reason

@@ -155,20 +155,24 @@ pub fn map(
     0
 }
 
-fn unmap_code(v: u16, pages: &[u16], page: VirtualPage) -> u8
-    ensures { λ r. ⌜ ((f : ℕ) (frames : List ℕ) → r ≡ first (unmapReasons (layerOf v f (now (pages .entry)) frames) page)) ⌝ }
+fn unmap_code(v: u16, pages: &[u16], page: VirtualPage, claimed: bool) -> u8
+    ensures { λ r. ⌜ ((f : ℕ) (frames : List ℕ) → r ≡ first (unmapReasons (layerOf v f (now (pages .entry)) frames) page claimed)) ⌝ }
 {
     let mapped = is_mapped(page_in(pages, page.0 as usize));
-    first(12, v <= page.0 as u16, first(13, !mapped, 0))
+    first(
+        12,
+        v <= page.0 as u16,
+        first(13, !mapped, first(22, claimed, 0)),
+    )
 }
 
-// 09: the page is Freed and the frame that it showed Dirty, or the refusal.
-pub fn unmap(v: u16, pages: &mut [u16], frames: &mut [u8], page: VirtualPage) -> u8
-    ensures { λ r. ⌜ ((f : ℕ) → r ≡ first (unmapReasons (layerOf v f (now (pages .entry)) (now (frames .entry))) page)) ⌝ }
+// 09: the page is Freed and the frame that it showed Dirty, or the refusal; it is told whether the page has a claim.
+pub fn unmap(v: u16, pages: &mut [u16], frames: &mut [u8], page: VirtualPage, claimed: bool) -> u8
+    ensures { λ r. ⌜ ((f : ℕ) → r ≡ first (unmapReasons (layerOf v f (now (pages .entry)) (now (frames .entry))) page claimed)) ⌝ }
     ensures { λ r. ⌜ now (pages .exit) ≡ pick (eqb r 0) (set (now (pages .entry)) (page .0) (pageCode Freed)) (now (pages .entry)) ⌝ }
     ensures { λ r. ⌜ now (frames .exit) ≡ pick (eqb r 0) (set (now (frames .entry)) (frameNumber (pageFrom (getD (now (pages .entry)) (page .0) 0))) (frameCode Dirty)) (now (frames .entry)) ⌝ }
 {
-    let code = unmap_code(v, &pages[..], page);
+    let code = unmap_code(v, &pages[..], page, claimed);
     if code != 0 {
         return code;
     }

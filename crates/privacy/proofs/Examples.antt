@@ -4,7 +4,7 @@ use mathlib.Core.List.{List, [], _∷_}
 use mathlib.Core.Path.{_≡_, refl}
 use lib.ListN.{replicate}
 use Rattle.calls.specs.Commands.{page, frame}
-use Rattle.calls.specs.declared.Call.the-variants.{Take, Split, Merge, Give, Revoke, Sweep, Collect, Map, Unmap, Zero, Load, Store, Narrow, Number, Grant, Receive, TakeMasked}
+use Rattle.calls.specs.declared.Call.the-variants.{Take, Split, Merge, Give, Revoke, Sweep, Collect, Map, Unmap, Zero, Load, Store, Narrow, Number, Grant, Receive, TakeMasked, Create, Claim, Release}
 use Rattle.machine.specs.Roles.{plainPermissions}
 use Rattle.machine.specs.Edges.{all}
 use Rattle.privacy.proofs.Pairs.{Pair, inBoth, inOne, inTwo, same, says, fine, unnoticed, comparing, EachWithin, each-within}
@@ -43,7 +43,7 @@ retaken =
           ∷ [];
     }
 
--- The house's range is the first eight cells of a page whose other half is party 4's.
+-- The house's range is the first eight cells of a page whose other half is party 4's. Each of the two has a principal, and both claim the page.
 abbrev pub shared : Pair
 shared =
     record {
@@ -68,6 +68,12 @@ shared =
           ∷ same (Load 4 0 0 1) fine
           ∷ same (Load 4 0 7 1) fine
           ∷ same (Store 4 0 1 0) fine
+          ∷ same (Create 0 0 1 4 3) fine
+          ∷ same (Create 0 0 2 4 4) fine
+          ∷ same (Claim 3 1 (page 0)) fine
+          ∷ same (Claim 4 2 (page 0)) fine
+          ∷ same (Release 3 1 (page 0)) fine
+          ∷ same (Unmap 0 (page 0)) (says 22 0 false)
           ∷ [];
     }
 

@@ -15,6 +15,7 @@ use Rattle.capabilities.proofs.Choice.{pick-yes, and-left, and-right}
 use Rattle.pages.specs.declared.Place.the-variants.{At}
 use Rattle.pages.specs.Layer.{serves}
 use Rattle.pages.specs.Mapping.{lookupOf}
+use Rattle.claims.specs.Sound.{claimsSound}
 use Rattle.reservations.specs.Core.{Core}
 use Rattle.reservations.specs.Revocation.{revoked, coreSound}
 use Rattle.calls.specs.declared.Call.{Call}
@@ -49,7 +50,9 @@ words-same l m p (fromTwo a s) e = ap (λ w. reading w (registerOf l p s)) (e a)
 -- The code, by what it depends on.
 unfoldable codeBy : Core → List Slot → ℕ → ℕ → ℕ → Reads → Call → ℕ
 codeBy k mail registers cells tags r c =
-    pick (((coreSound k && each mailboxSound 0 mail) && (eqb registers 64 && eqb (length mail) 8)) && takersSound (live (k .table)))
+    pick
+    ((((coreSound k && each mailboxSound 0 mail) && (eqb registers 64 && eqb (length mail) 8)) && claimsSound (k .pages .v) (k .claims))
+    && takersSound (live (k .table)))
     (pick (serves (k .pages) cells tags) (first (reasons k mail r c)) 2) 1
 
 code-by : (m : Machine) (c : Call) → codeOf m c ≡ codeBy (m .state .core) (m .state .mailboxes) (length (m .state .registers)) (length (m .cells)) (length (m .tags)) (reads (m .state .registers) c) c

@@ -20,7 +20,7 @@ use Rattle.table.proofs.Forgetting.{granted-like, table-twice, find-forgets, re
 
 module _ (c : Core) where
   pub core-twice : forgetCore (forgetCore c) ≡ forgetCore c
-  core-twice = ap (λ t. core (c .pages) t (c .place)) (table-twice (c .table))
+  core-twice = ap (λ t. core (c .pages) t (c .place) (c .claims)) (table-twice (c .table))
 
   pub running-forgets : running (forgetCore c) ≡ running c
   unfolding running
@@ -49,10 +49,10 @@ module _ (c : Core) where
       let t = c .table in
       let f = findOf t party base in
       granted-like forgetCore (revoke-reasons party base)
-      (ap (λ u. core (freedOf (c .pages) (rangeOf (rowOf (forgetTable t) (findOf (forgetTable t) party base)))) u 0)
+      (ap (λ u. core (freedOf (c .pages) (rangeOf (rowOf (forgetTable t) (findOf (forgetTable t) party base)))) u 0 (c .claims))
       (put-by t revokingRow (λ r. refl) (findOf (forgetTable t) party base) f (find-forgets t party base))
-      ∙ ap (λ x. core (freedOf (c .pages) (rangeOf (rowOf (forgetTable t) x))) (forgetTable (withRow t f (revokingRow (rowOf t f)))) 0) (find-forgets t party base)
-      ∙ ap (λ r. core (freedOf (c .pages) (rangeOf r)) (forgetTable (withRow t f (revokingRow (rowOf t f)))) 0) (row-forgets t f))
+      ∙ ap (λ x. core (freedOf (c .pages) (rangeOf (rowOf (forgetTable t) x))) (forgetTable (withRow t f (revokingRow (rowOf t f)))) 0 (c .claims)) (find-forgets t party base)
+      ∙ ap (λ r. core (freedOf (c .pages) (rangeOf r)) (forgetTable (withRow t f (revokingRow (rowOf t f)))) 0 (c .claims)) (row-forgets t f))
       core-twice
 
   pub collect-reasons : collectReasons (forgetCore c) ≡ collectReasons c
@@ -64,8 +64,8 @@ module _ (c : Core) where
   collect-forgets =
       let t = c .table in
       granted-like forgetCore collect-reasons
-      (ap (λ u. core (releasedOf (c .pages) (revoked (forgetCore c))) u 0) (put-by t collectedRow (λ r. refl) (revokingOf (forgetTable t)) (revokingOf t) (revoking-forgets t))
-      ∙ ap (λ r. core (releasedOf (c .pages) r) (forgetTable (withRow t (revokingOf t) (collectedRow (rowOf t (revokingOf t))))) 0) revoked-forgets)
+      (ap (λ u. core (releasedOf (c .pages) (revoked (forgetCore c))) u 0 (c .claims)) (put-by t collectedRow (λ r. refl) (revokingOf (forgetTable t)) (revokingOf t) (revoking-forgets t))
+      ∙ ap (λ r. core (releasedOf (c .pages) r) (forgetTable (withRow t (revokingOf t) (collectedRow (rowOf t (revokingOf t))))) 0 (c .claims)) revoked-forgets)
       core-twice
 
   revocation-forgets : revocationSound (forgetCore c) ≡ revocationSound c

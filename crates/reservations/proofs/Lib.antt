@@ -1,3 +1,4 @@
+pub mod ClaimsApart
 pub mod CoreKept
 pub mod Revocations
 pub mod Starts

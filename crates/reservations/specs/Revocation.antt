@@ -19,18 +19,20 @@ use Rattle.table.specs.declared.Found.{Found}
 use Rattle.table.specs.Rows.{isOpen, isRevoking, noTaker, reservation, rangeOf, forgetTable}
 use Rattle.table.specs.Find.{missing, findOf, revokingOf, rowOf, withRow}
 use Rattle.table.specs.Tiling.{tableSound, freshTable}
+use Rattle.claims.specs.Claims.{Claims}
+use Rattle.claims.specs.Sound.{freshClaims}
 use Rattle.reservations.specs.Core.{Core, Cored}
 
-abbrev pub core : Pages → Table → ℕ → Core
-core pages table place = record { pages = pages; table = table; place = place }
+abbrev pub core : Pages → Table → ℕ → Claims → Core
+core pages table place claims = record { pages = pages; table = table; place = place; claims = claims }
 
 -- A core without takers.
 abbrev pub forgetCore : Core → Core
-forgetCore c = core (c .pages) (forgetTable (c .table)) (c .place)
+forgetCore c = core (c .pages) (forgetTable (c .table)) (c .place) (c .claims)
 
--- "A fresh start, given V and F, has one Open reservation held by party 0"; all is 0 for V or F out of range.
+-- "A fresh start, given V and F, has one Open reservation held by party 0", and principal 0 alone; all is 0 for V or F out of range.
 unfoldable pub freshCore : ℕ → ℕ → Core
-freshCore v f = core (freshOf v f) (freshTable (pick (inRange v f) (16 * v) 0)) 0
+freshCore v f = core (freshOf v f) (freshTable (pick (inRange v f) (16 * v) 0)) 0 (freshClaims (inRange v f))
 
 -- "A revocation runs if and only if one reservation .. is Revoking."
 unfoldable pub running : Core → Bool
@@ -74,7 +76,7 @@ revokingRow r = reservation (r .base) (r .length) Revoking 0 (revokingTaker r)
 unfoldable pub revokeAt : Core → Found → Core
 revokeAt c f =
     let r = rowOf (c .table) f in
-    core (freedOf (c .pages) (rangeOf r)) (withRow (c .table) f (revokingRow r)) 0
+    core (freedOf (c .pages) (rangeOf r)) (withRow (c .table) f (revokingRow r)) 0 (c .claims)
 
 unfoldable pub revokeOf : Core → ℕ → ℕ → Cored
 revokeOf c party base = cored (first (revokeReasons c party base)) c (revokeAt c (findOf (c .table) party base))
@@ -90,7 +92,7 @@ collectedRow r = reservation (r .base) (r .length) Open 0 noTaker
 unfoldable pub collected : Core → Core
 collected c =
     let f = revokingOf (c .table) in
-    core (releasedOf (c .pages) (revoked c)) (withRow (c .table) f (collectedRow (rowOf (c .table) f))) 0
+    core (releasedOf (c .pages) (revoked c)) (withRow (c .table) f (collectedRow (rowOf (c .table) f))) 0 (c .claims)
 
 unfoldable pub collectOf : Core → Cored
 collectOf c = cored (first (collectReasons c)) c (collected c)

@@ -15,6 +15,7 @@ use Rattle.calls.specs.Reader.{whole, readOf, firstByte}
 use Rattle.capabilities.proofs.Choice.{and-left, and-right}
 use Rattle.machine.specs.State.{State}
 use Rattle.machine.specs.Formed.{wellFormed, fresh, startOf}
+use Rattle.machine.specs.Reasons.{lastRefusal}
 use Rattle.machine.specs.Step.{refused}
 use Rattle.machine.specs.State.{Commanded}
 use Rattle.machine.specs.Command.{Ran, ran, used, onReading, commandJudged, commandOf}
@@ -183,8 +184,8 @@ module _ (input : List ℕ) (start : State) (cells₀ tags₀ out₀ : List ℕ)
       pub tags-kept : length tags₁ ≡ length tags
       tags-kept = subst (λ (r : Ran). length (r .tags) ≡ length tags) (sym e) (command-sized state input at cells tags .of-tags)
 
-      low : done .answered .code ≤ 19
-      low = subst (λ (r : Ran). r .command .answered .code ≤ 19) (sym e) (command-at-most state input at cells tags)
+      low : done .answered .code ≤ lastRefusal
+      low = subst (λ (r : Ran). r .command .answered .code ≤ lastRefusal) (sym e) (command-at-most state input at cells tags)
 
       near : end₁ ≤ end + 26
       near = short (omega (arith, low))

@@ -77,10 +77,10 @@ module _ (cells : ℕ) (t : Table) (s : Sound cells t) (i : ℕ) (e : revokingOf
 abbrev pub numbersCollected : Numbers → Numbers
 numbersCollected n = record { v = n .v; f = n .f; count = n .count; place = 0; base = 0; length = 0 }
 
-same-arrays : {v f c d b l : ℕ} {w₁ w₂ k₁ k₂ m₁ m₂ g₁ g₂ r₁ r₂ p₁ p₂ f₁ f₂ : List ℕ} → c ≡ d → 0 ≡ b → 0 ≡ l → w₁ ≡ w₂ → k₁ ≡ k₂ → m₁ ≡ m₂ → g₁ ≡ g₂ → r₁ ≡ r₂ → p₁ ≡ p₂ → f₁ ≡ f₂
-    → arrays (record { v = v; f = f; count = c; place = 0; base = 0; length = 0 }) w₁ k₁ m₁ g₁ r₁ p₁ f₁
-    ≡ arrays (record { v = v; f = f; count = d; place = 0; base = b; length = l }) w₂ k₂ m₂ g₂ r₂ p₂ f₂
-same-arrays e1 e2 e3 e4 e5 e6 e7 e8 e9 e10 = cc
+same-arrays : {v f c d b l : ℕ} {w₁ w₂ k₁ k₂ m₁ m₂ g₁ g₂ r₁ r₂ p₁ p₂ f₁ f₂ q₁ q₂ n₁ n₂ : List ℕ} → c ≡ d → 0 ≡ b → 0 ≡ l → w₁ ≡ w₂ → k₁ ≡ k₂ → m₁ ≡ m₂ → g₁ ≡ g₂ → r₁ ≡ r₂ → p₁ ≡ p₂ → f₁ ≡ f₂ → q₁ ≡ q₂ → n₁ ≡ n₂
+    → arrays (record { v = v; f = f; count = c; place = 0; base = 0; length = 0 }) w₁ k₁ m₁ g₁ r₁ p₁ f₁ q₁ n₁
+    ≡ arrays (record { v = v; f = f; count = d; place = 0; base = b; length = l }) w₂ k₂ m₂ g₂ r₂ p₂ f₂ q₂ n₂
+same-arrays e1 e2 e3 e4 e5 e6 e7 e8 e9 e10 e11 e12 = cc
 
 same-count : (t : Table) (g : Found) (x : Reservation) → t .count ≡ withRow t g x .count
 unfolding withRow
@@ -168,7 +168,7 @@ collectedState s = record { core = collected (s .core); registers = map (collect
 abbrev pub collectedArrays : Arrays → Range → Arrays
 collectedArrays b range =
     arrays (numbersCollected (b .nums)) (b .words) (collectedMarks range (b .words) (b .marks)) (collectedMail range (b .mail) (b .flags)) (collectedMarks range (b .mail) (b .flags))
-    (collectedRows (b .rows) (b .nums .count)) (releasedPages range (b .pages)) (b .frames)
+    (collectedRows (b .rows) (b .nums .count)) (releasedPages range (b .pages)) (b .frames) (b .principals) (b .counts)
 
 module _ (b : Arrays) (f : Formed b) where
   put-collected : running (stateOf b .core) ≡ true → collectedArrays b (cachedRange b) ≡ arraysOf (collectedState (stateOf b))
@@ -180,7 +180,7 @@ module _ (b : Arrays) (f : Formed b) where
       (sym (words-after b f (cachedRange b) refl)) (sym (marks-after b f (cachedRange b) refl)) (sym (mail-after b f (cachedRange b) refl)) (sym (flags-after b f (cachedRange b) refl))
       (sym (rows-put b f run (revokingOf t) (collectedRow (rowOf t (revokingOf t)))))
       (sym (pages-filled b f run (cachedRange b) (sym (revoked-cached b f))))
-      (sym (ap (λ (x : Arrays). x .frames) (f .kept)))
+      (sym (ap (λ (x : Arrays). x .frames) (f .kept))) (sym (ap (λ (x : Arrays). x .principals) (f .kept))) (sym (ap (λ (x : Arrays). x .counts) (f .kept)))
 
   module _ (p k : ℕ) (e : k ≡ pick (unnamed p) 4 (pick (notManager p) 5 (pick (eqb (b .nums .length) 0 || not (leb (16 * b .nums .f) (b .nums .place))) 11 0))) (cells tags : List ℕ) where
     rest-is : pick (eqb (b .nums .length) 0 || not (leb (16 * b .nums .f) (b .nums .place))) 11 0 ≡ first (collectReasons (stateOf b .core))

@@ -1,5 +1,7 @@
 pub mod Reading
 pub mod Loading
+pub mod Early
+pub mod Claiming
 pub mod Mapping
 pub mod Tabling
 pub mod Revoking

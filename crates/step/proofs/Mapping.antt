@@ -1,5 +1,5 @@
 -- 08, 09 and 0A in place: what the layer's function leaves is what the rules say. Assumes nothing.
-use Prim.Native.Nat.{ℕ, _+_, _*_}
+use Prim.Native.Nat.{ℕ, _+_, _*_, _<_}
 use native.Mathlib.Omega.{arith}
 use mathlib.Core.Bool.{Bool, true, false}
 use mathlib.Core.List.{List}
@@ -23,6 +23,8 @@ use Rattle.pages.specs.Mapping.{mapReasons, mapped, mapOf, unmapReasons, unmapp
 use Rattle.pages.specs.Numbers.{pageFrom, pageCode, frameCode, layerOf}
 use Rattle.pages.proofs.Reading.{page-read}
 use Rattle.pages.proofs.OnNumbers.{unmap-put, zero-reasons}
+use Rattle.claims.specs.Claims.{claimed}
+use Rattle.claims.specs.Lent.{anyCounts}
 use Rattle.reservations.specs.Core.{Core}
 use Rattle.reservations.specs.Revocation.{core}
 use Rattle.calls.specs.declared.Call.{Call}
@@ -38,37 +40,32 @@ use Rattle.arrays.specs.Reading.{coreOf, stateOf, arraysOf, Formed}
 use Rattle.arrays.specs.Steps.{answer, leaving, leftOf, withPages}
 use Rattle.arrays.proofs.Writing.{put-both, write-frame}
 use Rattle.arrays.proofs.Ruling.{wrote, down, cored}
+use Rattle.step.proofs.Early.{early-code, late-code}
+use Rattle.step.proofs.Claiming.{claimed-is}
 
 -- A manager's command: 4 and 5 before all others.
-early-code : (u m : Bool) (k rest : ℕ) → k ≡ pick u 4 (pick m 5 0) → (k ≡ 0 → ⊥) → k ≡ pick u 4 (pick m 5 rest)
-early-code true m k rest e n = e
-early-code false true k rest e n = e
-early-code false false k rest e n = absurd (n e)
-
-late-code : (u m : Bool) (k rest : ℕ) → k ≡ pick u 4 (pick m 5 0) → k ≡ 0 → rest ≡ pick u 4 (pick m 5 rest)
-late-code true m k rest e z = let y : _≡_ {A = ℕ} 4 0 = sym e ∙ z in let q : ⊥ = omega arith in absurd q
-late-code false true k rest e z = let y : _≡_ {A = ℕ} 5 0 = sym e ∙ z in let q : ⊥ = omega arith in absurd q
-late-code false false k rest e z = refl
+late : (u m : Bool) (k rest : ℕ) → k ≡ pick u 4 (pick m 5 0) → k ≡ 0 → rest ≡ pick u 4 (pick m 5 rest)
+late u m k rest e z = late-code 4 5 k rest (λ x. omega arith) (λ x. omega arith) u m e z
 
 module _ (b : Arrays) (f : Formed b) (p early : ℕ) (ee : early ≡ pick (unnamed p) 4 (pick (notManager p) 5 0)) (cells tags : List ℕ) where
   abbrev s : Pages
   s = stateOf b .core .pages
 
   abbrev with-layer : Pages → Core
-  with-layer n = core n (stateOf b .core .table) (stateOf b .core .place)
+  with-layer n = core n (stateOf b .core .table) (stateOf b .core .place) (stateOf b .core .claims)
 
   -- The refusals 4 and 5 of each.
   pub map-early : (page : VirtualPage) (frame : Frame) → (early ≡ 0 → ⊥) → leaving (answer early empty) b cells tags ≡ leftOf (ruled (stateOf b) (Map p page frame) cells tags)
   unfolding reasons first
-  map-early page frame n = down b f (Map p page frame) early (early-code (unnamed p) (notManager p) early (first (mapReasons s page frame)) ee n) cells tags n
+  map-early page frame n = down b f (Map p page frame) early (early-code 4 5 early (first (mapReasons s page frame)) (unnamed p) (notManager p) ee n) cells tags n
 
   pub unmap-early : (page : VirtualPage) → (early ≡ 0 → ⊥) → leaving (answer early empty) b cells tags ≡ leftOf (ruled (stateOf b) (Unmap p page) cells tags)
   unfolding reasons first
-  unmap-early page n = down b f (Unmap p page) early (early-code (unnamed p) (notManager p) early (first (unmapReasons s page)) ee n) cells tags n
+  unmap-early page n = down b f (Unmap p page) early (early-code 4 5 early (first (unmapReasons s page (claimed (stateOf b .core .claims) (page .0)))) (unnamed p) (notManager p) ee n) cells tags n
 
   pub zero-early : (frame : Frame) → (early ≡ 0 → ⊥) → leaving (answer early empty) b cells tags ≡ leftOf (ruled (stateOf b) (Zero p frame) cells tags)
   unfolding reasons first
-  zero-early frame n = down b f (Zero p frame) early (early-code (unnamed p) (notManager p) early (first (dirtyReasons s frame)) ee n) cells tags n
+  zero-early frame n = down b f (Zero p frame) early (early-code 4 5 early (first (dirtyReasons s frame)) (unnamed p) (notManager p) ee n) cells tags n
 
   -- A call that changes pages and frames alone: refused, or its one page and one frame put.
   module _ (call : Call) (k : ℕ) (e : k ≡ first (reasonsOn (stateOf b) call)) (at on : ℕ) (x : PageState) (y : FrameState)
@@ -100,7 +97,7 @@ module _ (b : Arrays) (f : Formed b) (p early : ℕ) (ee : early ≡ pick (unnam
 
       map-code : k ≡ first (reasonsOn (stateOf b) (Map p page frame))
       unfolding reasons first
-      map-code = late-code (unnamed p) (notManager p) early k ee z ∙ ap (λ n. pick (unnamed p) 4 (pick (notManager p) 5 n)) map-told
+      map-code = late (unnamed p) (notManager p) early k ee z ∙ ap (λ n. pick (unnamed p) 4 (pick (notManager p) 5 n)) map-told
 
       map-effect : k ≡ 0 → effectOn (stateOf b) (Map p page frame) ≡ effectOf (with-layer (withFrame (withPage s (page .0) (Mapped frame)) (frame .0) Shown)) keepRegisters keepMailboxes keepMemory empty
       unfolding effect mapOf mapped
@@ -113,13 +110,17 @@ module _ (b : Arrays) (f : Formed b) (p early : ℕ) (ee : early ≡ pick (unnam
           → leaving (answer k empty) (withPages b pages frames) cells tags ≡ leftOf (ruled (stateOf b) (Map p page frame) cells tags)
       map-left = paged-left (Map p page frame) k map-code (page .0) (frame .0) (Mapped frame) Shown map-effect
 
-    module _ (page : VirtualPage) (e : k ≡ first (unmapReasons (layerOf v h (b .pages) (b .frames)) page)) where
-      unmap-told : k ≡ first (unmapReasons s page)
-      unmap-told = e ∙ ap (λ n. first (unmapReasons n page)) layer-is
+    module _ (page : VirtualPage) (at : ℕ) (is : (at ≡ page .0) × (at < 256)) (told : Bool) (seen : told ≡ anyCounts 32 (b .counts) at)
+        (e : k ≡ first (unmapReasons (layerOf v h (b .pages) (b .frames)) page told)) where
+      abbrev held : Bool
+      held = claimed (stateOf b .core .claims) (page .0)
+
+      unmap-told : k ≡ first (unmapReasons s page held)
+      unmap-told = e ∙ ap (λ n. first (unmapReasons n page told)) layer-is ∙ ap (λ t. first (unmapReasons s page t)) (seen ∙ ap (anyCounts 32 (b .counts)) (is .0) ∙ sym (claimed-is b f (page .0) (subst (λ n. n < 256) (is .0) (is .1))))
 
       unmap-code : k ≡ first (reasonsOn (stateOf b) (Unmap p page))
       unfolding reasons first
-      unmap-code = late-code (unnamed p) (notManager p) early k ee z ∙ ap (λ n. pick (unnamed p) 4 (pick (notManager p) 5 n)) unmap-told
+      unmap-code = late (unnamed p) (notManager p) early k ee z ∙ ap (λ n. pick (unnamed p) 4 (pick (notManager p) 5 n)) unmap-told
 
       abbrev shown : ℕ
       shown = frameNumber (pageFrom (getD (b .pages) (page .0) 0))
@@ -127,9 +128,9 @@ module _ (b : Arrays) (f : Formed b) (p early : ℕ) (ee : early ≡ pick (unnam
       unmap-effect : k ≡ 0 → effectOn (stateOf b) (Unmap p page) ≡ effectOf (with-layer (withFrame (withPage s (page .0) Freed) shown Dirty)) keepRegisters keepMailboxes keepMemory empty
       unfolding effect unmapOf stateOf coreOf
       unmap-effect o =
-          let none : first (unmapReasons s page) ≡ 0 = sym unmap-told ∙ o in
+          let none : first (unmapReasons s page held) ≡ 0 = sym unmap-told ∙ o in
           ap (λ n. effectOf (with-layer n) keepRegisters keepMailboxes keepMemory empty)
-          (pick-yes (eqb (first (unmapReasons s page)) 0) (unmapped s page) s (eq-eqb (first (unmapReasons s page)) 0 none) ∙ unmap-put s page none
+          (pick-yes (eqb (first (unmapReasons s page held)) 0) (unmapped s page) s (eq-eqb (first (unmapReasons s page held)) 0 none) ∙ unmap-put s page held none
           ∙ ap (λ (x : PageState). withFrame (withPage s (page .0) Freed) (frameNumber x) Dirty) (page-read (b .nums .v) (b .nums .f) (b .pages) (b .frames) (page .0)))
 
       pub unmap-left : (pages frames : List ℕ) → pages ≡ pick (eqb k 0) (set (b .pages) (page .0) (pageCode Freed)) (b .pages)
@@ -151,7 +152,7 @@ module _ (b : Arrays) (f : Formed b) (p early : ℕ) (ee : early ≡ pick (unnam
 
     zero-code : k ≡ first (reasonsOn (stateOf b) call)
     unfolding reasons first
-    zero-code = late-code (unnamed p) (notManager p) early k ee z ∙ ap (λ n. pick (unnamed p) 4 (pick (notManager p) 5 n)) zero-told
+    zero-code = late (unnamed p) (notManager p) early k ee z ∙ ap (λ n. pick (unnamed p) 4 (pick (notManager p) 5 n)) zero-told
 
     abbrev after : Core
     after = with-layer (withFrame s (frame .0) Free)

@@ -109,7 +109,7 @@ module _ (b : Arrays) (f : Formed b) where
       (ap (λ (r : Reservation). map rowCode (set (map rowFrom (b .rows)) i (revokingRow r))) e ∙ map-set rowCode (map rowFrom (b .rows)) i (revokingRow row) ∙ ap (λ (l : List ℕ). set l i (rowCode (revokingRow row))) rows)
       (ap (λ (r : Reservation). map (λ (x : PageEntry). pageCode (x .state)) (freedOf (stateOf b .core .pages) (rangeOf r) .pages)) e
       ∙ freed-filled (b .pages) pages (rangeOf row) from n eb el (not-false (each (notMappedIn (rangeOf row)) 0 (map pageIn (b .pages))) am))
-      (ap (λ (x : Arrays). x .frames) (f .kept)))
+      (ap (λ (x : Arrays). x .frames) (f .kept)) (ap (λ (x : Arrays). x .principals) (f .kept)) (ap (λ (x : Arrays). x .counts) (f .kept)))
 
 -- The call.
 module _ (b : Arrays) (f : Formed b) (count : ℕ) (ec : b .nums .count ≡ count) (p base : ℕ) (at : Found) (row : Reservation) (any : Bool)

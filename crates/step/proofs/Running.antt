@@ -30,7 +30,7 @@ use Rattle.session_rules.specs.Session.{ending, zeroed, linesFrom}
 use Rattle.session_rules.proofs.Sessions as sessions
 use Rattle.session_rules.proofs.Sessions.{Going, going-none, going-all, goes-on, take-zeroed}
 use Rattle.step.specs.Entries.{Told, telling, toldOf, commandJudgedOn}
-use Rattle.step.proofs.Starting.{begun, firstNumber, fresh-in}
+use Rattle.step.proofs.Starting.{begun, firstNumber, rootNumber, fresh-in}
 
 -- What a command on arrays leaves, said as the session says it.
 abbrev pub commanded : Answer → Arrays → ℕ → Commanded
@@ -77,6 +77,8 @@ pub record Kept (a₀ a : Arrays) : Type 0 where
   pub rows : length (a .rows) ≡ length (a₀ .rows)
   pub pages : length (a .pages) ≡ length (a₀ .pages)
   pub frames : length (a .frames) ≡ length (a₀ .frames)
+  pub principals : length (a .principals) ≡ length (a₀ .principals)
+  pub counts : length (a .counts) ≡ length (a₀ .counts)
 
 pub kept : {a₀ a : Arrays} → Formed a₀ → Formed a → Kept a₀ a
 kept {a₀} {a} f₀ f =
@@ -90,6 +92,8 @@ kept {a₀} {a} f₀ f =
       rows = l .rows ∙ sym (l₀ .rows);
       pages = l .pages ∙ sym (l₀ .pages);
       frames = l .frames ∙ sym (l₀ .frames);
+      principals = l .principals ∙ sym (l₀ .principals);
+      counts = l .counts ∙ sym (l₀ .counts);
     }
 
 -- How far a session on arrays has come.
@@ -170,7 +174,7 @@ module _ {input : List ℕ} {a₀ : Arrays} {cells₀ tags₀ out₀ : List ℕ}
 -- The arrays of a start that is granted.
 module _ (v f : ℕ) (e : inRange v f ≡ true) where
   abbrev first-arrays : Arrays
-  first-arrays = begun v f 1 (set (replicate 64 0) 0 (firstNumber v))
+  first-arrays = begun v f 1 (set (replicate 64 0) 0 (firstNumber v)) (set (replicate 32 0) 0 rootNumber)
 
   fresh-well : wellFormed (fresh v f) ≡ true
   unfolding startOf

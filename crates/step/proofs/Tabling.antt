@@ -59,7 +59,7 @@ module _ (b : Arrays) (f : Formed b) (call : Call) (unknown : Bool) (rule : Tabl
 
   module _ (rows : List ℕ) (code n : ℕ) (d : Leaves (b .rows) rows code n rule) (known : unknown ≡ false) where
     abbrev new : Core
-    new = core (stateOf b .core .pages) (rule .table) (stateOf b .core .place)
+    new = core (stateOf b .core .pages) (rule .table) (stateOf b .core .place) (stateOf b .core .claims)
 
     code-is : code ≡ first (reasonsOn (stateOf b) call)
     code-is = d .answers ∙ sym (j .told ∙ pick-no unknown 4 (rule .code) known)
@@ -149,7 +149,7 @@ module _ (b : Arrays) (f : Formed b) (count : ℕ) (ec : b .nums .count ≡ coun
         ∙ table-down b f took _ _ (take-judges b f p base reg mask) cells tags rows code count own known h
 
     effect-is : effectOn (stateOf b) took
-        ≡ effectOf (core (stateOf b .core .pages) (takeOf (stateOf b .core .table) p base .table) (stateOf b .core .place))
+        ≡ effectOf (core (stateOf b .core .pages) (takeOf (stateOf b .core .table) p base .table) (stateOf b .core .place) (stateOf b .core .claims))
         (putRegister p reg (slot (capability base (takeOf (stateOf b .core .table) p base .length) (permitted mask)) true)) keepMailboxes keepMemory (slot (takeOf (stateOf b .core .table) p base .length) false)
     unfolding effect
     effect-is = refl

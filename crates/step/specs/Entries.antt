@@ -20,7 +20,7 @@ use Rattle.formed.specs.Test.{formedOf}
 abbrev pub stepped : Answer → Numbers → Stepped
 stepped r n = record { answer = r; nums = n }
 
--- A call on well-formed arrays, by refusals 4 to 19; and by refusal 2 first.
+-- A call on well-formed arrays, by refusals from 4 on; and by refusal 2 first.
 unfoldable pub ruledOn : Arrays → Call → List ℕ → List ℕ → Left
 ruledOn a c cells tags = leftOf (ruled (stateOf a) c cells tags)
 

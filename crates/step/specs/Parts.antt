@@ -21,7 +21,7 @@ use Rattle.pages.specs.Numbers.{layerOf, filled}
 use Rattle.table.specs.Numbers.{rowCode, tableOf}
 use Rattle.table.specs.Lent.{putAt}
 use Rattle.arrays.specs.Reading.{arrays, Formed, stateOf}
-use Rattle.arrays.specs.Steps.{Does, leaving, leftOf, withWords, withRows, withPages, withMails, withTable}
+use Rattle.arrays.specs.Steps.{Does, leaving, leftOf, withWords, withRows, withPages, withMails, withTable, withClaims}
 
 -- The place of a virtual cell in lent memory; F and the frames do not matter.
 abbrev pub lookupIn : ℕ → List ℕ → ℕ → Place
@@ -42,6 +42,16 @@ OnWords r words marks words′ marks′ c = (m : Arrays) → Does r (withWords m
 abbrev pub OnPages : ℕ → ℕ → Answer → List ℕ → List ℕ → List ℕ → List ℕ → Call → Type 0
 OnPages v f r pages frames pages′ frames′ c =
     (m : Arrays) → m .nums .v ≡ v → m .nums .f ≡ f → Does r (withPages m pages frames) (withPages m pages′ frames′) c
+
+-- One on pages and frames that looks at the counts too.
+abbrev pub OnClaimed : ℕ → ℕ → List ℕ → Answer → List ℕ → List ℕ → List ℕ → List ℕ → Call → Type 0
+OnClaimed v f counts r pages frames pages′ frames′ c =
+    (m : Arrays) → m .nums .v ≡ v → m .nums .f ≡ f → m .counts ≡ counts → Does r (withPages m pages frames) (withPages m pages′ frames′) c
+
+-- One on principals and counts, where V is this.
+abbrev pub OnClaims : ℕ → Answer → List ℕ → List ℕ → List ℕ → List ℕ → Call → Type 0
+OnClaims v r principals counts principals′ counts′ c =
+    (m : Arrays) → m .nums .v ≡ v → Does r (withClaims m principals counts) (withClaims m principals′ counts′) c
 
 -- One on frames and lent memory of the right size, where F is this.
 abbrev pub OnFrames : ℕ → Answer → List ℕ → List ℕ → List ℕ → List ℕ → List ℕ → List ℕ → Call → Type 0
@@ -81,7 +91,7 @@ OnMail r words marks mail flags words′ marks′ mail′ flags′ c =
 
 -- Arrays around some rows and pages, with these small numbers.
 abbrev pub around : Arrays → Numbers → List ℕ → List ℕ → Arrays
-around m n rows pages = arrays n (m .words) (m .marks) (m .mail) (m .flags) rows pages (m .frames)
+around m n rows pages = arrays n (m .words) (m .marks) (m .mail) (m .flags) rows pages (m .frames) (m .principals) (m .counts)
 
 -- A call that changes the small numbers, rows and pages.
 abbrev pub OnRange : Numbers → Stepped → List ℕ → List ℕ → List ℕ → List ℕ → Call → Type 0
@@ -89,7 +99,7 @@ OnRange n r rows pages rows′ pages′ c = (m : Arrays) → Does (r .answer) (a
 
 -- Arrays with other small numbers.
 abbrev pub withNumbers : Arrays → Numbers → Arrays
-withNumbers m n = arrays n (m .words) (m .marks) (m .mail) (m .flags) (m .rows) (m .pages) (m .frames)
+withNumbers m n = arrays n (m .words) (m .marks) (m .mail) (m .flags) (m .rows) (m .pages) (m .frames) (m .principals) (m .counts)
 
 -- A call that reads frames and sweeps lent memory of the right size; of the arrays it changes the small numbers alone.
 abbrev pub OnSweep : Numbers → List ℕ → Stepped → List ℕ → List ℕ → List ℕ → Call → Type 0
@@ -106,7 +116,8 @@ collectedRows rows count =
 unfoldable pub releasedPages : Range → List ℕ → List ℕ
 releasedPages range pages = filled (range .base / 16) (range .base / 16 + range .length / 16) 0 pages
 
--- A call that reads the registers' cells and changes all but these and the frames.
+-- A call that reads the registers' cells and changes all but these, the frames and the claims.
 abbrev pub OnCollect : Numbers → List ℕ → Stepped → List ℕ → List ℕ → List ℕ → List ℕ → List ℕ → List ℕ → List ℕ → List ℕ → List ℕ → List ℕ → Call → Type 0
 OnCollect n words r marks mail flags rows pages marks′ mail′ flags′ rows′ pages′ c =
-    (frames : List ℕ) → Does (r .answer) (arrays n words marks mail flags rows pages frames) (arrays (r .nums) words marks′ mail′ flags′ rows′ pages′ frames) c
+    (frames principals counts : List ℕ)
+    → Does (r .answer) (arrays n words marks mail flags rows pages frames principals counts) (arrays (r .nums) words marks′ mail′ flags′ rows′ pages′ frames principals counts) c

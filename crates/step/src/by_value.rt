@@ -20,9 +20,9 @@ ghost use Rattle.arrays.specs.Steps.{leaving};
 ghost use Rattle.formed.specs.Test.{formedOf};
 ghost use Rattle.step.specs.Entries.{beginning, commanding, startOn, stepOn, telling, commandOn};
 
-// A state with nothing in it but its small numbers and its rows.
-fn bare(nums: Numbers, rows: [u64; 64]) -> State
-    ensures { λ r. ⌜ r .arrays ≡ arrays nums (replicate 64 0) (replicate 64 0) (replicate 8 0) (replicate 8 0) rows (replicate 256 0) (replicate 128 0) ⌝ }
+// A state with nothing in it but its small numbers, its rows and its principals.
+fn bare(nums: Numbers, rows: [u64; 64], principals: [u64; 32]) -> State
+    ensures { λ r. ⌜ r .arrays ≡ arrays nums (replicate 64 0) (replicate 64 0) (replicate 8 0) (replicate 8 0) rows (replicate 256 0) (replicate 128 0) principals (replicate 8192 0) ⌝ }
 {
     let arrays = Arrays {
         nums,
@@ -33,6 +33,8 @@ fn bare(nums: Numbers, rows: [u64; 64]) -> State
         rows,
         pages: [0; 256],
         frames: [0; 128],
+        principals,
+        counts: [0; 8192],
     };
     State { arrays }
 }
@@ -53,8 +55,10 @@ impl State {
         ensures { λ r. ⌜ beginning (r .answer) (r .state .arrays) ≡ startOn v f ⌝ }
     {
         let mut rows = [0u64; 64];
+        let mut principals = [0u64; 32];
         if in_range(v, f) {
             rows[0] = 1048576 * (v as u64) + 2533274790395904;
+            principals[0] = 4294975488;
             let nums = Numbers {
                 v,
                 f,
@@ -63,7 +67,7 @@ impl State {
                 base: 0,
                 length: 0,
             };
-            let state = bare(nums, rows);
+            let state = bare(nums, rows, principals);
             let answer = granted(empty());
             return Answered { answer, state };
         }
@@ -75,7 +79,7 @@ impl State {
             base: 0,
             length: 0,
         };
-        let state = bare(nums, rows);
+        let state = bare(nums, rows, principals);
         let answer = refused(1);
         Answered { answer, state }
     }
@@ -92,7 +96,20 @@ impl State {
         let rows = a.rows;
         let pages = a.pages;
         let frames = a.frames;
-        formed(nums, &words, &marks, &mail, &flags, &rows, &pages, &frames)
+        let principals = a.principals;
+        let counts = a.counts;
+        formed(
+            nums,
+            &words,
+            &marks,
+            &mail,
+            &flags,
+            &rows,
+            &pages,
+            &frames,
+            &principals,
+            &counts,
+        )
     }
 
     // One call.
@@ -107,6 +124,8 @@ impl State {
         let mut rows = a.rows;
         let mut pages = a.pages;
         let mut frames = a.frames;
+        let mut principals = a.principals;
+        let mut counts = a.counts;
         let done = call_in(
             a.nums,
             call,
@@ -117,6 +136,8 @@ impl State {
             &mut rows,
             &mut pages,
             &mut frames,
+            &mut principals,
+            &mut counts,
             cells,
             tags,
         );
@@ -131,6 +152,8 @@ impl State {
             rows,
             pages,
             frames,
+            principals,
+            counts,
         };
         self.arrays = after;
         let state = self;
@@ -155,6 +178,8 @@ impl State {
         let mut rows = a.rows;
         let mut pages = a.pages;
         let mut frames = a.frames;
+        let mut principals = a.principals;
+        let mut counts = a.counts;
         let done = command_in(
             a.nums,
             input,
@@ -166,6 +191,8 @@ impl State {
             &mut rows,
             &mut pages,
             &mut frames,
+            &mut principals,
+            &mut counts,
             cells,
             tags,
         );
@@ -180,6 +207,8 @@ impl State {
             rows,
             pages,
             frames,
+            principals,
+            counts,
         };
         self.arrays = after;
         commanded(answer, done.used, self)

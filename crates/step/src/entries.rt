@@ -23,12 +23,25 @@ pub fn call_in(
     rows: &mut [u64],
     pages: &mut [u16],
     frames: &mut [u8],
+    principals: &mut [u64],
+    counts: &mut [u16],
     cells: &mut [u64],
     tags: &mut [u8],
 ) -> Stepped
-    ensures { λ r. ⌜ leaving (r .answer) (arrays (r .nums) (now (words .exit)) (now (marks .exit)) (now (mail .exit)) (now (flags .exit)) (now (rows .exit)) (now (pages .exit)) (now (frames .exit))) (now (cells .exit)) (now (tags .exit)) ≡ stepOn (arrays nums (now (words .entry)) (now (marks .entry)) (now (mail .entry)) (now (flags .entry)) (now (rows .entry)) (now (pages .entry)) (now (frames .entry))) call (now (cells .entry)) (now (tags .entry)) ⌝ }
+    ensures { λ r. ⌜ leaving (r .answer) (arrays (r .nums) (now (words .exit)) (now (marks .exit)) (now (mail .exit)) (now (flags .exit)) (now (rows .exit)) (now (pages .exit)) (now (frames .exit)) (now (principals .exit)) (now (counts .exit))) (now (cells .exit)) (now (tags .exit)) ≡ stepOn (arrays nums (now (words .entry)) (now (marks .entry)) (now (mail .entry)) (now (flags .entry)) (now (rows .entry)) (now (pages .entry)) (now (frames .entry)) (now (principals .entry)) (now (counts .entry))) call (now (cells .entry)) (now (tags .entry)) ⌝ }
 {
-    if !formed(nums, words, marks, mail, flags, rows, pages, frames) {
+    if !formed(
+        nums,
+        words,
+        marks,
+        mail,
+        flags,
+        rows,
+        pages,
+        frames,
+        principals,
+        counts,
+    ) {
         let answer = refused(1);
         return Stepped { answer, nums };
     }
@@ -47,6 +60,8 @@ pub fn call_in(
         rows,
         pages,
         frames,
+        principals,
+        counts,
         cells,
         tags,
     )
@@ -64,12 +79,25 @@ pub fn command_in(
     rows: &mut [u64],
     pages: &mut [u16],
     frames: &mut [u8],
+    principals: &mut [u64],
+    counts: &mut [u16],
     cells: &mut [u64],
     tags: &mut [u8],
 ) -> Ended
-    ensures { λ r. ⌜ telling (leaving (r .answer) (arrays (r .nums) (now (words .exit)) (now (marks .exit)) (now (mail .exit)) (now (flags .exit)) (now (rows .exit)) (now (pages .exit)) (now (frames .exit))) (now (cells .exit)) (now (tags .exit))) (r .used) ≡ commandOn (arrays nums (now (words .entry)) (now (marks .entry)) (now (mail .entry)) (now (flags .entry)) (now (rows .entry)) (now (pages .entry)) (now (frames .entry))) (now (input .entry)) at (now (cells .entry)) (now (tags .entry)) ⌝ }
+    ensures { λ r. ⌜ telling (leaving (r .answer) (arrays (r .nums) (now (words .exit)) (now (marks .exit)) (now (mail .exit)) (now (flags .exit)) (now (rows .exit)) (now (pages .exit)) (now (frames .exit)) (now (principals .exit)) (now (counts .exit))) (now (cells .exit)) (now (tags .exit))) (r .used) ≡ commandOn (arrays nums (now (words .entry)) (now (marks .entry)) (now (mail .entry)) (now (flags .entry)) (now (rows .entry)) (now (pages .entry)) (now (frames .entry)) (now (principals .entry)) (now (counts .entry))) (now (input .entry)) at (now (cells .entry)) (now (tags .entry)) ⌝ }
 {
-    if !formed(nums, words, marks, mail, flags, rows, pages, frames) {
+    if !formed(
+        nums,
+        words,
+        marks,
+        mail,
+        flags,
+        rows,
+        pages,
+        frames,
+        principals,
+        counts,
+    ) {
         let answer = refused(1);
         let used = 0;
         return Ended { answer, nums, used };
@@ -91,6 +119,8 @@ pub fn command_in(
         rows,
         pages,
         frames,
+        principals,
+        counts,
         cells,
         tags,
     )

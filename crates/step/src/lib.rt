@@ -1,5 +1,9 @@
 // The calls in place, over lent arrays of numbers; the state by value. The step and the command that stand here are private:
 // on arrays that are not well formed they promise nothing, so they are no entries.
+use crate::claim_calls::claim;
+use crate::claim_calls::create;
+use crate::claim_calls::destroy;
+use crate::claim_calls::release;
 use crate::collect_calls::collect;
 use crate::page_calls::map;
 use crate::page_calls::unmap;
@@ -32,6 +36,7 @@ ghost use Rattle.arrays.specs.Steps.{leaving};
 ghost use Rattle.step.specs.Entries.{stepped, ruledOn, telling, commandJudgedOn};
 
 mod by_value;
+mod claim_calls;
 mod collect_calls;
 pub mod entries;
 mod page_calls;
@@ -92,12 +97,14 @@ fn step(
     rows: &mut [u64],
     pages: &mut [u16],
     frames: &mut [u8],
+    principals: &mut [u64],
+    counts: &mut [u16],
     cells: &mut [u64],
     tags: &mut [u8],
 ) -> Stepped
-    requires { ⌜ Formed (arrays nums (now words) (now marks) (now mail) (now flags) (now rows) (now pages) (now frames)) ⌝ }
+    requires { ⌜ Formed (arrays nums (now words) (now marks) (now mail) (now flags) (now rows) (now pages) (now frames) (now principals) (now counts)) ⌝ }
     requires { ⌜ (length (now cells) ≡ 16 * nums .f) × (length (now tags) ≡ 16 * nums .f) ⌝ }
-    ensures { λ r. ⌜ leaving (r .answer) (arrays (r .nums) (now (words .exit)) (now (marks .exit)) (now (mail .exit)) (now (flags .exit)) (now (rows .exit)) (now (pages .exit)) (now (frames .exit))) (now (cells .exit)) (now (tags .exit)) ≡ ruledOn (arrays nums (now (words .entry)) (now (marks .entry)) (now (mail .entry)) (now (flags .entry)) (now (rows .entry)) (now (pages .entry)) (now (frames .entry))) call (now (cells .entry)) (now (tags .entry)) ⌝ }
+    ensures { λ r. ⌜ leaving (r .answer) (arrays (r .nums) (now (words .exit)) (now (marks .exit)) (now (mail .exit)) (now (flags .exit)) (now (rows .exit)) (now (pages .exit)) (now (frames .exit)) (now (principals .exit)) (now (counts .exit))) (now (cells .exit)) (now (tags .exit)) ≡ ruledOn (arrays nums (now (words .entry)) (now (marks .entry)) (now (mail .entry)) (now (flags .entry)) (now (rows .entry)) (now (pages .entry)) (now (frames .entry)) (now (principals .entry)) (now (counts .entry))) call (now (cells .entry)) (now (tags .entry)) ⌝ }
 {
     match call {
         Call::Take { party, base, reg } => take(nums, rows, words, marks, party, base, reg, PLAIN),
@@ -108,7 +115,7 @@ fn step(
         Call::Sweep { party, n } => sweep(nums, frames, party, n, cells, tags),
         Call::Collect { party } => collect(nums, rows, pages, words, marks, mail, flags, party),
         Call::Map { party, page, frame } => on(nums, map(nums, pages, frames, party, page, frame)),
-        Call::Unmap { party, page } => on(nums, unmap(nums, pages, frames, party, page)),
+        Call::Unmap { party, page } => on(nums, unmap(nums, pages, frames, counts, party, page)),
         Call::Zero { party, frame } => on(nums, zero(nums.f, frames, party, frame, cells, tags)),
         Call::Load { party, a, off, d } => {
             let answer = load(words, marks, nums, pages, party, a, off, d, cells, tags);
@@ -135,6 +142,35 @@ fn step(
             reg,
             mask,
         } => take(nums, rows, words, marks, party, base, reg, mask),
+        Call::Create {
+            party,
+            parent,
+            child,
+            limit,
+            holder,
+        } => {
+            let answer = create(principals, party, parent, child, limit, holder);
+            on(nums, answer)
+        }
+        Call::Claim {
+            party,
+            principal,
+            page,
+        } => {
+            let answer = claim(nums.v, principals, counts, party, principal, page);
+            on(nums, answer)
+        }
+        Call::Release {
+            party,
+            principal,
+            page,
+        } => {
+            let answer = release(nums.v, principals, counts, party, principal, page);
+            on(nums, answer)
+        }
+        Call::Destroy { party, principal } => {
+            on(nums, destroy(principals, counts, party, principal))
+        }
     }
 }
 
@@ -150,12 +186,14 @@ fn command(
     rows: &mut [u64],
     pages: &mut [u16],
     frames: &mut [u8],
+    principals: &mut [u64],
+    counts: &mut [u16],
     cells: &mut [u64],
     tags: &mut [u8],
 ) -> Ended
-    requires { ⌜ Formed (arrays nums (now words) (now marks) (now mail) (now flags) (now rows) (now pages) (now frames)) ⌝ }
+    requires { ⌜ Formed (arrays nums (now words) (now marks) (now mail) (now flags) (now rows) (now pages) (now frames) (now principals) (now counts)) ⌝ }
     requires { ⌜ (length (now cells) ≡ 16 * nums .f) × (length (now tags) ≡ 16 * nums .f) ⌝ }
-    ensures { λ r. ⌜ telling (leaving (r .answer) (arrays (r .nums) (now (words .exit)) (now (marks .exit)) (now (mail .exit)) (now (flags .exit)) (now (rows .exit)) (now (pages .exit)) (now (frames .exit))) (now (cells .exit)) (now (tags .exit))) (r .used) ≡ commandJudgedOn (arrays nums (now (words .entry)) (now (marks .entry)) (now (mail .entry)) (now (flags .entry)) (now (rows .entry)) (now (pages .entry)) (now (frames .entry))) (now (input .entry)) at (now (cells .entry)) (now (tags .entry)) ⌝ }
+    ensures { λ r. ⌜ telling (leaving (r .answer) (arrays (r .nums) (now (words .exit)) (now (marks .exit)) (now (mail .exit)) (now (flags .exit)) (now (rows .exit)) (now (pages .exit)) (now (frames .exit)) (now (principals .exit)) (now (counts .exit))) (now (cells .exit)) (now (tags .exit))) (r .used) ≡ commandJudgedOn (arrays nums (now (words .entry)) (now (marks .entry)) (now (mail .entry)) (now (flags .entry)) (now (rows .entry)) (now (pages .entry)) (now (frames .entry)) (now (principals .entry)) (now (counts .entry))) (now (input .entry)) at (now (cells .entry)) (now (tags .entry)) ⌝ }
 {
     match read_at(input, at) {
         Reading::Read { call, used } => {
@@ -169,6 +207,8 @@ fn command(
                 rows,
                 pages,
                 frames,
+                principals,
+                counts,
                 cells,
                 tags,
             );

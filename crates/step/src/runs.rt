@@ -55,13 +55,15 @@ fn run(
     rows: &mut [u64],
     pages: &mut [u16],
     frames: &mut [u8],
+    principals: &mut [u64],
+    counts: &mut [u16],
     cells: &mut [u64],
     tags: &mut [u8],
     answers: &mut [u64],
 ) -> Ran
-    requires { ⌜ Formed (arrays start (now words) (now marks) (now mail) (now flags) (now rows) (now pages) (now frames)) ⌝ }
+    requires { ⌜ Formed (arrays start (now words) (now marks) (now mail) (now flags) (now rows) (now pages) (now frames) (now principals) (now counts)) ⌝ }
     requires { ⌜ (length (now cells) ≡ 16 * start .f) × (length (now tags) ≡ 16 * start .f) ⌝ }
-    ensures { λ r. ⌜ running (r .done) (r .at) (arrays (r .nums) (now (words .exit)) (now (marks .exit)) (now (mail .exit)) (now (flags .exit)) (now (rows .exit)) (now (pages .exit)) (now (frames .exit))) (now (cells .exit)) (now (tags .exit)) (now (answers .exit)) ≡ runIn (arrays start (now (words .entry)) (now (marks .entry)) (now (mail .entry)) (now (flags .entry)) (now (rows .entry)) (now (pages .entry)) (now (frames .entry))) (now (input .entry)) begin (now (cells .entry)) (now (tags .entry)) (now (answers .entry)) ⌝ }
+    ensures { λ r. ⌜ running (r .done) (r .at) (arrays (r .nums) (now (words .exit)) (now (marks .exit)) (now (mail .exit)) (now (flags .exit)) (now (rows .exit)) (now (pages .exit)) (now (frames .exit)) (now (principals .exit)) (now (counts .exit))) (now (cells .exit)) (now (tags .exit)) (now (answers .exit)) ≡ runIn (arrays start (now (words .entry)) (now (marks .entry)) (now (mail .entry)) (now (flags .entry)) (now (rows .entry)) (now (pages .entry)) (now (frames .entry)) (now (principals .entry)) (now (counts .entry))) (now (input .entry)) begin (now (cells .entry)) (now (tags .entry)) (now (answers .entry)) ⌝ }
 {
     let room = answers.len() / 4;
     let mut nums = start;
@@ -79,6 +81,8 @@ fn run(
             rows,
             pages,
             frames,
+            principals,
+            counts,
             cells,
             tags,
         );
@@ -108,11 +112,13 @@ pub fn commands_in(
     rows: &mut [u64],
     pages: &mut [u16],
     frames: &mut [u8],
+    principals: &mut [u64],
+    counts: &mut [u16],
     cells: &mut [u64],
     tags: &mut [u8],
     answers: &mut [u64],
 ) -> Ran
-    ensures { λ r. ⌜ running (r .done) (r .at) (arrays (r .nums) (now (words .exit)) (now (marks .exit)) (now (mail .exit)) (now (flags .exit)) (now (rows .exit)) (now (pages .exit)) (now (frames .exit))) (now (cells .exit)) (now (tags .exit)) (now (answers .exit)) ≡ runIn (arrays nums (now (words .entry)) (now (marks .entry)) (now (mail .entry)) (now (flags .entry)) (now (rows .entry)) (now (pages .entry)) (now (frames .entry))) (now (input .entry)) at (now (cells .entry)) (now (tags .entry)) (now (answers .entry)) ⌝ }
+    ensures { λ r. ⌜ running (r .done) (r .at) (arrays (r .nums) (now (words .exit)) (now (marks .exit)) (now (mail .exit)) (now (flags .exit)) (now (rows .exit)) (now (pages .exit)) (now (frames .exit)) (now (principals .exit)) (now (counts .exit))) (now (cells .exit)) (now (tags .exit)) (now (answers .exit)) ≡ runIn (arrays nums (now (words .entry)) (now (marks .entry)) (now (mail .entry)) (now (flags .entry)) (now (rows .entry)) (now (pages .entry)) (now (frames .entry)) (now (principals .entry)) (now (counts .entry))) (now (input .entry)) at (now (cells .entry)) (now (tags .entry)) (now (answers .entry)) ⌝ }
 {
     if !((at < input.len()) & (4 <= answers.len())) {
         return Ran { nums, done: 0, at };
@@ -126,6 +132,8 @@ pub fn commands_in(
         &rows[..],
         &pages[..],
         &frames[..],
+        &principals[..],
+        &counts[..],
     ) {
         return refuse(nums, at, 1, answers);
     }
@@ -144,6 +152,8 @@ pub fn commands_in(
         rows,
         pages,
         frames,
+        principals,
+        counts,
         cells,
         tags,
         answers,

@@ -35,15 +35,28 @@ fn one(
     rows: &mut [u64],
     pages: &mut [u16],
     frames: &mut [u8],
+    principals: &mut [u64],
+    counts: &mut [u16],
     cells: &mut [u64],
     tags: &mut [u8],
 ) -> Ended
-    requires { ⌜ Formed (arrays nums (now words) (now marks) (now mail) (now flags) (now rows) (now pages) (now frames)) ⌝ }
+    requires { ⌜ Formed (arrays nums (now words) (now marks) (now mail) (now flags) (now rows) (now pages) (now frames) (now principals) (now counts)) ⌝ }
     requires { ⌜ (length (now cells) ≡ 16 * nums .f) × (length (now tags) ≡ 16 * nums .f) ⌝ }
-    ensures { λ r. ⌜ telling (leaving (r .answer) (arrays (r .nums) (now (words .exit)) (now (marks .exit)) (now (mail .exit)) (now (flags .exit)) (now (rows .exit)) (now (pages .exit)) (now (frames .exit))) (now (cells .exit)) (now (tags .exit))) (r .used) ≡ commandJudgedOn (arrays nums (now (words .entry)) (now (marks .entry)) (now (mail .entry)) (now (flags .entry)) (now (rows .entry)) (now (pages .entry)) (now (frames .entry))) (now (input .entry)) at (now (cells .entry)) (now (tags .entry)) ⌝ }
+    ensures { λ r. ⌜ telling (leaving (r .answer) (arrays (r .nums) (now (words .exit)) (now (marks .exit)) (now (mail .exit)) (now (flags .exit)) (now (rows .exit)) (now (pages .exit)) (now (frames .exit)) (now (principals .exit)) (now (counts .exit))) (now (cells .exit)) (now (tags .exit))) (r .used) ≡ commandJudgedOn (arrays nums (now (words .entry)) (now (marks .entry)) (now (mail .entry)) (now (flags .entry)) (now (rows .entry)) (now (pages .entry)) (now (frames .entry)) (now (principals .entry)) (now (counts .entry))) (now (input .entry)) at (now (cells .entry)) (now (tags .entry)) ⌝ }
 {
     if checked {
-        if !formed(nums, words, marks, mail, flags, rows, pages, frames) {
+        if !formed(
+            nums,
+            words,
+            marks,
+            mail,
+            flags,
+            rows,
+            pages,
+            frames,
+            principals,
+            counts,
+        ) {
             let answer = refused(1);
             return Ended {
                 answer,
@@ -63,6 +76,8 @@ fn one(
         rows,
         pages,
         frames,
+        principals,
+        counts,
         cells,
         tags,
     )
@@ -80,17 +95,19 @@ fn commands(
     rows: &mut [u64],
     pages: &mut [u16],
     frames: &mut [u8],
+    principals: &mut [u64],
+    counts: &mut [u16],
     cells: &mut [u64],
     tags: &mut [u8],
     begin: usize,
     out: &mut [u8],
 ) -> usize
-    requires { ⌜ Formed (arrays start (now words) (now marks) (now mail) (now flags) (now rows) (now pages) (now frames)) ⌝ }
+    requires { ⌜ Formed (arrays start (now words) (now marks) (now mail) (now flags) (now rows) (now pages) (now frames) (now principals) (now counts)) ⌝ }
     requires { ⌜ (length (now cells) ≡ 16 * start .f) × (length (now tags) ≡ 16 * start .f) ⌝ }
     requires { ⌜ 3 ≤ length (now input) ⌝ }
     requires { ⌜ length (now input) ≤ 32768 ⌝ }
     requires { ⌜ begin ≤ 26 ⌝ }
-    ensures { λ r. ⌜ Laid (linesFrom (length (now (input .entry))) (stateOf (arrays start (now (words .entry)) (now (marks .entry)) (now (mail .entry)) (now (flags .entry)) (now (rows .entry)) (now (pages .entry)) (now (frames .entry)))) (now (input .entry)) 3 (now (cells .entry)) (now (tags .entry))) begin (now (out .entry)) r (now (out .exit)) ⌝ }
+    ensures { λ r. ⌜ Laid (linesFrom (length (now (input .entry))) (stateOf (arrays start (now (words .entry)) (now (marks .entry)) (now (mail .entry)) (now (flags .entry)) (now (rows .entry)) (now (pages .entry)) (now (frames .entry)) (now (principals .entry)) (now (counts .entry)))) (now (input .entry)) 3 (now (cells .entry)) (now (tags .entry))) begin (now (out .entry)) r (now (out .exit)) ⌝ }
     ensures { λ r. ⌜ r ≤ 13 * length (now (input .entry)) ⌝ }
 {
     let mut nums = start;
@@ -109,6 +126,8 @@ fn commands(
             rows,
             pages,
             frames,
+            principals,
+            counts,
             cells,
             tags,
         );
@@ -142,7 +161,10 @@ fn started(checked: bool, v: u16, f: u16, input: &[u8], begin: usize, out: &mut 
     let mut rows = [0u64; 64];
     let mut pages = [0u16; 256];
     let mut frames = [0u8; 128];
+    let mut principals = [0u64; 32];
+    let mut counts = [0u16; 8192];
     rows[0] = 1048576 * (v as u64) + 2533274790395904;
+    principals[0] = 4294975488;
     let nums = Numbers {
         v,
         f,
@@ -163,6 +185,8 @@ fn started(checked: bool, v: u16, f: u16, input: &[u8], begin: usize, out: &mut 
         &mut rows,
         &mut pages,
         &mut frames,
+        &mut principals,
+        &mut counts,
         &mut cells[..n],
         &mut tags[..n],
         begin,

@@ -17,7 +17,7 @@ ghost use Rattle.arrays.specs.Steps.{answer};
 ghost use Rattle.step.specs.Parts.{OnRows, OnTable, OnRowsAndWords};
 
 // The answer of a call that names no word: 0, or the refusal's number.
-fn coded(code: u8) -> Answer
+pub(crate) fn coded(code: u8) -> Answer
     ensures { λ r. ⌜ r ≡ answer code empty ⌝ }
 {
     Answer {

@@ -1,6 +1,7 @@
 //! The customer's scene, a step a line: a manager and three houses work in ranges of their own and
 //! pass an entry on; the manager takes the entries back from the loader, with a sweep in slices
-//! between the houses' calls; and the loader tries to write with its old capability.
+//! between the houses' calls; the loader tries to write with its old capability; and two houses share
+//! a page, which stays until both have let go.
 //!
 //! `cargo run --example scene` prints `code number tag` of each answer, the step, and the answer in
 //! words. `examples/scene.c` prints the same lines, which are stored in `tests/examples.out`.
@@ -44,7 +45,7 @@ fn play() -> Result<Machine, Refusal> {
     queue(&mut machine, &opening());
     let work = [taking(), raw_entry(), expanded_entry()].into_iter().flatten();
     let revocation = [revoking(), sweeping()].into_iter().flatten();
-    let afterwards = [approving(), old_capabilities()].into_iter().flatten();
+    let afterwards = [approving(), old_capabilities(), shared_page()].into_iter().flatten();
     for Step { told, call } in work.chain(revocation).chain(afterwards) {
         tell(&told, &call, machine.call(&call));
     }
@@ -296,5 +297,39 @@ fn old_capabilities() -> Vec<Step> {
             "The fit check loads the entry as it approved it",
             Call::Load { party: FIT_CHECK, a: 1, off: 0, d: 2 },
         ),
+    ]
+}
+
+/// A page that two houses need is claimed by a principal of each.
+fn shared_page() -> Vec<Step> {
+    let create = |child, limit, holder| {
+        let (party, parent) = (MANAGER, 0);
+        Call::Create { party, parent, child, limit, holder }
+    };
+    let claim = |party, principal, page| Call::Claim { party, principal, page: VirtualPage(page) };
+    let (page, off) = (VirtualPage(1), 0);
+    let unmap = Call::Unmap { party: MANAGER, page };
+    let release = Call::Release { party: EXPANDER, principal: 1, page };
+    let load = Call::Load { party: HYPHENATOR, a: 1, off, d: 2 };
+    let destroy = |party| Call::Destroy { party, principal: 2 };
+    vec![
+        step(
+            "The manager creates principal 1 with limit 2 for the expander",
+            create(1, 2, EXPANDER),
+        ),
+        step(
+            "The manager creates principal 2 with limit 1 for the hyphenator",
+            create(2, 1, HYPHENATOR),
+        ),
+        step("The expander claims page 1, its own range", claim(EXPANDER, 1, 1)),
+        step("The hyphenator, which reads there, claims page 1 too", claim(HYPHENATOR, 2, 1)),
+        step("The hyphenator tries to claim page 2, beyond its limit", claim(HYPHENATOR, 2, 2)),
+        step("The manager tries to unmap page 1, which both claim", unmap),
+        step("The expander lets go of page 1", release),
+        step("The manager tries to unmap page 1, which one still claims", unmap),
+        step("The hyphenator loads the expanded entry, which is still there", load),
+        step("The expander tries to destroy the principal of the hyphenator", destroy(EXPANDER)),
+        step("The manager destroys principal 2", destroy(MANAGER)),
+        step("The manager unmaps page 1, which nobody claims now", unmap),
     ]
 }

@@ -81,7 +81,7 @@ impl Done {
     pub fn each(numbers: &[u64]) -> impl ExactSizeIterator<Item = Done> + '_ {
         numbers.chunks_exact(ANSWER_NUMBERS).map(|four| {
             let four = four.try_into().expect("a chunk is of four");
-            Done::of(four).expect("a run writes codes 0 to 19 and tags 0 and 1")
+            Done::of(four).expect("a run writes codes 0 to 22 and tags 0 and 1")
         })
     }
 }

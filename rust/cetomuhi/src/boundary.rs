@@ -7,7 +7,7 @@
 #[cfg(doc)]
 use crate::VERSION;
 
-/// The eight arrays of a state, lent for reading: those of [`State`](crate::State), of any lengths.
+/// The ten arrays of a state, lent for reading: those of [`State`](crate::State), of any lengths.
 #[derive(Clone, Copy, Debug)]
 #[allow(missing_docs)]
 pub struct Arrays<'a> {
@@ -19,6 +19,8 @@ pub struct Arrays<'a> {
     pub rows: &'a [u64],
     pub pages: &'a [u16],
     pub frames: &'a [u8],
+    pub principals: &'a [u64],
+    pub counts: &'a [u16],
 }
 
 /// The same lent for a call, which may change them.
@@ -33,6 +35,8 @@ pub struct ArraysMut<'a> {
     pub rows: &'a mut [u64],
     pub pages: &'a mut [u16],
     pub frames: &'a mut [u8],
+    pub principals: &'a mut [u64],
+    pub counts: &'a mut [u16],
 }
 
 /// Lent memory: cells, and as many tag bytes.
@@ -58,6 +62,8 @@ mod c {
                     rows: over_a_state!($pointer u64), rows_len: usize,
                     pages: over_a_state!($pointer u16), pages_len: usize,
                     frames: over_a_state!($pointer u8), frames_len: usize,
+                    principals: over_a_state!($pointer u64), principals_len: usize,
+                    counts: over_a_state!($pointer u16), counts_len: usize,
                     $($a: $at,)*
                 ) -> $r;)*
             }
@@ -113,6 +119,8 @@ macro_rules! lend {
             $state.rows.$pointer(), $state.rows.len(),
             $state.pages.$pointer(), $state.pages.len(),
             $state.frames.$pointer(), $state.frames.len(),
+            $state.principals.$pointer(), $state.principals.len(),
+            $state.counts.$pointer(), $state.counts.len(),
             $($a,)*
         )
     };
@@ -219,8 +227,8 @@ pub fn version() -> u64 {
     unsafe { c::cetomuhi_version() }
 }
 
-/// How long each array is, by its place in [`Arrays`] (0 to 7); the numbers of an answer (8) and of
-/// a call (9); 0 for any other question.
+/// How long each array is, by its place in [`Arrays`] (0 to 9); the numbers of an answer (10) and of
+/// a call (11); 0 for any other question.
 pub fn size(which: u64) -> usize {
     // SAFETY: no pointers.
     unsafe { c::cetomuhi_size(which) }

@@ -1,4 +1,4 @@
-//! The seventeen kinds of call, and their bytes by the library's writer and reader.
+//! The twenty-one kinds of call, and their bytes by the library's writer and reader.
 
 use crate::boundary;
 use crate::Refusal;
@@ -69,6 +69,17 @@ pub enum Call {
     /// 11: a take whose capability has the permissions also in `mask`; bits above 15 are ignored.
     /// Who keeps capabilities in its range takes it with [`Capability::ALL`](crate::Capability::ALL).
     TakeMasked { party: u8, base: u16, reg: u8, mask: u8 },
+    /// 12: principal `child` comes into being below `parent`, which pays its limit; `holder` holds it.
+    /// The caller holds the parent.
+    Create { party: u8, parent: u8, child: u8, limit: u16, holder: u8 },
+    /// 13: the principal, which the caller holds, counts the page once more; the first count of a
+    /// page spends 1 of its limit. A claimed page is not unmapped.
+    Claim { party: u8, principal: u8, page: VirtualPage },
+    /// 14: the principal counts the page once less; the last one gives 1 back.
+    Release { party: u8, principal: u8, page: VirtualPage },
+    /// 15: the principal and all below it are no more, nor their claims, and the parent, which the
+    /// caller holds, gets their limits.
+    Destroy { party: u8, principal: u8 },
 }
 
 /// How many numbers a call has at the boundary: the command, its operands, and 0 after them.
@@ -145,6 +156,16 @@ impl Call {
             Call::TakeMasked { party, base, reg, mask } => {
                 (0x11, party, &[base.into(), reg.into(), mask.into()])
             }
+            Call::Create { party, parent, child, limit, holder } => {
+                (0x12, party, &[parent.into(), child.into(), limit.into(), holder.into()])
+            }
+            Call::Claim { party, principal, page } => {
+                (0x13, party, &[principal.into(), page.0.into()])
+            }
+            Call::Release { party, principal, page } => {
+                (0x14, party, &[principal.into(), page.0.into()])
+            }
+            Call::Destroy { party, principal } => (0x15, party, &[principal.into()]),
         };
         let mut numbers = [0; CALL_NUMBERS];
         numbers[0] = command;
@@ -155,7 +176,7 @@ impl Call {
 
     /// The call of seven numbers; none if the command or an operand is out of range.
     pub fn of(numbers: [u64; CALL_NUMBERS]) -> Option<Call> {
-        let [command, party, x, y, z, mask, d] = numbers;
+        let [command, party, x, y, z, t, d] = numbers;
         let party = byte(party)?;
         let call = match command {
             0x01 => Call::Take { party, base: two(x)?, reg: byte(y)? },
@@ -172,12 +193,19 @@ impl Call {
             0x0C => Call::Store { party, a: byte(x)?, off: two(y)?, s: byte(z)? },
             0x0D => {
                 let (s, off, len) = (byte(x)?, two(y)?, two(z)?);
-                Call::Narrow { party, s, off, len, mask: byte(mask)?, d: byte(d)? }
+                Call::Narrow { party, s, off, len, mask: byte(t)?, d: byte(d)? }
             }
             0x0E => Call::Number { party, d: byte(x)?, value: y },
             0x0F => Call::Grant { party, s: byte(x)?, to: byte(y)? },
             0x10 => Call::Receive { party, d: byte(x)? },
             0x11 => Call::TakeMasked { party, base: two(x)?, reg: byte(y)?, mask: byte(z)? },
+            0x12 => {
+                let (parent, child, limit) = (byte(x)?, byte(y)?, two(z)?);
+                Call::Create { party, parent, child, limit, holder: byte(t)? }
+            }
+            0x13 => Call::Claim { party, principal: byte(x)?, page: VirtualPage(byte(y)?) },
+            0x14 => Call::Release { party, principal: byte(x)?, page: VirtualPage(byte(y)?) },
+            0x15 => Call::Destroy { party, principal: byte(x)? },
             _ => return None,
         };
         (call.numbers() == numbers).then_some(call)
@@ -236,6 +264,20 @@ impl fmt::Display for Call {
             Call::Receive { party, d } => write!(out, "party {party} receives into register {d}"),
             Call::TakeMasked { party, base, reg, mask } => {
                 write!(out, "party {party} takes {} into register {reg} with mask {mask}", at(base))
+            }
+            Call::Create { party, parent, child, limit, holder } => write!(
+                out,
+                "party {party} creates principal {child} below principal {parent} with limit \
+                 {limit} for party {holder}"
+            ),
+            Call::Claim { party, principal, page } => {
+                write!(out, "party {party} claims {page} for principal {principal}")
+            }
+            Call::Release { party, principal, page } => {
+                write!(out, "party {party} releases {page} for principal {principal}")
+            }
+            Call::Destroy { party, principal } => {
+                write!(out, "party {party} destroys principal {principal}")
             }
         }
     }

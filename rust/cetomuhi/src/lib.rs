@@ -3,9 +3,10 @@
 //!
 //! This crate is the safe Rust side of the library `libcetomuhi.a`, whose functions are proved to
 //! answer for all bytes, numbers and lengths by the rules of document 01, "The reservation machine
-//! of the composition server", with requests 2026-01 and 2026-04. A [`Machine`] owns its state and
-//! memory; a [`State`] is lent memory at every call. A [`Call`] is one of seventeen kinds; its
-//! [`Answer`] is granted, or one of nineteen [`Refusal`]s, and then nothing has changed.
+//! of the composition server", with requests 2026-01, 2026-02, 2026-04 and 2026-05. A [`Machine`]
+//! owns its state and memory; a [`State`] is lent memory at every call. A [`Call`] is one of
+//! twenty-one kinds; its [`Answer`] is granted, or one of twenty-two [`Refusal`]s, and then nothing
+//! has changed.
 //!
 //! ```
 //! use cetomuhi::{Call, Frame, Machine, Refusal, VirtualPage};
@@ -66,13 +67,13 @@ pub use answer::{Answer, Done, Run, ANSWER_NUMBERS};
 pub use call::{Call, Frame, VirtualPage, CALL_NUMBERS, LONGEST};
 pub use machine::{Machine, PAGE_CELLS};
 pub use refusal::Refusal;
-pub use shown::{FrameState, Mailbox, PageState, Register};
+pub use shown::{Claim, FrameState, Mailbox, PageState, Principal, Register};
 pub use shown::{Reservation, ReservationState, Revocation, Taker};
 pub use state::State;
 pub use word::{Capability, Word};
 
 /// The version of the library that this crate is for.
-pub const VERSION: u64 = 4;
+pub const VERSION: u64 = 5;
 
 /// The exported functions over slices of any lengths, one for one. They are safe; the rest of the
 /// crate is more convenient.

@@ -3,7 +3,8 @@
 use std::error::Error;
 use std::fmt;
 
-/// Document 01's refusals, by their numbers. A call gets the lowest that applies.
+/// The documents' refusals, by their numbers. A call gets the first that applies: they are judged in
+/// the order of their numbers, but 20 and 21 after 12, and 22 after 13.
 #[derive(Clone, Copy, Debug, PartialEq, Eq, PartialOrd, Ord, Hash)]
 #[repr(u8)]
 pub enum Refusal {
@@ -14,7 +15,7 @@ pub enum Refusal {
     /// No byte is found at the place, the first byte is no command, or the input ends before its
     /// operands do. A buffer too short for a call's bytes too.
     NoCommand = 3,
-    /// A party number, a `to` or a register number is above 7.
+    /// A party number, a `to`, a holder or a register number is above 7.
     AboveSeven = 4,
     /// A command 05 to 0A comes from a party other than 0.
     NotManager = 5,
@@ -49,11 +50,19 @@ pub enum Refusal {
     NotMapped = 18,
     /// The mailbox granted to is full, or the one received from is empty.
     Mailbox = 19,
+    /// The principal is not in being, or not held as it must be: by the caller, or, to destroy it,
+    /// its parent by the caller. Or the number of a principal to create is taken or above 31.
+    WrongPrincipal = 20,
+    /// A create or a page's first claim finds too little unspent limit, a claim finds a count of
+    /// 65,535, or a release one of 0.
+    ClaimLimit = 21,
+    /// The page to unmap has a claim.
+    Claimed = 22,
 }
 
 impl Refusal {
     /// All of them, in the order of their numbers.
-    pub const ALL: [Refusal; 19] = [
+    pub const ALL: [Refusal; 22] = [
         Refusal::IllFormed,
         Refusal::LentLength,
         Refusal::NoCommand,
@@ -73,6 +82,9 @@ impl Refusal {
         Refusal::OutOfBounds,
         Refusal::NotMapped,
         Refusal::Mailbox,
+        Refusal::WrongPrincipal,
+        Refusal::ClaimLimit,
+        Refusal::Claimed,
     ];
 
     /// The refusal of a number, if there is one.
@@ -81,7 +93,7 @@ impl Refusal {
         Refusal::ALL.get(index).copied()
     }
 
-    /// Its number, 1 to 19.
+    /// Its number, 1 to 22.
     pub fn number(self) -> u8 {
         self as u8
     }
@@ -119,6 +131,13 @@ impl Refusal {
             Refusal::Mailbox => {
                 "the mailbox to grant to is full, or the one to receive from is empty"
             }
+            Refusal::WrongPrincipal => {
+                "the principal is not in being or not held as needed, or its number is not free"
+            }
+            Refusal::ClaimLimit => {
+                "too little limit is unspent, or the count is at its most, or at 0"
+            }
+            Refusal::Claimed => "the page has a claim",
         }
     }
 }

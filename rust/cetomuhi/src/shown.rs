@@ -85,6 +85,28 @@ pub struct Mailbox {
     pub word: Word,
 }
 
+/// A principal in being. Its limit is what it has spent, 1 for each page that it claims, and what is
+/// unspent.
+#[derive(Clone, Copy, Debug, PartialEq, Eq, Hash)]
+#[allow(missing_docs)]
+pub struct Principal {
+    pub number: u8,
+    pub holder: u8,
+    /// Principal 0 has none.
+    pub parent: Option<u8>,
+    pub spent: u16,
+    pub unspent: u16,
+}
+
+/// How often a principal claims a page that it claims.
+#[derive(Clone, Copy, Debug, PartialEq, Eq, Hash)]
+#[allow(missing_docs)]
+pub struct Claim {
+    pub principal: u8,
+    pub page: VirtualPage,
+    pub count: u16,
+}
+
 impl State {
     /// V, the number of virtual pages.
     pub fn page_count(&self) -> usize {
@@ -131,6 +153,22 @@ impl State {
         let full = words(&self.mail, &self.flags).filter(|(_, word)| word.tag);
         full.map(|(party, word)| Mailbox { party, word })
     }
+
+    /// The principals in being, by number.
+    pub fn principals(&self) -> impl Iterator<Item = Principal> + '_ {
+        let entries = (0..=u8::MAX).zip(self.principals.iter().zip(self.counts.chunks(256)));
+        let in_being = entries.filter(|(_, (code, _))| **code >> 32 != 0);
+        in_being.map(|(number, (code, counts))| Principal::of(number, *code, counts))
+    }
+
+    /// The claims, by principal and page.
+    pub fn claims(&self) -> impl Iterator<Item = Claim> + '_ {
+        let places = (0..=u16::MAX).zip(&self.counts).filter(|(_, count)| **count > 0);
+        places.map(|(place, count)| {
+            let [principal, page] = place.to_be_bytes();
+            Claim { principal, page: VirtualPage(page), count: *count }
+        })
+    }
 }
 
 fn words<'a>(cells: &'a [u64], tags: &'a [u8]) -> impl Iterator<Item = (u8, Word)> + 'a {
@@ -152,6 +190,20 @@ impl Reservation {
             state,
             holder: (row >> 40) as u8,
             taker: Taker::of((row >> 48) as u8),
+        }
+    }
+}
+
+impl Principal {
+    /// The principal that a number and its counts read as.
+    fn of(number: u8, code: u64, counts: &[u16]) -> Principal {
+        let parent = (code >> 16) as u8;
+        Principal {
+            number,
+            holder: (code >> 24) as u8,
+            parent: (number > 0).then_some(parent),
+            spent: counts.iter().map(|count| u16::from(*count > 0)).sum(),
+            unspent: code as u16,
         }
     }
 }
@@ -241,5 +293,24 @@ impl fmt::Display for FrameState {
             FrameState::Free => "Free",
             FrameState::Mapped => "Mapped",
         })
+    }
+}
+
+/// Who holds it, below which principal it stands, and its limit.
+impl fmt::Display for Principal {
+    fn fmt(&self, out: &mut fmt::Formatter) -> fmt::Result {
+        let Principal { number, holder, parent, spent, unspent } = self;
+        write!(out, "principal {number}, held by party {holder}")?;
+        if let Some(parent) = parent {
+            write!(out, ", below principal {parent}")?;
+        }
+        write!(out, ", {spent} spent and {unspent} unspent")
+    }
+}
+
+impl fmt::Display for Claim {
+    fn fmt(&self, out: &mut fmt::Formatter) -> fmt::Result {
+        let Claim { principal, page, count } = self;
+        write!(out, "principal {principal} claims {page}, count {count}")
     }
 }

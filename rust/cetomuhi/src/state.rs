@@ -4,7 +4,7 @@ use crate::answer::ANSWER_NUMBERS;
 use crate::boundary::{self, Arrays, ArraysMut, Memory};
 use crate::{Answer, Call, Done, Refusal, Run};
 
-/// The whole state: eight arrays of numbers, over memory that the caller lends at each call.
+/// The whole state: ten arrays of numbers, over memory that the caller lends at each call.
 ///
 /// ```
 /// use cetomuhi::{Call, Frame, Refusal, State};
@@ -43,6 +43,11 @@ pub struct State {
     pub pages: [u16; 256],
     /// Frames: 0 Dirty, 1 Free, 2 Mapped.
     pub frames: [u8; 128],
+    /// Principals: what is unspent of the limit in bits 0 to 15, parent 16 to 23, holder 24 to 31, and
+    /// bit 32; one that is not in being is 0.
+    pub principals: [u64; 32],
+    /// How often principals claim pages: that of principal p and page n at 256 p + n.
+    pub counts: [u16; 8192],
 }
 
 /// The all-zero state, which is not well formed: what a refused start leaves.
@@ -57,6 +62,8 @@ impl Default for State {
             rows: [0; 64],
             pages: [0; 256],
             frames: [0; 128],
+            principals: [0; 32],
+            counts: [0; 8192],
         }
     }
 }
@@ -82,7 +89,7 @@ impl State {
         }
     }
 
-    /// Whether the state is well formed, as document 01 says. Every call tests it; this is for
+    /// Whether the state is well formed, as the documents say. Every call tests it; this is for
     /// audits, and for a state read back from elsewhere.
     pub fn is_well_formed(&self) -> bool {
         boundary::well_formed(self.arrays())
@@ -98,7 +105,7 @@ impl State {
     pub fn command(&mut self, cells: &mut [u64], tags: &mut [u8], input: &[u8], at: usize) -> Done {
         let mut numbers = [0; ANSWER_NUMBERS];
         boundary::command(self.lend(), Memory { cells, tags }, input, at, &mut numbers);
-        Done::of(numbers).expect("the library answers codes 0 to 19 and tags 0 and 1")
+        Done::of(numbers).expect("the library answers codes 0 to 22 and tags 0 and 1")
     }
 
     /// The commands of the input from a place on, up to its end or a refusal 1 to 3. The state is
@@ -136,6 +143,8 @@ impl State {
             rows: &self.rows,
             pages: &self.pages,
             frames: &self.frames,
+            principals: &self.principals,
+            counts: &self.counts,
         }
     }
 
@@ -150,6 +159,8 @@ impl State {
             rows: &mut self.rows,
             pages: &mut self.pages,
             frames: &mut self.frames,
+            principals: &mut self.principals,
+            counts: &mut self.counts,
         }
     }
 }

@@ -14,6 +14,8 @@ struct Loose {
     rows: Vec<u64>,
     pages: Vec<u16>,
     frames: Vec<u8>,
+    principals: Vec<u64>,
+    counts: Vec<u16>,
 }
 
 impl Loose {
@@ -27,6 +29,8 @@ impl Loose {
             rows: state.rows.into(),
             pages: state.pages.into(),
             frames: state.frames.into(),
+            principals: state.principals.into(),
+            counts: state.counts.into(),
         }
     }
 
@@ -40,6 +44,8 @@ impl Loose {
             rows: &self.rows,
             pages: &self.pages,
             frames: &self.frames,
+            principals: &self.principals,
+            counts: &self.counts,
         }
     }
 
@@ -53,6 +59,8 @@ impl Loose {
             rows: &mut self.rows,
             pages: &mut self.pages,
             frames: &mut self.frames,
+            principals: &mut self.principals,
+            counts: &mut self.counts,
         }
     }
 
@@ -66,19 +74,21 @@ impl Loose {
             4 => self.flags.resize(length, 0),
             5 => self.rows.resize(length, 0),
             6 => self.pages.resize(length, 0),
-            _ => self.frames.resize(length, 0),
+            7 => self.frames.resize(length, 0),
+            8 => self.principals.resize(length, 0),
+            _ => self.counts.resize(length, 0),
         }
     }
 }
 
-const LENGTHS: [usize; 8] = [6, 64, 64, 8, 8, 64, 256, 128];
+const LENGTHS: [usize; 10] = [6, 64, 64, 8, 8, 64, 256, 128, 32, 8192];
 
 #[test]
 fn the_library_is_the_crates_own() {
     assert_eq!(raw::version(), VERSION);
-    let sizes: Vec<usize> = (0..10).map(raw::size).collect();
+    let sizes: Vec<usize> = (0..12).map(raw::size).collect();
     assert_eq!(sizes, [&LENGTHS[..], &[ANSWER_NUMBERS, CALL_NUMBERS]].concat());
-    assert_eq!((raw::size(10), raw::size(u64::MAX)), (0, 0));
+    assert_eq!((raw::size(12), raw::size(u64::MAX)), (0, 0));
 }
 
 /// Every array one entry short, one too long, and empty: refusal 1, and nothing is written.

@@ -4,6 +4,7 @@ use cetomuhi::{Call, Frame, Machine, Refusal, State, VirtualPage};
 
 /// Page 0 is Mapped to frame 0, page 2 Freed; cells 0 to 31 are party 1's in register 0, in pieces of
 /// all sorts in its other registers; the mailbox of party 2 is full; cells 32 to 47 are being revoked.
+/// Principal 1 is party 3's and claims page 0 with all that it has; below it 2 is party 5's.
 fn busy() -> Machine {
     let calls = [
         Call::Zero { party: 0, frame: Frame(0) },
@@ -21,6 +22,9 @@ fn busy() -> Machine {
         Call::Grant { party: 1, s: 0, to: 2 },
         Call::Revoke { party: 0, base: 32 },
         Call::Sweep { party: 0, n: 5 },
+        Call::Create { party: 0, parent: 0, child: 1, limit: 1, holder: 3 },
+        Call::Create { party: 3, parent: 1, child: 2, limit: 0, holder: 5 },
+        Call::Claim { party: 3, principal: 1, page: VirtualPage(0) },
     ];
     let mut machine = Machine::start(4, 3).expect("V and F are in range");
     for call in calls {
@@ -76,7 +80,42 @@ fn refused_calls_keep_every_byte() {
         (Call::Receive { party: 1, d: 0 }, 19),
     ];
     for (call, number) in refused {
-        is_kept(busy(), &call, Refusal::of(number).expect("numbers are 1 to 19"));
+        is_kept(busy(), &call, Refusal::of(number).expect("numbers are 1 to 22"));
+    }
+}
+
+#[test]
+fn refused_calls_on_claims_keep_every_byte() {
+    let create =
+        |party, parent, child, limit, holder| Call::Create { party, parent, child, limit, holder };
+    let claim = |party, principal, page| Call::Claim { party, principal, page: VirtualPage(page) };
+    let release =
+        |party, principal, page| Call::Release { party, principal, page: VirtualPage(page) };
+    let destroy = |party, principal| Call::Destroy { party, principal };
+    let refused = [
+        (create(8, 0, 3, 0, 0), 4),
+        (create(0, 0, 3, 0, 8), 4),
+        (claim(8, 32, 4), 4),
+        (release(8, 32, 4), 4),
+        (destroy(8, 32), 4),
+        (claim(3, 32, 4), 12),
+        (release(3, 1, 255), 12),
+        (create(0, 1, 3, 0, 0), 20),
+        (create(0, 3, 4, 0, 0), 20),
+        (create(0, 0, 2, 0, 0), 20),
+        (create(0, 0, 32, 9999, 0), 20),
+        (claim(0, 1, 0), 20),
+        (release(5, 1, 0), 20),
+        (destroy(3, 1), 20),
+        (destroy(0, 2), 20),
+        (destroy(0, 0), 20),
+        (create(3, 1, 3, 1, 3), 21),
+        (claim(3, 1, 1), 21),
+        (release(3, 1, 1), 21),
+        (Call::Unmap { party: 0, page: VirtualPage(0) }, 22),
+    ];
+    for (call, number) in refused {
+        is_kept(busy(), &call, Refusal::of(number).expect("numbers are 1 to 22"));
     }
 }
 
@@ -104,7 +143,7 @@ fn memory_of_another_length_is_kept() {
 /// Changes that make a well-formed state ill-formed, in each array but the registers' numbers.
 #[test]
 fn ill_formed_states_are_kept() {
-    let changes: [fn(&mut State); 24] = [
+    let changes: [fn(&mut State); 34] = [
         |state| state.numbers[0] = 0,
         |state| state.numbers[1] = 129,
         |state| state.numbers[2] = 3,
@@ -129,6 +168,16 @@ fn ill_formed_states_are_kept() {
         |state| state.pages[255] = 1,
         |state| state.frames[2] = 3,
         |state| state.frames[127] = 1,
+        |state| state.principals[0] = 0,
+        |state| state.principals[0] += 1,
+        |state| state.principals[0] |= 1 << 24,
+        |state| state.principals[1] |= 1 << 63,
+        |state| state.principals[1] ^= 2 << 16,
+        |state| state.principals[2] |= 8 << 24,
+        |state| state.principals[31] = 1,
+        |state| state.counts[256] = 0,
+        |state| state.counts[512] = 1,
+        |state| state.counts[8191] = 1,
     ];
     for (index, change) in changes.iter().enumerate() {
         let (mut state, cells, tags) = busy().into_parts();
@@ -157,7 +206,8 @@ fn bytes_that_are_no_command_are_refused_under_3() {
     for input in [
         &[][..],
         &[0],
-        &[0x12, 0, 0],
+        &[0x16, 0, 0],
+        &[0x12, 0, 0, 1, 0, 0],
         &[0x01, 0, 0, 0],
         &[0x0E, 0, 0, 0, 0, 0, 0, 0, 0, 0],
         &[0x11, 0, 0, 0, 0],

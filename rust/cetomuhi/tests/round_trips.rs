@@ -3,13 +3,14 @@
 use cetomuhi::{raw, Call, Refusal, CALL_NUMBERS, LONGEST};
 use std::collections::HashSet;
 
-/// The lengths of commands 01 to 10, from document 01's list, and of 11, from request 2026-01.
-const LENGTHS: [usize; 17] = [5, 6, 4, 5, 4, 4, 2, 4, 3, 3, 6, 6, 9, 11, 4, 3, 6];
+/// The lengths of commands 01 to 10, from document 01's list, of 11, from request 2026-01, and of 12 to
+/// 15, from request 2026-02.
+const LENGTHS: [usize; 21] = [5, 6, 4, 5, 4, 4, 2, 4, 3, 3, 6, 6, 9, 11, 4, 3, 6, 7, 4, 4, 3];
 
 /// Calls of every kind: bytes 0, bytes 255, and bytes that all differ.
 fn inputs() -> Vec<(Vec<u8>, usize)> {
     let mut inputs = Vec::new();
-    for (command, length) in (1..=17).zip(LENGTHS) {
+    for (command, length) in (1..=21).zip(LENGTHS) {
         for operand in [|_| 0, |_| 255, |place: u8| 17 * place + 3] {
             let operands = (1..LONGEST as u8).map(operand);
             inputs.push(([command].into_iter().chain(operands).collect(), length));
@@ -70,7 +71,7 @@ fn numbers_that_are_no_call_are_not_written() {
     is_refused(&collect[..6]);
     is_refused(&[7, 0, 0, 0, 0, 0, 0, 0]);
     is_refused(&[]);
-    for (place, number) in [(0, 0), (0, 18), (0, 263), (1, 256), (2, 1), (6, 1), (1, u64::MAX)] {
+    for (place, number) in [(0, 0), (0, 22), (0, 263), (1, 256), (2, 1), (6, 1), (1, u64::MAX)] {
         let mut numbers = collect;
         numbers[place] = number;
         is_refused(&numbers);
@@ -80,6 +81,10 @@ fn numbers_that_are_no_call_are_not_written() {
     is_refused(&[13, 1, 1, 1, 1, 256, 1]);
     is_refused(&[17, 1, 1, 1, 256, 0, 0]);
     is_refused(&[17, 1, 1, 1, 1, 1, 0]);
+    is_refused(&[18, 1, 1, 1, 65_536, 1, 0]);
+    is_refused(&[18, 1, 1, 1, 1, 1, 1]);
+    is_refused(&[19, 1, 1, 256, 0, 0, 0]);
+    is_refused(&[21, 1, 1, 1, 0, 0, 0]);
 }
 
 #[test]
@@ -106,4 +111,6 @@ fn calls_in_words_differ() {
     );
     let words = Call::read(&[0x11, 3, 0, 0, 0, 15], 0).expect("whole").0.to_string();
     assert_eq!(words, "party 3 takes the reservation at cell 0 into register 0 with mask 15");
+    let words = Call::read(&[0x12, 1, 2, 3, 4, 5, 6], 0).expect("whole").0.to_string();
+    assert_eq!(words, "party 1 creates principal 3 below principal 2 with limit 1029 for party 6");
 }

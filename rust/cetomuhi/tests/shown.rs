@@ -77,24 +77,27 @@ fn any_state_is_shown() {
         rows: [u64::MAX; 64],
         pages: [u16::MAX; 256],
         frames: [255; 128],
+        principals: [u64::MAX; 32],
+        counts: [u16::MAX; 8192],
     };
     assert!(!state.is_well_formed());
     assert_eq!((state.reservations().count(), state.pages().count()), (64, 256));
     assert_eq!((state.frames().count(), state.registers().count()), (128, 64));
     assert_eq!(state.mailboxes().count(), 8);
+    assert_eq!((state.principals().count(), state.claims().count()), (32, 8192));
 }
 
 #[test]
 fn refusals_have_numbers_and_words() {
     let words: HashSet<&str> = Refusal::ALL.iter().map(|refusal| refusal.words()).collect();
-    assert_eq!(words.len(), 19);
+    assert_eq!(words.len(), 22);
     for (refusal, number) in Refusal::ALL.into_iter().zip(1..) {
         assert_eq!((refusal.number(), Refusal::of(number.into())), (number, Some(refusal)));
         let printable = |byte: u8| (b' '..=b'~').contains(&byte) && byte != b':';
         assert!(refusal.words().bytes().all(printable) && refusal.to_string() == refusal.words());
         assert_eq!(refusal.ends_a_run(), number <= 3);
     }
-    assert_eq!((Refusal::of(0), Refusal::of(20), Refusal::of(u64::MAX)), (None, None, None));
+    assert_eq!((Refusal::of(0), Refusal::of(23), Refusal::of(u64::MAX)), (None, None, None));
 }
 
 /// The header has the same words, each a string on a line; a crate without the repository has none.

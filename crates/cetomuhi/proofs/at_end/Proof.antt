@@ -34,11 +34,17 @@ first-requires-2 c κs = search needs
 returns : tie.Need-returns
 unfolding endCode
 returns c =
-    let a = c .before .before .before .before .before .before .before .before .before .before .before .before .before .args in
-    let m = arrays (a .nums) (a .words .now) (a .marks .now) (a .mail .now) (a .flags .now) (a .rows .now) (a .pages .now) (a .frames .now) in
+    let a = c .before .before .before .before .before .before .before .before .before .before .before .before .before .before .before .args in
+    let m = arrays (a .nums) (a .words .now) (a .marks .now) (a .mail .now) (a .flags .now) (a .rows .now) (a .pages .now) (a .frames .now) (a .principals .now) (a .counts .now) in
     ap (λ (k : ℕ). answer k empty)
     (c .first2 .ensures ∙ ap (λ (b : Bool). pick (not b) 1 (c .before .first .result)) (c .before .before .formed .ensures)
     ∙ ap (λ (k : ℕ). pick (not (formedOf m)) 1 k) (c .before .first .ensures))
 
 pub at-end-spec : {M : Type 1} → statement M
-at-end-spec = tie.close (tie.spec cast-size mul-size formed-requires first-requires first-requires-2 returns)
+at-end-spec = tie.close (tie.spec
+    cast-size
+    mul-size
+    formed-requires
+    first-requires
+    first-requires-2
+    returns)

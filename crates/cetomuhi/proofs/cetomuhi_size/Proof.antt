@@ -21,7 +21,7 @@ returns c = refl
 
 returns-2 : tie.Need-returns-2
 unfolding sizeOf
-returns-2 c = sym (List·getD-eq-default (6 ∷ 64 ∷ 64 ∷ 8 ∷ 8 ∷ 64 ∷ 256 ∷ 128 ∷ 4 ∷ 7 ∷ []) 0 (c .if1 .left))
+returns-2 c = sym (List·getD-eq-default (6 ∷ 64 ∷ 64 ∷ 8 ∷ 8 ∷ 64 ∷ 256 ∷ 128 ∷ 32 ∷ 8192 ∷ 4 ∷ 7 ∷ []) 0 (c .if1 .left))
 
 pub cetomuhi-size-spec : {M : Type 1} → statement M
 cetomuhi-size-spec = tie.close (tie.spec mul-result array-read-result returns returns-2)

@@ -21,8 +21,11 @@ formed-requires c κs = search needs
 returns : tie.Need-returns
 unfolding formedLent
 returns c =
-    let a = c .before .before .before .before .before .before .before .before .before .before .args in
-    c .formed .ensures ∙ ap (λ (n : Numbers). formedOf (arrays n (a .words .now) (a .marks .now) (a .mail .now) (a .flags .now) (a .rows .now) (a .pages .now) (a .frames .now))) (c .before .numbers-from .ensures .0)
+    let a = c .before .before .before .before .before .before .before .before .before .before .before .before .args in
+    c .formed .ensures ∙ ap (λ (n : Numbers). formedOf (arrays n (a .words .now) (a .marks .now) (a .mail .now) (a .flags .now) (a .rows .now) (a .pages .now) (a .frames .now) (a .principals .now) (a .counts .now))) (c .before .numbers-from .ensures .0)
 
 pub cetomuhi-well-formed-spec : {M : Type 1} → statement M
-cetomuhi-well-formed-spec = tie.close (tie.spec numbers-from-requires formed-requires returns)
+cetomuhi-well-formed-spec = tie.close (tie.spec
+    numbers-from-requires
+    formed-requires
+    returns)

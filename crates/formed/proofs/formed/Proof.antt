@@ -11,6 +11,7 @@ use Rattle.formed.proofs.formed.Tie as tie
 use Rattle.formed.proofs.formed.Reads as reads
 use Rattle.formed.proofs.formed.Lts as lts
 use Rattle.formed.proofs.revocation_kept.Reads as revocation-kept-reads
+use Rattle.claims.proofs.sound.claims_sound.Reads as claims-sound-reads
 use Rattle.pages.proofs.sound.layer_sound.Reads as layer-sound-reads
 use Rattle.table.proofs.tiling.well_formed.Reads as well-formed-reads
 use Rattle.words.proofs.registers.bits.Reads as bits-reads
@@ -21,8 +22,8 @@ layer-sound-requires c κs = search needs
 
 returns : tie.Need-returns
 returns c =
-    let a = c .before .before .before .before .before .before .before .before .before .args in
-    let m = arrays (a .nums) (a .words .now) (a .marks .now) (a .mail .now) (a .flags .now) (a .rows .now) (a .pages .now) (a .frames .now) in
+    let a = c .before .before .before .before .before .before .before .before .before .before .before .args in
+    let m = arrays (a .nums) (a .words .now) (a .marks .now) (a .mail .now) (a .flags .now) (a .rows .now) (a .pages .now) (a .frames .now) (a .principals .now) (a .counts .now) in
     front-fails m (ap (λ (x : Bool). lengthsFit m && x) (sym (c .before .layer-sound .ensures)) ∙ not-true _ (c .if1 .taken))
 
 cast-well-formed : tie.Need-cast-well-formed
@@ -42,8 +43,8 @@ mul-placed c = search needs
 
 revocation-kept-requires : tie.Need-revocation-kept-requires
 revocation-kept-requires c κs =
-    let a = c .before .before .before .before .before .before .before .before .before .before .before .before .before .args in
-    let m = arrays (a .nums) (a .words .now) (a .marks .now) (a .mail .now) (a .flags .now) (a .rows .now) (a .pages .now) (a .frames .now) in
+    let a = c .before .before .before .before .before .before .before .before .before .before .before .before .before .before .before .args in
+    let m = arrays (a .nums) (a .words .now) (a .marks .now) (a .mail .now) (a .flags .now) (a .rows .now) (a .pages .now) (a .frames .now) (a .principals .now) (a .counts .now) in
     let e = not-false _ (c .before .before .before .before .if1 .left) in
     layer-pages (a .nums .v) (a .nums .f) (a .pages .now) (a .frames .now) (sym (c .before .before .before .before .before .layer-sound .ensures) ∙ and-right (lengthsFit m) _ e)
 
@@ -56,13 +57,16 @@ bits-requires-2 c κs = search needs
 mailboxes-sound-requires : tie.Need-mailboxes-sound-requires
 mailboxes-sound-requires c κs = search needs
 
+claims-sound-requires : tie.Need-claims-sound-requires
+claims-sound-requires c κs = search needs
+
 returns-2 : tie.Need-returns-2
 returns-2 c =
-    let a = c .before .before .before .before .before .before .before .before .before .before .before .before .before .before .before .before .before .args in
-    let m = arrays (a .nums) (a .words .now) (a .marks .now) (a .mail .now) (a .flags .now) (a .rows .now) (a .pages .now) (a .frames .now) in
-    let e = not-false _ (c .before .before .before .before .before .before .before .before .if1 .left) in
-    back-decides m (ap (λ (x : Bool). lengthsFit m && x) (sym (c .before .before .before .before .before .before .before .before .before .layer-sound .ensures)) ∙ e) _
-    (rw (c .mailboxes-sound .ensures, c .before .bits2 .ensures, c .before .before .bits .ensures, c .before .before .before .revocation-kept .ensures (a .frames .now), c .before .before .before .before .before .before .well-formed .ensures))
+    let a = c .before .before .before .before .before .before .before .before .before .before .before .before .before .before .before .before .before .before .before .before .args in
+    let m = arrays (a .nums) (a .words .now) (a .marks .now) (a .mail .now) (a .flags .now) (a .rows .now) (a .pages .now) (a .frames .now) (a .principals .now) (a .counts .now) in
+    let e = not-false _ (c .before .before .before .before .before .before .before .before .before .if1 .left) in
+    back-decides m (ap (λ (x : Bool). lengthsFit m && x) (sym (c .before .before .before .before .before .before .before .before .before .before .layer-sound .ensures)) ∙ e) _
+    (rw (c .claims-sound .ensures, c .before .mailboxes-sound .ensures, c .before .before .bits2 .ensures, c .before .before .before .bits .ensures, c .before .before .before .before .revocation-kept .ensures (a .frames .now) (a .principals .now) (a .counts .now), c .before .before .before .before .before .before .before .well-formed .ensures))
 
 pub formed-spec : {M : Type 1} → statement M
 formed-spec =
@@ -79,4 +83,5 @@ formed-spec =
     bits-requires
     bits-requires-2
     mailboxes-sound-requires
+    claims-sound-requires
     returns-2)

@@ -35,7 +35,7 @@ returns c =
     let a = c .before .before .before .before .before .before .before .before .before .before .before .args in
     let found = c .before .before .before .before .before .before .before .before .revoking in
     let row = c .before .before .before .before .before .before .before .row-in in
-    λ frames. none-runs (a .nums) (a .rows .now) (a .pages .now) frames (found .result) (row .result) (found .ensures) (row .ensures) (sym (c .before .before .missing .ensures) ∙ c .before .if1 .taken)
+    λ frames principals counts. none-runs (a .nums) (a .rows .now) (a .pages .now) frames principals counts (found .result) (row .result) (found .ensures) (row .ensures) (sym (c .before .before .missing .ensures) ∙ c .before .if1 .taken)
 
 whole-pages-requires : tie.Need-whole-pages-requires
 whole-pages-requires c κs = search needs
@@ -52,9 +52,9 @@ returns-2 c =
     let found = c .before .before .before .before .before .before .before .before .before .before .revoking in
     let row = c .before .before .before .before .before .before .before .before .before .row-in in
     let kept = eqb (a .nums .base) (row .result .base) && eqb (a .nums .length) (row .result .length) in
-    λ frames. ap (λ (x : Bool). kept && (x && c .all-freed .result)) (c .before .before .whole-pages .ensures)
+    λ frames principals counts. ap (λ (x : Bool). kept && (x && c .all-freed .result)) (c .before .before .whole-pages .ensures)
     ∙ ap (λ (x : Bool). kept && (wholePages (row .result) && x)) (c .all-freed .ensures ∙ ap (λ (r : Range). each (freedIn r) 0 (map pageIn (a .pages .now))) (c .before .range-of .ensures))
-    ∙ one-runs (a .nums) (a .rows .now) (a .pages .now) frames (found .result) (row .result) (found .ensures) (row .ensures) (sym (c .before .before .before .before .missing .ensures) ∙ c .before .before .before .if1 .left)
+    ∙ one-runs (a .nums) (a .rows .now) (a .pages .now) frames principals counts (found .result) (row .result) (found .ensures) (row .ensures) (sym (c .before .before .before .before .missing .ensures) ∙ c .before .before .before .if1 .left)
 
 pub revocation-kept-spec : {M : Type 1} → statement M
 revocation-kept-spec =

@@ -107,6 +107,30 @@ enum-known-call-17 c = search needs
 base-numbers-requires-3 : tie.Need-base-numbers-requires-3
 base-numbers-requires-3 c κs = search needs
 
+enum-known-call-18 : tie.Need-enum-known-call-18
+enum-known-call-18 c = search needs
+
+create-numbers-requires : tie.Need-create-numbers-requires
+create-numbers-requires c κs = search needs
+
+enum-known-call-19 : tie.Need-enum-known-call-19
+enum-known-call-19 c = search needs
+
+byte-numbers-requires-7 : tie.Need-byte-numbers-requires-7
+byte-numbers-requires-7 c κs = search needs
+
+enum-known-call-20 : tie.Need-enum-known-call-20
+enum-known-call-20 c = search needs
+
+byte-numbers-requires-8 : tie.Need-byte-numbers-requires-8
+byte-numbers-requires-8 c κs = search needs
+
+enum-known-call-21 : tie.Need-enum-known-call-21
+enum-known-call-21 c = search needs
+
+byte-numbers-requires-9 : tie.Need-byte-numbers-requires-9
+byte-numbers-requires-9 c κs = search needs
+
 returns : tie.Need-returns
 unfolding numbersOf
 returns c = in-case numbersOf (c .before .before .call .given .1) (c .base-numbers .ensures)
@@ -175,6 +199,22 @@ returns-17 : tie.Need-returns-17
 unfolding numbersOf
 returns-17 c = in-case numbersOf (c .before .before .call17 .given .1) (c .base-numbers3 .ensures)
 
+returns-18 : tie.Need-returns-18
+unfolding numbersOf
+returns-18 c = in-case numbersOf (c .before .before .call18 .given .1) (c .create-numbers .ensures)
+
+returns-19 : tie.Need-returns-19
+unfolding numbersOf
+returns-19 c = in-case numbersOf (c .before .before .call19 .given .1) (c .byte-numbers7 .ensures)
+
+returns-20 : tie.Need-returns-20
+unfolding numbersOf
+returns-20 c = in-case numbersOf (c .before .before .call20 .given .1) (c .byte-numbers8 .ensures)
+
+returns-21 : tie.Need-returns-21
+unfolding numbersOf
+returns-21 c = in-case numbersOf (c .before .before .call21 .given .1) (c .byte-numbers9 .ensures)
+
 pub numbers-of-spec : {M : Type 1} → statement M
 numbers-of-spec =
     tie.close
@@ -213,6 +253,14 @@ numbers-of-spec =
     byte-numbers-requires-6
     enum-known-call-17
     base-numbers-requires-3
+    enum-known-call-18
+    create-numbers-requires
+    enum-known-call-19
+    byte-numbers-requires-7
+    enum-known-call-20
+    byte-numbers-requires-8
+    enum-known-call-21
+    byte-numbers-requires-9
     returns
     returns-2
     returns-3
@@ -229,4 +277,8 @@ numbers-of-spec =
     returns-14
     returns-15
     returns-16
-    returns-17)
+    returns-17
+    returns-18
+    returns-19
+    returns-20
+    returns-21)

@@ -67,7 +67,19 @@ returns-17 : tie.Need-returns-17
 returns-17 c = search needs
 
 returns-18 : tie.Need-returns-18
-returns-18 c = none-left (c .before .args .command) (c .match .rest)
+returns-18 c = search needs
+
+returns-19 : tie.Need-returns-19
+returns-19 c = search needs
+
+returns-20 : tie.Need-returns-20
+returns-20 c = search needs
+
+returns-21 : tie.Need-returns-21
+returns-21 c = search needs
+
+returns-22 : tie.Need-returns-22
+returns-22 c = none-left (c .before .args .command) (c .match .rest)
 
 pub length-of-spec : {M : Type 1} → statement M
 length-of-spec =
@@ -90,4 +102,8 @@ length-of-spec =
     returns-15
     returns-16
     returns-17
-    returns-18)
+    returns-18
+    returns-19
+    returns-20
+    returns-21
+    returns-22)

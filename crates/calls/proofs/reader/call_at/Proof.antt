@@ -59,7 +59,19 @@ receive-at-requires : tie.Need-receive-at-requires
 receive-at-requires c κs = long-enough (c .match .keys16) (c .before .before .pre .1)
 
 take-masked-at-requires : tie.Need-take-masked-at-requires
-take-masked-at-requires c κs =
+take-masked-at-requires c κs = long-enough (c .match .keys17) (c .before .before .pre .1)
+
+create-at-requires : tie.Need-create-at-requires
+create-at-requires c κs = long-enough (c .match .keys18) (c .before .before .pre .1)
+
+claim-at-requires : tie.Need-claim-at-requires
+claim-at-requires c κs = long-enough (c .match .keys19) (c .before .before .pre .1)
+
+release-at-requires : tie.Need-release-at-requires
+release-at-requires c κs = long-enough (c .match .keys20) (c .before .before .pre .1)
+
+destroy-at-requires : tie.Need-destroy-at-requires
+destroy-at-requires c κs =
     let pre = c .before .before .pre in
     long-enough (last-case lastByte (pre .0 .0) (pre .0 .1) (c .match .rest)) (pre .1)
 
@@ -112,11 +124,23 @@ returns-16 : tie.Need-returns-16
 returns-16 c = in-case (λ k. callAt k (c .before .before .before .args .s .now)) (c .before .match .keys16) (c .receive-at .ensures)
 
 returns-17 : tie.Need-returns-17
-returns-17 c =
+returns-17 c = in-case (λ k. callAt k (c .before .before .before .args .s .now)) (c .before .match .keys17) (c .take-masked-at .ensures)
+
+returns-18 : tie.Need-returns-18
+returns-18 c = in-case (λ k. callAt k (c .before .before .before .args .s .now)) (c .before .match .keys18) (c .create-at .ensures)
+
+returns-19 : tie.Need-returns-19
+returns-19 c = in-case (λ k. callAt k (c .before .before .before .args .s .now)) (c .before .match .keys19) (c .claim-at .ensures)
+
+returns-20 : tie.Need-returns-20
+returns-20 c = in-case (λ k. callAt k (c .before .before .before .args .s .now)) (c .before .match .keys20) (c .release-at .ensures)
+
+returns-21 : tie.Need-returns-21
+returns-21 c =
     let match = c .before .match in
     let a = c .before .before .before .args in
     let pre = c .before .before .before .pre in
-    in-case (λ k. callAt k (a .s .now)) (last-case lastByte (pre .0 .0) (pre .0 .1) (match .rest)) (c .take-masked-at .ensures)
+    in-case (λ k. callAt k (a .s .now)) (last-case lastByte (pre .0 .0) (pre .0 .1) (match .rest)) (c .destroy-at .ensures)
 
 pub call-at-spec : {M : Type 1} → statement M
 call-at-spec =
@@ -139,6 +163,10 @@ call-at-spec =
     grant-at-requires
     receive-at-requires
     take-masked-at-requires
+    create-at-requires
+    claim-at-requires
+    release-at-requires
+    destroy-at-requires
     returns
     returns-2
     returns-3
@@ -155,4 +183,8 @@ call-at-spec =
     returns-14
     returns-15
     returns-16
-    returns-17)
+    returns-17
+    returns-18
+    returns-19
+    returns-20
+    returns-21)

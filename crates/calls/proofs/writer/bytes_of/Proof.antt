@@ -107,6 +107,30 @@ enum-known-call-17 c = search needs
 take-masked-bytes-requires : tie.Need-take-masked-bytes-requires
 take-masked-bytes-requires c κs = search needs
 
+enum-known-call-18 : tie.Need-enum-known-call-18
+enum-known-call-18 c = search needs
+
+create-bytes-requires : tie.Need-create-bytes-requires
+create-bytes-requires c κs = search needs
+
+enum-known-call-19 : tie.Need-enum-known-call-19
+enum-known-call-19 c = search needs
+
+claim-bytes-requires : tie.Need-claim-bytes-requires
+claim-bytes-requires c κs = search needs
+
+enum-known-call-20 : tie.Need-enum-known-call-20
+enum-known-call-20 c = search needs
+
+release-bytes-requires : tie.Need-release-bytes-requires
+release-bytes-requires c κs = search needs
+
+enum-known-call-21 : tie.Need-enum-known-call-21
+enum-known-call-21 c = search needs
+
+destroy-bytes-requires : tie.Need-destroy-bytes-requires
+destroy-bytes-requires c κs = search needs
+
 returns : tie.Need-returns
 returns c = in-case (λ call. padded (bytesOf call)) (c .before .before .call .given .1) (c .take-bytes .ensures)
 
@@ -158,6 +182,18 @@ returns-16 c = in-case (λ call. padded (bytesOf call)) (c .before .before .call
 returns-17 : tie.Need-returns-17
 returns-17 c = in-case (λ call. padded (bytesOf call)) (c .before .before .call17 .given .1) (c .take-masked-bytes .ensures)
 
+returns-18 : tie.Need-returns-18
+returns-18 c = in-case (λ call. padded (bytesOf call)) (c .before .before .call18 .given .1) (c .create-bytes .ensures)
+
+returns-19 : tie.Need-returns-19
+returns-19 c = in-case (λ call. padded (bytesOf call)) (c .before .before .call19 .given .1) (c .claim-bytes .ensures)
+
+returns-20 : tie.Need-returns-20
+returns-20 c = in-case (λ call. padded (bytesOf call)) (c .before .before .call20 .given .1) (c .release-bytes .ensures)
+
+returns-21 : tie.Need-returns-21
+returns-21 c = in-case (λ call. padded (bytesOf call)) (c .before .before .call21 .given .1) (c .destroy-bytes .ensures)
+
 pub bytes-of-spec : {M : Type 1} → statement M
 bytes-of-spec =
     tie.close
@@ -196,6 +232,14 @@ bytes-of-spec =
     receive-bytes-requires
     enum-known-call-17
     take-masked-bytes-requires
+    enum-known-call-18
+    create-bytes-requires
+    enum-known-call-19
+    claim-bytes-requires
+    enum-known-call-20
+    release-bytes-requires
+    enum-known-call-21
+    destroy-bytes-requires
     returns
     returns-2
     returns-3
@@ -212,4 +256,8 @@ bytes-of-spec =
     returns-14
     returns-15
     returns-16
-    returns-17)
+    returns-17
+    returns-18
+    returns-19
+    returns-20
+    returns-21)

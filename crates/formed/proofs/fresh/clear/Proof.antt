@@ -1,4 +1,4 @@
--- `formed::fresh::clear` meets its contract. Seven lists, each cleared by a loop.
+-- `formed::fresh::clear` meets its contract. Nine lists, each cleared by a loop.
 use Rattle.pages.proofs.Filling.{fill-all}
 use borrow.Author.Needs.{needs}
 use Rattle.formed.proofs.fresh.clear.Statement.{statement}
@@ -30,30 +30,43 @@ fill-requires c κs = search needs
 clear-tags-requires-3 : tie.Need-clear-tags-requires-3
 clear-tags-requires-3 c κs = search needs
 
+clear-cells-requires-4 : tie.Need-clear-cells-requires-4
+clear-cells-requires-4 c κs = search needs
+
+fill-requires-2 : tie.Need-fill-requires-2
+fill-requires-2 c κs = search needs
+
 same-length : tie.Need-same-length
-same-length c = c .before .before .before .before .before .before .before .before .before .before .before .before .before .before .before .before .before .before .before .before .before .before .before .before .before .words .given
+same-length c = c .before .before .before .before .before .before .before .before .before .before .before .before .before .before .before .before .before .before .before .before .before .before .before .before .before .before .before .before .before .before .before .before .before .words .given
 
 same-length-2 : tie.Need-same-length-2
-same-length-2 c = c .before .before .before .before .before .before .before .before .before .before .before .before .before .before .before .before .before .before .before .before .before .marks .given
+same-length-2 c = c .before .before .before .before .before .before .before .before .before .before .before .before .before .before .before .before .before .before .before .before .before .before .before .before .before .before .before .before .before .marks .given
 
 same-length-3 : tie.Need-same-length-3
-same-length-3 c = c .before .before .before .before .before .before .before .before .before .before .before .before .before .before .before .before .before .mail .given
+same-length-3 c = c .before .before .before .before .before .before .before .before .before .before .before .before .before .before .before .before .before .before .before .before .before .before .before .before .before .mail .given
 
 same-length-4 : tie.Need-same-length-4
-same-length-4 c = c .before .before .before .before .before .before .before .before .before .before .before .before .before .flags .given
+same-length-4 c = c .before .before .before .before .before .before .before .before .before .before .before .before .before .before .before .before .before .before .before .before .before .flags .given
 
 same-length-5 : tie.Need-same-length-5
-same-length-5 c = c .before .before .before .before .before .before .before .before .before .rows .given
+same-length-5 c = c .before .before .before .before .before .before .before .before .before .before .before .before .before .before .before .before .before .rows .given
 
 same-length-6 : tie.Need-same-length-6
-same-length-6 c = c .before .before .before .before .before .pages .given
+same-length-6 c = c .before .before .before .before .before .before .before .before .before .before .before .before .before .pages .given
 
 same-length-7 : tie.Need-same-length-7
-same-length-7 c = c .before .frames .given
+same-length-7 c = c .before .before .before .before .before .before .before .before .before .frames .given
+
+same-length-8 : tie.Need-same-length-8
+same-length-8 c = c .before .before .before .before .before .principals .given
+
+same-length-9 : tie.Need-same-length-9
+same-length-9 c = c .before .counts .given
 
 returns : tie.Need-returns
 returns c =
-    λ n. rw (c .before .before .before .before .before .before .before .before .before .before .before .before .before .before .before .before .before .before .before .before .before .before .before .before .before .before .clear-cells .ensures, c .before .before .before .before .before .before .before .before .before .before .before .before .before .before .before .before .before .before .before .before .before .before .clear-tags .ensures, c .before .before .before .before .before .before .before .before .before .before .before .before .before .before .before .before .before .before .clear-cells2 .ensures, c .before .before .before .before .before .before .before .before .before .before .before .before .before .before .clear-tags2 .ensures, c .before .before .before .before .before .before .before .before .before .before .clear-cells3 .ensures, c .before .before .before .before .before .before .fill .ensures, c .before .before .clear-tags3 .ensures, fill-all 0 (c .before .before .before .before .before .before .before .before .before .before .before .before .before .before .before .before .before .before .before .before .before .before .before .before .before .before .before .before .before .before .before .before .before .before .before .args .pages .now))
+    let a = c .before .before .before .before .before .before .before .before .before .before .before .before .before .before .before .before .before .before .before .before .before .before .before .before .before .before .before .before .before .before .before .before .before .before .before .before .before .before .before .before .before .before .before .before .before .args in
+    λ n. rw (c .before .before .before .before .before .before .before .before .before .before .before .before .before .before .before .before .before .before .before .before .before .before .before .before .before .before .before .before .before .before .before .before .before .before .clear-cells .ensures, c .before .before .before .before .before .before .before .before .before .before .before .before .before .before .before .before .before .before .before .before .before .before .before .before .before .before .before .before .before .before .clear-tags .ensures, c .before .before .before .before .before .before .before .before .before .before .before .before .before .before .before .before .before .before .before .before .before .before .before .before .before .before .clear-cells2 .ensures, c .before .before .before .before .before .before .before .before .before .before .before .before .before .before .before .before .before .before .before .before .before .before .clear-tags2 .ensures, c .before .before .before .before .before .before .before .before .before .before .before .before .before .before .before .before .before .before .clear-cells3 .ensures, c .before .before .before .before .before .before .before .before .before .before .before .before .before .before .fill .ensures, c .before .before .before .before .before .before .before .before .before .before .clear-tags3 .ensures, c .before .before .before .before .before .before .clear-cells4 .ensures, c .before .before .fill2 .ensures, fill-all 0 (a .pages .now), fill-all 0 (a .counts .now))
 
 pub clear-spec : {M : Type 1} → statement M
 clear-spec =
@@ -66,6 +79,8 @@ clear-spec =
     clear-cells-requires-3
     fill-requires
     clear-tags-requires-3
+    clear-cells-requires-4
+    fill-requires-2
     same-length
     same-length-2
     same-length-3
@@ -73,4 +88,6 @@ clear-spec =
     same-length-5
     same-length-6
     same-length-7
+    same-length-8
+    same-length-9
     returns)

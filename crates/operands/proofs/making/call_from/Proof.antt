@@ -58,6 +58,18 @@ receive-from-requires c κs = search needs
 take-masked-from-requires : tie.Need-take-masked-from-requires
 take-masked-from-requires c κs = search needs
 
+create-from-requires : tie.Need-create-from-requires
+create-from-requires c κs = search needs
+
+claim-from-requires : tie.Need-claim-from-requires
+claim-from-requires c κs = search needs
+
+release-from-requires : tie.Need-release-from-requires
+release-from-requires c κs = search needs
+
+destroy-from-requires : tie.Need-destroy-from-requires
+destroy-from-requires c κs = search needs
+
 take-from-requires-2 : tie.Need-take-from-requires-2
 take-from-requires-2 c κs = search needs
 
@@ -113,7 +125,19 @@ returns-17 : tie.Need-returns-17
 returns-17 c = made (c .before .before .before .before .args .numbers .now) (c .before .before .number-at .ensures) (c .before .match .keys17) (c .take-masked-from .ensures)
 
 returns-18 : tie.Need-returns-18
-returns-18 c = made-take (c .before .before .before .before .args .numbers .now) (c .before .before .number-at .ensures) (c .before .match .rest) (c .take-from2 .ensures)
+returns-18 c = made (c .before .before .before .before .args .numbers .now) (c .before .before .number-at .ensures) (c .before .match .keys18) (c .create-from .ensures)
+
+returns-19 : tie.Need-returns-19
+returns-19 c = made (c .before .before .before .before .args .numbers .now) (c .before .before .number-at .ensures) (c .before .match .keys19) (c .claim-from .ensures)
+
+returns-20 : tie.Need-returns-20
+returns-20 c = made (c .before .before .before .before .args .numbers .now) (c .before .before .number-at .ensures) (c .before .match .keys20) (c .release-from .ensures)
+
+returns-21 : tie.Need-returns-21
+returns-21 c = made (c .before .before .before .before .args .numbers .now) (c .before .before .number-at .ensures) (c .before .match .keys21) (c .destroy-from .ensures)
+
+returns-22 : tie.Need-returns-22
+returns-22 c = made-take (c .before .before .before .before .args .numbers .now) (c .before .before .number-at .ensures) (c .before .match .rest) (c .take-from2 .ensures)
 
 pub call-from-spec : {M : Type 1} → statement M
 call-from-spec =
@@ -137,6 +161,10 @@ call-from-spec =
     grant-from-requires
     receive-from-requires
     take-masked-from-requires
+    create-from-requires
+    claim-from-requires
+    release-from-requires
+    destroy-from-requires
     take-from-requires-2
     returns
     returns-2
@@ -155,4 +183,8 @@ call-from-spec =
     returns-15
     returns-16
     returns-17
-    returns-18)
+    returns-18
+    returns-19
+    returns-20
+    returns-21
+    returns-22)

@@ -23,10 +23,13 @@ first-requires c κs = search needs
 first-requires-2 : tie.Need-first-requires-2
 first-requires-2 c κs = search needs
 
+first-requires-3 : tie.Need-first-requires-3
+first-requires-3 c κs = search needs
+
 returns : tie.Need-returns
 returns c =
-    let a = c .before .before .before .before .before .before .before .args in
-    λ f frames. rw (unmap-read (a .v) f (a .pages .now) frames (a .page), c .first2 .ensures, c .before .first .ensures, c .before .before .before .is-mapped .ensures, c .before .before .before .before .page-in .ensures)
+    let a = c .before .before .before .before .before .before .before .before .args in
+    λ f frames. rw (unmap-read (a .v) f (a .pages .now) frames (a .page) (a .claimed), c .first3 .ensures, c .before .first2 .ensures, c .before .before .first .ensures, c .before .before .before .before .is-mapped .ensures, c .before .before .before .before .before .page-in .ensures)
 
 pub unmap-code-spec : {M : Type 1} → statement M
 unmap-code-spec =
@@ -38,4 +41,5 @@ unmap-code-spec =
     cast-first
     first-requires
     first-requires-2
+    first-requires-3
     returns)

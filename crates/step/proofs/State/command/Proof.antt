@@ -26,7 +26,13 @@ slice-aggregate-command-in-6 : tie.Need-slice-aggregate-command-in-6
 slice-aggregate-command-in-6 c = search needs
 
 slice-aggregate-command-in-7 : tie.Need-slice-aggregate-command-in-7
-slice-aggregate-command-in-7 c = search needs
+slice-aggregate-command-in-7 c = let g = c .before .before .before .before .before .before .before .before .before .before .before .before .before .before .before .before .before .before .before .before .good .0 in search (needs, g)
+
+slice-aggregate-command-in-8 : tie.Need-slice-aggregate-command-in-8
+slice-aggregate-command-in-8 c = let g = c .before .before .before .before .before .before .before .before .before .before .before .before .before .before .before .before .before .before .before .before .before .good .0 in search (needs, g)
+
+slice-aggregate-command-in-9 : tie.Need-slice-aggregate-command-in-9
+slice-aggregate-command-in-9 c = let g = c .before .before .before .before .before .before .before .before .before .before .before .before .before .before .before .before .before .before .before .before .before .before .good .0 in search (needs, g)
 
 command-in-requires : tie.Need-command-in-requires
 command-in-requires c κs = search needs
@@ -41,7 +47,7 @@ same-length-2 : tie.Need-same-length-2
 same-length-2 c = search needs
 
 returns : tie.Need-returns
-returns c = rw (c .commanded .ensures) (c .before .before .before .before .before .before .before .before .before .before .before .before .before .before .command-in .ensures)
+returns c = rw (c .commanded .ensures) (c .before .before .before .before .before .before .before .before .before .before .before .before .before .before .before .before .command-in .ensures)
 
 pub command-spec : {M : Type 1} → statement M
 command-spec =
@@ -54,6 +60,8 @@ command-spec =
     slice-aggregate-command-in-5
     slice-aggregate-command-in-6
     slice-aggregate-command-in-7
+    slice-aggregate-command-in-8
+    slice-aggregate-command-in-9
     command-in-requires
     commanded-requires
     same-length

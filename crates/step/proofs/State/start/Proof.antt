@@ -24,6 +24,9 @@ add-rows c = search needs
 array-write-rows : tie.Need-array-write-rows
 array-write-rows c = search needs
 
+array-write-principals : tie.Need-array-write-principals
+array-write-principals c = search needs
+
 bare-requires : tie.Need-bare-requires
 bare-requires c κs = search needs
 
@@ -57,6 +60,7 @@ start-spec =
     mul-rows
     add-rows
     array-write-rows
+    array-write-principals
     bare-requires
     empty-requires
     granted-requires

@@ -35,20 +35,20 @@ same-length-6 c = search needs
 same-length-7 : tie.Need-same-length-7
 same-length-7 c = search needs
 
-returns : tie.Need-returns
-returns c =
-    let a = c .before .before .before .before .before .before .before .before .before .before .before .before .before .before .before .before .before .before .before .before .before .args in
-    let m = arrays (a .nums) (a .words .now) (a .marks .now) (a .mail .now) (a .flags .now) (a .rows .now) (a .pages .now) (a .frames .now) in
-    absurd (true≢false (sym (passing m (c .before .before .before .before .before .before .before .before .before .before .before .before .before .before .before .before .before .before .before .before .before .pre .0)) ∙ sym (c .before .before .formed .ensures) ∙ not-true _ (c .before .if2 .taken)))
-
-command-requires : tie.Need-command-requires
-command-requires c κs = search needs
-
 same-length-8 : tie.Need-same-length-8
 same-length-8 c = search needs
 
 same-length-9 : tie.Need-same-length-9
 same-length-9 c = search needs
+
+returns : tie.Need-returns
+returns c =
+    let a = c .before .before .before .before .before .before .before .before .before .before .before .before .before .before .before .before .before .before .before .before .before .before .before .before .before .args in
+    let m = arrays (a .nums) (a .words .now) (a .marks .now) (a .mail .now) (a .flags .now) (a .rows .now) (a .pages .now) (a .frames .now) (a .principals .now) (a .counts .now) in
+    absurd (true≢false (sym (passing m (c .before .before .before .before .before .before .before .before .before .before .before .before .before .before .before .before .before .before .before .before .before .before .before .before .before .pre .0)) ∙ sym (c .before .before .formed .ensures) ∙ not-true _ (c .before .if2 .taken)))
+
+command-requires : tie.Need-command-requires
+command-requires c κs = search needs
 
 same-length-10 : tie.Need-same-length-10
 same-length-10 c = search needs
@@ -71,6 +71,18 @@ same-length-15 c = search needs
 same-length-16 : tie.Need-same-length-16
 same-length-16 c = search needs
 
+same-length-17 : tie.Need-same-length-17
+same-length-17 c = search needs
+
+same-length-18 : tie.Need-same-length-18
+same-length-18 c = search needs
+
+same-length-19 : tie.Need-same-length-19
+same-length-19 c = search needs
+
+same-length-20 : tie.Need-same-length-20
+same-length-20 c = search needs
+
 returns-2 : tie.Need-returns-2
 returns-2 c = search needs
 
@@ -87,10 +99,10 @@ one-spec =
     same-length-5
     same-length-6
     same-length-7
-    returns
-    command-requires
     same-length-8
     same-length-9
+    returns
+    command-requires
     same-length-10
     same-length-11
     same-length-12
@@ -98,4 +110,8 @@ one-spec =
     same-length-14
     same-length-15
     same-length-16
+    same-length-17
+    same-length-18
+    same-length-19
+    same-length-20
     returns-2)

@@ -17,6 +17,9 @@ add-rows c = search needs
 array-write-rows : tie.Need-array-write-rows
 array-write-rows c = search needs
 
+array-write-principals : tie.Need-array-write-principals
+array-write-principals c = search needs
+
 mul-n : tie.Need-mul-n
 mul-n c = search needs
 
@@ -41,32 +44,38 @@ slice-aggregate-commands-6 c = search needs
 slice-aggregate-commands-7 : tie.Need-slice-aggregate-commands-7
 slice-aggregate-commands-7 c = search needs
 
+slice-aggregate-commands-8 : tie.Need-slice-aggregate-commands-8
+slice-aggregate-commands-8 c = search needs
+
+slice-aggregate-commands-9 : tie.Need-slice-aggregate-commands-9
+slice-aggregate-commands-9 c = search needs
+
 array-borrow-prefix-cells : tie.Need-array-borrow-prefix-cells
 array-borrow-prefix-cells c =
-    let a = c .before .before .before .before .before .before .before .before .before .args in
-    let m = frames-most (a .v) (a .f) (c .before .before .before .before .before .before .before .before .before .pre .0) in
+    let a = c .before .before .before .before .before .before .before .before .before .before .before .args in
+    let m = frames-most (a .v) (a .f) (c .before .before .before .before .before .before .before .before .before .before .before .pre .0) in
     omega (arith, m)
 
-slice-aggregate-commands-8 : tie.Need-slice-aggregate-commands-8
-slice-aggregate-commands-8 c =
-    let a = c .before .before .before .before .before .before .before .before .before .before .args in
-    sym (ap length (lent-zeroed (a .v) (a .f) (c .before .before .before .before .before .before .before .before .before .before .pre .0)) ∙ length-replicate (16 * a .f) 0)
+slice-aggregate-commands-10 : tie.Need-slice-aggregate-commands-10
+slice-aggregate-commands-10 c =
+    let a = c .before .before .before .before .before .before .before .before .before .before .before .before .args in
+    sym (ap length (lent-zeroed (a .v) (a .f) (c .before .before .before .before .before .before .before .before .before .before .before .before .pre .0)) ∙ length-replicate (16 * a .f) 0)
 
 array-borrow-prefix-tags : tie.Need-array-borrow-prefix-tags
 array-borrow-prefix-tags c =
-    let a = c .before .before .before .before .before .before .before .before .before .before .args in
-    let m = frames-most (a .v) (a .f) (c .before .before .before .before .before .before .before .before .before .before .pre .0) in
+    let a = c .before .before .before .before .before .before .before .before .before .before .before .before .args in
+    let m = frames-most (a .v) (a .f) (c .before .before .before .before .before .before .before .before .before .before .before .before .pre .0) in
     omega (arith, m)
 
-slice-aggregate-commands-9 : tie.Need-slice-aggregate-commands-9
-slice-aggregate-commands-9 c =
-    let a = c .before .before .before .before .before .before .before .before .before .before .before .args in
-    sym (ap length (lent-zeroed (a .v) (a .f) (c .before .before .before .before .before .before .before .before .before .before .before .pre .0)) ∙ length-replicate (16 * a .f) 0)
+slice-aggregate-commands-11 : tie.Need-slice-aggregate-commands-11
+slice-aggregate-commands-11 c =
+    let a = c .before .before .before .before .before .before .before .before .before .before .before .before .before .args in
+    sym (ap length (lent-zeroed (a .v) (a .f) (c .before .before .before .before .before .before .before .before .before .before .before .before .before .pre .0)) ∙ length-replicate (16 * a .f) 0)
 
 commands-requires : tie.Need-commands-requires
 commands-requires c κs =
-    let a = c .before .before .before .before .before .before .before .before .before .before .before .before .args in
-    let p = c .before .before .before .before .before .before .before .before .before .before .before .before .pre in
+    let a = c .before .before .before .before .before .before .before .before .before .before .before .before .before .before .args in
+    let p = c .before .before .before .before .before .before .before .before .before .before .before .before .before .before .pre in
     let n = ap length (lent-zeroed (a .v) (a .f) (p .0)) ∙ length-replicate (16 * a .f) 0 in
     (begun-formed (a .v) (a .f) (p .0), ((n, n), p .1))
 
@@ -75,9 +84,9 @@ same-length c = search needs
 
 returns : tie.Need-returns
 returns c =
-    let a = c .before .before .before .before .before .before .before .before .before .before .before .before .before .before .before .before .before .before .before .before .before .before .before .before .args in
-    let commands = c .before .before .before .before .before .before .before .before .before .before .before .commands in
-    (begun-lines (a .v) (a .f) (c .before .before .before .before .before .before .before .before .before .before .before .before .before .before .before .before .before .before .before .before .before .before .before .before .pre .0) (a .input .now) (a .begin) (a .out .now) (commands .result) _ (commands .ensures .0), commands .ensures .1)
+    let a = c .before .before .before .before .before .before .before .before .before .before .before .before .before .before .before .before .before .before .before .before .before .before .before .before .before .before .before .before .args in
+    let commands = c .before .before .before .before .before .before .before .before .before .before .before .before .before .commands in
+    (begun-lines (a .v) (a .f) (c .before .before .before .before .before .before .before .before .before .before .before .before .before .before .before .before .before .before .before .before .before .before .before .before .before .before .before .before .pre .0) (a .input .now) (a .begin) (a .out .now) (commands .result) _ (commands .ensures .0), commands .ensures .1)
 
 pub started-spec : {M : Type 1} → statement M
 started-spec =
@@ -86,6 +95,7 @@ started-spec =
     mul-rows
     add-rows
     array-write-rows
+    array-write-principals
     mul-n
     slice-aggregate-commands
     slice-aggregate-commands-2
@@ -94,10 +104,12 @@ started-spec =
     slice-aggregate-commands-5
     slice-aggregate-commands-6
     slice-aggregate-commands-7
-    array-borrow-prefix-cells
     slice-aggregate-commands-8
-    array-borrow-prefix-tags
     slice-aggregate-commands-9
+    array-borrow-prefix-cells
+    slice-aggregate-commands-10
+    array-borrow-prefix-tags
+    slice-aggregate-commands-11
     commands-requires
     same-length
     returns)

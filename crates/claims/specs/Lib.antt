@@ -1,0 +1,6 @@
+pub mod Claims
+pub mod Tree
+pub mod Operations
+pub mod Sound
+pub mod Numbers
+pub mod Lent
