@@ -25,7 +25,7 @@ use Rattle.claims.proofs.Reading.{parent-read, limit-read}
 
 -- A list in two parts, where the first may be longer than the list.
 module _ {A : Type 0} (v : ℕ) (l : List A) (n : ℕ) (e : n ≡ min v (length l)) where
-  part-low : take n l ≡ take v l
+  pub part-low : take n l ≡ take v l
   part-low = go (leb v (length l)) refl
     where
       go : (b : Bool) → leb v (length l) ≡ b → take n l ≡ take v l
@@ -41,12 +41,18 @@ module _ {A : Type 0} (v : ℕ) (l : List A) (n : ℕ) (e : n ≡ min v (length 
           let h = leb-false v (length l) t in
           drop-of-length-le l {i = n} (omega arith) ∙ sym (drop-of-length-le l {i = v} (omega arith))
 
+-- Of few counts the first 65,535 are all.
+pub above-all : (l : List ℕ) → length l ≤ 256 → above (take 65535 l) ≡ above l
+above-all l h = ap above (take-all 65535 l (omega arith))
+
 pub spent-parts :
-    (v : ℕ) (l : List ℕ) (n low high : ℕ) → n ≡ min v (length l) → low ≡ above (take n l) → high ≡ above (take (length l - n) (drop n l))
-    → (low + high ≡ above l) × (high ≡ above (drop v l))
-spent-parts v l n low high e a b =
-    let top : high ≡ above (drop v l) = b ∙ ap above (part-high v l n e) in
-    (omega (arith, a ∙ ap above (part-low v l n e), top, above-parts v l), top)
+    (v : ℕ) (l : List ℕ) (n low high : ℕ) → length l ≤ 256 → n ≡ min v (length l) → low ≡ above (take 65535 (take n l))
+    → high ≡ above (take 65535 (take (length l - n) (drop n l))) → (low + high ≡ above l) × (high ≡ above (drop v l))
+spent-parts v l n low high few e a b =
+    let one = above-all (take n l) (omega (arith, length-take n l)) in
+    let two = above-all (take (length l - n) (drop n l)) (omega (arith, length-take (length l - n) (drop n l), length-drop n l)) in
+    let top : high ≡ above (drop v l) = b ∙ two ∙ ap above (part-high v l n e) in
+    (omega (arith, a ∙ one ∙ ap above (part-low v l n e), top, above-parts v l), top)
 
 -- No limit is above 65,535 + 256.
 module _ (numbers counts : List ℕ) where

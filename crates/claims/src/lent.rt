@@ -2,9 +2,9 @@
 use crate::Principal;
 use crate::number::number_of;
 use crate::number::principal_of;
-ghost use Prim.Native.Nat.{_+_, _*_, _≤_};
+ghost use Prim.Native.Nat.{_+_, _*_, min};
 ghost use mathlib.Core.Path.{_≡_};
-ghost use lib.ListN.{length, set};
+ghost use lib.ListN.{set, take};
 ghost use Rattle.capabilities.specs.Lists.{pick};
 ghost use Rattle.claims.specs.Claims.{above};
 ghost use Rattle.claims.specs.Numbers.{principalFrom, principalCode};
@@ -78,14 +78,20 @@ pub fn any_counts(counts: &[u16], page: u8) -> bool
     any
 }
 
-// How many of some counts are above 0.
-pub(crate) fn above(counts: &[u16]) -> u16
-    requires { ⌜ length (now counts) ≤ 65535 ⌝ }
-    ensures { λ r. ⌜ r ≡ above (now (counts .entry)) ⌝ }
+pub(crate) fn lesser(a: usize, b: usize) -> usize
+    ensures { λ r. ⌜ r ≡ min a b ⌝ }
 {
+    if a < b { a } else { b }
+}
+
+// How many of the first 65,535 of some counts are above 0: so many a `u16` can count, and in 16 bits the compiler takes eight at a time.
+pub(crate) fn above(counts: &[u16]) -> u16
+    ensures { λ r. ⌜ r ≡ above (take 65535 (now (counts .entry))) ⌝ }
+{
+    let end = lesser(counts.len(), 65535);
     let mut n: u16 = 0;
     let mut i: usize = 0;
-    while i < counts.len() {
+    while i < end {
         n += (0 < counts[i]) as u16;
         i += 1;
     }

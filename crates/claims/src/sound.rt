@@ -1,12 +1,13 @@
 // Whether lent principals and counts are well-formed claims: one pass over the counts.
 use crate::Principal;
 use crate::lent::above;
+use crate::lent::lesser;
 use crate::lent::limit_of;
 use crate::lent::principal_in;
 use crate::number::is_written;
 use crate::number::principal_of;
 use crate::tree::leads_up;
-ghost use Prim.Native.Nat.{ℕ, _≤_, min};
+ghost use Prim.Native.Nat.{ℕ, _≤_};
 ghost use mathlib.Core.Bool.{_&&_, _||_};
 ghost use mathlib.Core.Path.{_≡_};
 ghost use mathlib.Core.List.{List};
@@ -21,12 +22,6 @@ ghost use Rattle.claims.specs.Lent.{principalIn};
 struct Spent {
     all: u16,
     high: u16,
-}
-
-fn lesser(a: usize, b: usize) -> usize
-    ensures { λ r. ⌜ r ≡ min a b ⌝ }
-{
-    if a < b { a } else { b }
 }
 
 fn spent_of(v: u16, window: &[u16]) -> Spent

@@ -4,6 +4,7 @@ use mathlib.Core.Path.{sym, ap, _∙_}
 use Rattle.capabilities.specs.Lists.{pick}
 use Rattle.capabilities.proofs.Choice.{pick-yes}
 use Rattle.claims.specs.Numbers.{principalFrom}
+use Rattle.claims.proofs.Looping.{above-all}
 use borrow.Author.Needs.{needs}
 use Rattle.claims.proofs.destroying.share.Statement.{statement}
 use Rattle.claims.proofs.destroying.share.Tie as tie
@@ -17,7 +18,7 @@ limit-of-requires c κs = search needs
 returns : tie.Need-returns
 returns c =
     let a = c .before .before .before .before .args in
-    c .limit-of .ensures ∙ ap (λ (n : ℕ). pick (principalFrom (a .number) .being) n 0 + principalFrom (a .number) .unspent) (c .before .above .ensures)
+    c .limit-of .ensures ∙ ap (λ (n : ℕ). pick (principalFrom (a .number) .being) n 0 + principalFrom (a .number) .unspent) (c .before .above .ensures ∙ above-all (a .window .now) (c .before .before .before .before .pre))
     ∙ sym (pick-yes (a .marked) _ 0 (c .before .before .if1 .taken))
 
 returns-2 : tie.Need-returns-2

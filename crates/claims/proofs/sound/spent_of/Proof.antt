@@ -1,7 +1,6 @@
 -- `claims::sound::spent_of` meets its contract. The counts in two parts: `above-parts`.
 use native.Mathlib.Omega.{arith}
 use mathlib.Core.Path.{sym}
-use lib.ListN.{length-take}
 use lib.Seq.{length-take-le}
 use Rattle.claims.proofs.Counting.{above-length}
 use Rattle.claims.proofs.Looping.{spent-parts}
@@ -16,7 +15,7 @@ slice-aggregate-above : tie.Need-slice-aggregate-above
 slice-aggregate-above c = sym (length-take-le (c .before .lesser .result) (c .before .before .before .args .window .now) (omega (arith, c .before .lesser .ensures)))
 
 above-requires : tie.Need-above-requires
-above-requires c κs = omega (arith, length-take (c .before .lesser .result) (c .before .before .before .args .window .now), c .before .before .before .pre)
+above-requires c κs = search needs
 
 mul-above : tie.Need-mul-above
 mul-above c = search needs
@@ -35,11 +34,11 @@ above-requires-2 c κs = search needs
 
 add-t13 : tie.Need-add-t13
 add-t13 c =
-    let sums = spent-parts (c .before .before .before .before .before .before .args .v) (c .before .before .before .before .before .before .args .window .now) (c .before .before .before .before .lesser .result) (c .before .before .above .result) (c .above2 .result) (c .before .before .before .before .lesser .ensures) (c .before .before .above .ensures) (c .above2 .ensures) in
+    let sums = spent-parts (c .before .before .before .before .before .before .args .v) (c .before .before .before .before .before .before .args .window .now) (c .before .before .before .before .lesser .result) (c .before .before .above .result) (c .above2 .result) (c .before .before .before .before .before .before .pre) (c .before .before .before .before .lesser .ensures) (c .before .before .above .ensures) (c .above2 .ensures) in
     omega (arith, sums .0, above-length (c .before .before .before .before .before .before .args .window .now), c .before .before .before .before .before .before .pre)
 
 returns : tie.Need-returns
-returns c = spent-parts (c .before .before .before .before .before .before .args .v) (c .before .before .before .before .before .before .args .window .now) (c .before .before .before .before .lesser .result) (c .before .before .above .result) (c .above2 .result) (c .before .before .before .before .lesser .ensures) (c .before .before .above .ensures) (c .above2 .ensures)
+returns c = spent-parts (c .before .before .before .before .before .before .args .v) (c .before .before .before .before .before .before .args .window .now) (c .before .before .before .before .lesser .result) (c .before .before .above .result) (c .above2 .result) (c .before .before .before .before .before .before .pre) (c .before .before .before .before .lesser .ensures) (c .before .before .above .ensures) (c .above2 .ensures)
 
 pub spent-of-spec : {M : Type 1} → statement M
 spent-of-spec =
