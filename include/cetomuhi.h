@@ -4,8 +4,8 @@
  * The functions of the library (section "The library") are total: they answer for all numbers,
  * bytes and lengths, and a refused call leaves every byte as it was. The inline functions after
  * them put pointers and lengths in their places; they are tested, not proved. "The document" is
- * document 01 with requests 2026-01, 2026-02, 2026-04 and 2026-05, whose numbers the commands and
- * refusals bear.
+ * document 01 with requests 2026-01, 2026-02, 2026-04, 2026-05 and 2026-11, whose numbers the
+ * commands and refusals bear.
  *
  * What a caller owes, here as with all C: pointers are valid and aligned for the lengths that go
  * with them, and what a function writes overlaps nothing else that it is handed. Nothing is kept
@@ -195,6 +195,14 @@ typedef struct cetomuhi_answer {
 CETOMUHI_ASSERT(sizeof(cetomuhi_answer) == CETOMUHI_ANSWER_NUMBERS * sizeof(uint64_t),
                 "answers in a row are their numbers in a row");
 
+/* What a page costs the n principals that claim it, each counted once, however often it claims:
+ * 16 = n * share + remainder, and the remainder is below n. With n 0 they are 0 and 16. */
+typedef struct cetomuhi_cost {
+    uint64_t code;      /* 0, or refusal 1 or 12 */
+    uint64_t share;     /* cells for each; 0 if refused */
+    uint64_t remainder; /* cells left over; 0 if refused */
+} cetomuhi_cost;
+
 /* ---- The library ----
  *
  * A slice is a pointer and a length. No pointer may be null, also where the length is 0. Ten
@@ -225,6 +233,17 @@ bool cetomuhi_well_formed(const uint16_t *numbers, size_t numbers_len, const uin
                           const uint16_t *pages, size_t pages_len, const uint8_t *frames,
                           size_t frames_len, const uint64_t *principals, size_t principals_len,
                           const uint16_t *counts, size_t counts_len);
+
+/* What a page costs those who claim it (cetomuhi_cost), the state tested first: the code. Nothing
+ * is changed; share and remainder are written always. */
+uint8_t cetomuhi_page_cost(const uint16_t *numbers, size_t numbers_len, const uint64_t *words,
+                           size_t words_len, const uint8_t *marks, size_t marks_len,
+                           const uint64_t *mail, size_t mail_len, const uint8_t *flags,
+                           size_t flags_len, const uint64_t *rows, size_t rows_len,
+                           const uint16_t *pages, size_t pages_len, const uint8_t *frames,
+                           size_t frames_len, const uint64_t *principals, size_t principals_len,
+                           const uint16_t *counts, size_t counts_len, uint64_t page,
+                           uint64_t *share, uint64_t *remainder);
 
 /* The command that stands at `at`, the state tested first: 1, and code, number, tag and used come
  * first in `answers`. 0, and nothing is done, if `answers` is shorter than four. */
@@ -394,6 +413,13 @@ static inline bool cetomuhi_state_well_formed(const cetomuhi_state *state) {
     return cetomuhi_well_formed(CETOMUHI_SLICES(state));
 }
 
+/* What a page costs those who claim it. Lent memory has no part in it. */
+static inline cetomuhi_cost cetomuhi_state_page_cost(const cetomuhi_state *state, uint64_t page) {
+    cetomuhi_cost cost = {0, 0, 0};
+    cost.code = cetomuhi_page_cost(CETOMUHI_SLICES(state), page, &cost.share, &cost.remainder);
+    return cost;
+}
+
 /* The memory, or none of it if a pointer is null; `cell` and `tag` are there to be pointed at. */
 static inline cetomuhi_memory cetomuhi_lent(cetomuhi_memory memory, uint64_t *cell, uint8_t *tag) {
     const cetomuhi_memory none = {cell, tag, 0};
@@ -454,6 +480,11 @@ static inline cetomuhi_memory cetomuhi_machine_memory(cetomuhi_machine *machine)
 
 static inline bool cetomuhi_machine_well_formed(const cetomuhi_machine *machine) {
     return cetomuhi_state_well_formed(&machine->state);
+}
+
+static inline cetomuhi_cost cetomuhi_machine_page_cost(const cetomuhi_machine *machine,
+                                                       uint64_t page) {
+    return cetomuhi_state_page_cost(&machine->state, page);
 }
 
 static inline cetomuhi_answer cetomuhi_machine_command(cetomuhi_machine *machine,

@@ -55,11 +55,15 @@ static const uint8_t zero_frame[] = {CETOMUHI_ZERO, 0, 0};
 static void wrong_length(const struct wide *fresh, const size_t *lengths, uint64_t code) {
     static struct wide w;
     static struct wide before;
+    uint64_t cost[] = {5, 1};
     w = *fresh;
     if (code == CETOMUHI_REFUSED_ILL_FORMED) {
         CHECK(cetomuhi_start(4, FRAMES, WIDE(&w, lengths)) == 1);
         CHECK(cetomuhi_start(0, 0, WIDE(&w, lengths)) == 1);
         CHECK(!cetomuhi_well_formed(WIDE(&w, lengths)));
+        CHECK(cetomuhi_page_cost(WIDE(&w, lengths), 0, &cost[0], &cost[1]) == 1);
+        CHECK(cost[0] == 0 && cost[1] == 0);
+        CHECK(cetomuhi_page_cost(WIDE(&w, lengths), 4, &cost[0], &cost[1]) == 1);
         CHECK(memcmp(&w, fresh, sizeof w) == 0);
     }
     for (int run = 0; run < 2; run++) {

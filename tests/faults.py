@@ -1,5 +1,6 @@
 #!/usr/bin/env python3
 """Shows that the checklist's sessions catch its faults, and those of requests 2026-01, 2026-02 and 2026-05 theirs.
+Then, if the library is built, that its tests catch theirs (tests/library_faults.py).
 
 Puts one fault after another into a copy of the plain implementation in bench/ and runs sessions/
 over it. Each fault must make the sessions that are named with it print something else. No line
@@ -13,6 +14,8 @@ import shutil
 import subprocess
 import sys
 import tempfile
+
+import library_faults
 
 ROOT = pathlib.Path(__file__).resolve().parent.parent
 
@@ -373,6 +376,7 @@ def main():
         if differing_sessions(bench) != set():
             sys.exit("sessions differ without a fault")
         caught = [try_fault(bench, fault) for fault in FAULTS]
+    caught += library_faults.try_all()
     print(f"{sum(caught)} faults caught, {len(caught) - sum(caught)} missed")
     sys.exit(0 if all(caught) else 1)
 

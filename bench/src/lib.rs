@@ -1,7 +1,8 @@
-//! The rules of document 01 and requests 2026-01, 2026-02, 2026-04 and 2026-05 in plain Rust, written
-//! from the documents alone, and what compares and times them against the proved libraries, which
-//! the crate `cetomuhi` wraps.
+//! The rules of document 01 and requests 2026-01, 2026-02, 2026-04, 2026-05 and 2026-11 in plain
+//! Rust, written from the documents alone, and what compares and times them against the proved
+//! libraries, which the crate `cetomuhi` wraps.
 
+pub mod costs;
 pub mod generate;
 pub mod hex;
 #[cfg(feature = "proved")]

@@ -26,8 +26,10 @@ fn sound_state(random: &mut Random) -> Lent {
         state.step(&mut Memory { cells: &mut cells, tags: &mut tags }, call);
         rest = &rest[used..];
     }
+    let mut memory = Memory { cells: &mut cells, tags: &mut tags };
     if random.one_in(4) {
-        found(random, &mut state, &mut Memory { cells: &mut cells, tags: &mut tags });
+        found(random, &mut state, &mut memory);
+        share(random, &mut state, &mut memory);
     }
     Lent::of(&written(&state), &cells, &tags)
 }
@@ -43,6 +45,18 @@ fn found(random: &mut Random, state: &mut State, memory: &mut Memory) {
         let create = Action::Create { parent, child, limit, holder };
         let answer = state.step(memory, Call { party: payer.holder, action: create });
         parent = if answer.code == 0 { child } else { parent };
+    }
+}
+
+/// Has any number of principals, up to all, claim one page as far as they may, some of them twice.
+fn share(random: &mut Random, state: &mut State, memory: &mut Memory) {
+    let page = random.below(state.pages.pages().len()) as u8;
+    let in_being: Vec<_> = state.claims.principals().collect();
+    for (principal, entry) in in_being.iter().take(random.below(PRINCIPALS + 1)) {
+        let (party, principal) = (entry.holder, *principal);
+        for _ in 0..1 + random.below(2) {
+            state.step(memory, Call { party, action: Action::Claim { principal, page } });
+        }
     }
 }
 
@@ -302,6 +316,22 @@ pub fn place(random: &mut Random, length: usize) -> usize {
     }
 }
 
+/// A page that is claimed, any page, the last one, V, or a number beyond, which may end in the bits
+/// of a page.
+pub fn page(random: &mut Random, lent: &Lent) -> u64 {
+    let v = lent.numbers.first().map_or(4, |v| u64::from(*v));
+    let any = random.below(1 + v as usize) as u64;
+    let claimed = (0..).zip(&lent.counts).filter(|(_, count)| **count > 0);
+    match random.below(8) {
+        0 => v,
+        1 => v.wrapping_sub(1),
+        2 => any + *random.pick(&[256, 1 << 16, 1 << 32, u64::MAX - 65_535]),
+        3 => random.number(),
+        4 | 5 => any,
+        _ => random.pick_any(claimed).map_or(any, |(place, _): (u64, _)| place % 256),
+    }
+}
+
 /// Seven numbers, or some other count of them; mostly a call.
 pub fn call_numbers(random: &mut Random) -> Box<[u64]> {
     let count = if random.one_in(8) { random.below(12) } else { 7 };
@@ -370,5 +400,10 @@ mod tests {
         }
         let all_in_being = |state: &&State| state.claims.principals().count() == PRINCIPALS;
         assert!(formed.iter().filter(all_in_being).count() > 100);
+        let most_claimants = |state: &State| {
+            let pages = 0..state.pages.pages().len();
+            pages.map(|page| state.claims.claimants(page)).max().unwrap_or(0)
+        };
+        assert!(formed.iter().filter(|state| most_claimants(state) > 16).count() > 100);
     }
 }

@@ -110,6 +110,18 @@ fn claims() -> [(&'static str, Vec<u8>); 3] {
     rounds.map(|(name, round)| (name, repeated(name, round)))
 }
 
+/// A start, and so many principals that claim page 1, V being above that.
+pub fn claimed(v: u16, f: u8, claimants: u8) -> Vec<u8> {
+    let mut session = Session::start(v, f);
+    for number in 0..claimants {
+        if number > 0 {
+            session.call(0, Action::Create { parent: 0, child: number, limit: 1, holder: 0 });
+        }
+        session.call(0, Action::Claim { principal: number, page: 1 });
+    }
+    session.bytes
+}
+
 /// The first of so many reservations split and merged over and over, so that all others move.
 fn moves(rows: u16) -> Vec<u8> {
     let mut session = Session::start(16, 16);
@@ -226,6 +238,9 @@ mod tests {
         }
         for (name, input) in kinds() {
             assert!(all_granted(&input), "{name}");
+        }
+        for claimants in [0, 1, 3, 32] {
+            assert!(all_granted(&claimed(16, 16, claimants)), "{claimants}");
         }
         for (name, shorter, longer) in kinds_by_difference() {
             assert!(all_granted(&longer) && longer.starts_with(&shorter), "{name}");

@@ -1,13 +1,14 @@
 //! Random states, lengths and bytes through every exported function.
 //!
 //! `bad_input [ROUNDS [SEED]]`, 1,000,000 rounds from seed 1 on. Each round has its state in arrays
-//! of their own and calls all eight functions. There must be an answer each time, and it must be the
+//! of their own and calls all nine functions. There must be an answer each time, and it must be the
 //! plain rules' one; what is refused must keep every byte. Exit status 1 if any differs.
 
 use cetomuhi::{raw, VERSION};
+use cetomuhi_bench::costs::Costs;
 use cetomuhi_bench::generate::Random;
 use cetomuhi_bench::lent::{written, Lent};
-use cetomuhi_bench::plain::{self, Memory};
+use cetomuhi_bench::plain::{self, Cost, Memory, Refusal};
 use cetomuhi_bench::{odd, operands};
 use std::process::ExitCode;
 
@@ -44,6 +45,7 @@ struct Tally {
     read: u64,
     /// Answers of single commands and of runs, by code.
     codes: [u64; 23],
+    costs: Costs,
     differences: usize,
 }
 
@@ -55,6 +57,7 @@ impl Tally {
         for (code, count) in self.codes.iter().enumerate() {
             println!("  {code:>2} {count:>10}");
         }
+        print!("{}", self.costs);
         println!("differences {}", self.differences);
     }
 }
@@ -65,11 +68,12 @@ fn wrong_if(condition: bool, fault: &'static str) -> Fault {
     condition.then_some(fault)
 }
 
-fn try_all(random: &mut Random, sound: &[Lent], tally: &mut Tally) -> [Fault; 7] {
+fn try_all(random: &mut Random, sound: &[Lent], tally: &mut Tally) -> [Fault; 8] {
     let lent = odd::state(random, sound);
     let which = random.number();
     [
         try_well_formed(&lent, tally),
+        try_page_cost(random, &lent, tally),
         try_command(random, lent.clone(), tally),
         try_commands(random, lent.clone(), tally),
         try_start(random, lent.clone(), tally),
@@ -90,6 +94,21 @@ fn try_well_formed(lent: &Lent, tally: &mut Tally) -> Fault {
     let found = raw::well_formed(lent.arrays());
     tally.well_formed += u64::from(found);
     wrong_if(found != is_well_formed(lent), "well_formed: another answer")
+}
+
+fn try_page_cost(random: &mut Random, lent: &Lent, tally: &mut Tally) -> Fault {
+    let page = odd::page(random, lent);
+    let state = lent.plain();
+    let expected = match &state {
+        Some(state) => state.page_cost(page),
+        None => Refusal::IllFormed.into(),
+    };
+    tally.costs.count(expected, state.as_ref(), page);
+    let before = lent.clone();
+    let (mut share, mut remainder) = (random.number(), random.number());
+    let code = raw::page_cost(lent.arrays(), page, &mut share, &mut remainder);
+    wrong_if(Cost { code, share, remainder } != expected, "page_cost: another answer")
+        .or(wrong_if(*lent != before, "page_cost: not kept"))
 }
 
 /// What the plain rules make of lent arrays and memory, if these are a well-formed state; the

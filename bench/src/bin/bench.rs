@@ -2,11 +2,12 @@
 //!
 //! Without the feature `proved` the plain one is timed alone. The tables are markdown.
 
+use cetomuhi_bench::costs::Machines;
 use cetomuhi_bench::plain;
 use cetomuhi_bench::proved::{self, LINES_LIMIT};
 use cetomuhi_bench::tally::Tally;
 use cetomuhi_bench::timing::{fastest, ticks_a_second};
-use cetomuhi_bench::workloads::{kinds, kinds_by_difference, mix, small_calls};
+use cetomuhi_bench::workloads::{claimed, kinds, kinds_by_difference, mix, small_calls};
 use cetomuhi_bench::workloads::{sweep, Cells, SWEPT_CELLS};
 use std::hint::black_box;
 use std::time::Duration;
@@ -20,6 +21,7 @@ fn main() {
     print_kinds_by_difference();
     print_sweeps();
     print_growth();
+    print_costs();
 }
 
 /// Seconds of both machines for the same sessions, each the fastest of many runs.
@@ -190,4 +192,44 @@ fn print_growth() {
         let rate = |variant| time(&[&sessions], variant, 300)[0].map(|s| calls / s / 1e6);
         println!("| {v} | {f} |{}{}", rates(&rate(UNCHECKED)), rates(&rate(CHECKED)));
     }
+    println!();
+}
+
+fn print_costs() {
+    println!("Nanoseconds to ask what a page costs, the state tested each time, and for that test");
+    println!("alone.\n");
+    println!("| V | F | claimants | plain | proved | ratio | plain, test | proved, test | ratio |");
+    println!("|---:|---:|---:|---:|---:|---:|---:|---:|---:|");
+    for (v, f) in [(16, 16), (256, 128)] {
+        for claimants in [0, 1, 3, 32] {
+            let session = claimed(v, f, claimants);
+            let (mut machines, commands) = Machines::start(&session).expect("V and F are in range");
+            machines.make(commands, usize::MAX);
+            let page = || black_box(1);
+            let cost = time_question(&machines, |m| m.page_cost(page()), |m| m.page_cost(page()));
+            let test = time_question(&machines, |m| m.is_well_formed(), |m| m.is_well_formed());
+            println!("| {v} | {f} | {claimants} |{}{}", costs(&cost), costs(&test));
+        }
+    }
+}
+
+/// Nanoseconds of a question, to which both must give the same answer.
+fn time_question<T: PartialEq>(
+    machines: &Machines,
+    plain: impl Fn(&plain::State) -> T,
+    proved: impl Fn(&proved::Machine) -> T,
+) -> Both {
+    const TIMES: usize = 1_000;
+    let mut by_plain = || (0..TIMES).for_each(|_| _ = black_box(plain(black_box(&machines.plain))));
+    let mut by_proved =
+        || (0..TIMES).for_each(|_| _ = black_box(proved(black_box(&machines.proved))));
+    let mut runs: Vec<&mut dyn FnMut()> = vec![&mut by_plain];
+    if proved::LINKED {
+        let same = plain(&machines.plain) == proved(&machines.proved);
+        assert!(same, "the two answer differently: run compare");
+        runs.push(&mut by_proved);
+    }
+    let best = fastest(&mut runs, Duration::from_millis(400));
+    let both = Both { plain: best[0], proved: best.get(1).copied() };
+    both.map(|seconds| seconds * 1e9 / TIMES as f64)
 }

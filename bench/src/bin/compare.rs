@@ -1,8 +1,10 @@
-//! Compares the proved library with the plain implementation on generated sessions.
+//! Compares the proved libraries with the plain implementation on generated sessions: the lines of
+//! each, and what pages cost between its commands.
 //!
 //! `compare [COUNT [FIRST]]` takes COUNT seeds from FIRST on (1,000 from 0).
 //! `compare --show SEED` prints one seed's session in hexadecimal and its lines by the plain one.
 
+use cetomuhi_bench::costs::Costs;
 use cetomuhi_bench::plain::{read, session, INPUT_LIMIT};
 use cetomuhi_bench::proved::{self, LINES_LIMIT};
 use cetomuhi_bench::{generate, tally::Tally};
@@ -27,20 +29,23 @@ fn main() -> ExitCode {
 }
 
 fn compare(count: u64, first: u64) -> ExitCode {
-    let mut tally = Tally::default();
+    let (mut tally, mut costs) = (Tally::default(), Costs::default());
     let mut differences = 0u64;
     let mut buffer = vec![0; LINES_LIMIT + 64];
     for seed in first..first + count {
         let input = generate::session(seed);
         tally.add(&input);
-        differences += u64::from(proved::LINKED && differs(seed, &input, &mut buffer));
+        if proved::LINKED {
+            differences += u64::from(differs(seed, &input, &mut buffer));
+            costs.add(seed, &input);
+        }
     }
     print!("{tally}");
     match proved::LINKED {
-        true => println!("differences {differences}"),
+        true => println!("{costs}differences {differences}, of costs {}", costs.differences),
         false => println!("nothing compared: built without the feature `proved`"),
     }
-    ExitCode::from(u8::from(differences > 0))
+    ExitCode::from(u8::from(differences + costs.differences > 0))
 }
 
 /// Says where the two disagree, if they do.

@@ -58,6 +58,11 @@ impl Claims {
         self.counts.iter().any(|counts| counts[page] > 0)
     }
 
+    /// How many principals claim the page, each once.
+    pub fn claimants(&self, page: usize) -> usize {
+        self.counts.iter().filter(|counts| counts[page] > 0).count()
+    }
+
     pub fn create(
         &mut self,
         party: u8,

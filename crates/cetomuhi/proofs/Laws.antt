@@ -1,31 +1,35 @@
 -- What a server may rely on from one call to the next. Assumes nothing.
-use Prim.Native.Nat.{ℕ, _≤_, _/_}
+use Prim.Native.Nat.{ℕ, _<_, _≤_, _/_}
 use native.Mathlib.Omega.{arith}
 use mathlib.Core.Bool.{Bool, true, false, _&&_}
 use mathlib.Core.List.{List, _∷_}
-use mathlib.Core.Path.{_≡_, refl, sym, ap, _∙_}
+use mathlib.Core.Path.{_≡_, refl, sym, ap, subst, _∙_}
 use lib.ListN.{length, drop}
 use lib.Dec.{eqb, leb}
 use borrow.Author.Tests.{eqb-true, le-leb}
-use Rattle.capabilities.specs.Lists.{pick}
 use Rattle.capabilities.proofs.Choice.{pick-yes, pick-no, and-left}
 use Rattle.pages.proofs.Formed.{sound}
+use Rattle.claims.specs.Cost.{claimants, Shares}
+use Rattle.claims.specs.Numbers.{claimsIn}
 use Rattle.reservations.proofs.CoreKept.{core-facts}
 use Rattle.machine.specs.Formed.{startOf}
+use Rattle.machine.specs.Cost.{uncosted, pageCost}
 use Rattle.machine.proofs.Keeps.{facts, start-formed}
+use Rattle.machine.proofs.Costs.{cost-shared}
 use Rattle.arrays.specs.declared.Arrays.{Arrays}
 use Rattle.arrays.specs.declared.Numbers.{Numbers}
 use Rattle.arrays.specs.Reading.{coreOf, stateOf, arraysOf}
 use Rattle.arrays.proofs.RoundTrip.{written-formed}
 use Rattle.formed.specs.Test.{formedOf, sized}
 use Rattle.formed.proofs.Tested.{tested, passing}
+use Rattle.cost.specs.Asked.{costOn}
 use Rattle.step.specs.Entries.{Told, commandOn}
 use Rattle.step.specs.Runs.{runIn}
 use Rattle.step.proofs.Commanding.{command-unformed}
 use Rattle.cetomuhi.specs.Lent.{Lent, small, numbersFrom, arraysIn, arraysOver}
 use Rattle.cetomuhi.proofs.Fits.{command-formed-on, run-keeps}
 use Rattle.cetomuhi.proofs.Writing.{arrays-back, lent-back}
-use Rattle.cetomuhi.specs.Exports.{Done, done, doneOne, Started, started, startLent, formedLent, commandLent, commandsLent}
+use Rattle.cetomuhi.specs.Exports.{Done, done, doneOne, Started, started, startLent, formedLent, costLent, commandLent, commandsLent}
 
 -- A state of another count of small numbers than six is not well formed.
 pub six-numbers : (l : Lent) → formedLent l ≡ true → length (l .numbers) ≡ 6
@@ -100,3 +104,13 @@ module _ (l : Lent) (input : List ℕ) (at : ℕ) (cells tags answers : List ℕ
   commands-lent-formed e =
       ap formedOf (commands-lent (six-numbers l e))
       ∙ run-keeps (λ (x : Arrays). formedOf x ≡ true) input (λ x q at cells tags. command-formed-on x q input at cells tags) (length answers / 4) (arraysIn l) e at cells tags
+
+-- The cost of a page of a well-formed state: it is granted, and those who claim the page pay for its 16 cells.
+pub cost-lent :
+    (l : Lent) (n : ℕ) → formedLent l ≡ true → n < numbersFrom (l .numbers) .v
+    → (costLent l n .code ≡ 0) × Shares (claimants (claimsIn (l .principals) (l .counts)) n) (costLent l n .cost)
+unfolding formedLent costLent costOn stateOf coreOf
+cost-lent l n e h =
+    let a = arraysIn l in
+    subst (λ r. (r .code ≡ 0) × Shares (claimants (claimsIn (l .principals) (l .counts)) n) (r .cost))
+    (sym (pick-yes (formedOf a) (pageCost (stateOf a) n) (uncosted 1) e)) (cost-shared (stateOf a) n (tested a e .well) h)

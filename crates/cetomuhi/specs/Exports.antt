@@ -6,9 +6,11 @@ use lib.ListN.{length, getD, drop}
 use lib.Dec.{eqb, leb}
 use Rattle.capabilities.specs.Lists.{pick}
 use Rattle.machine.specs.Formed.{startOf}
+use Rattle.machine.specs.Cost.{Costed}
 use Rattle.arrays.specs.declared.Arrays.{Arrays}
 use Rattle.arrays.specs.Reading.{arraysOf}
 use Rattle.formed.specs.Test.{formedOf, sized}
+use Rattle.cost.specs.Asked.{costOn}
 use Rattle.step.specs.Entries.{Told, commandOn}
 use Rattle.step.specs.Runs.{answerNumbers, runIn}
 use Rattle.cetomuhi.specs.Lent.{Lent, arraysIn, arraysOver}
@@ -35,6 +37,10 @@ startLent v f l =
 -- Whether what is lent is a well-formed state.
 unfoldable pub formedLent : Lent → Bool
 formedLent l = formedOf (arraysIn l)
+
+-- What those who claim a page pay for it.
+unfoldable pub costLent : Lent → ℕ → Costed
+costLent l n = costOn (arraysIn l) n
 
 -- What commands leave: how many were done, and all that is lent.
 pub record Done : Type 0 where

@@ -4,6 +4,7 @@ use crate::numbers::numbers_from;
 use arrays::Answer;
 use arrays::Numbers;
 use capabilities::refusal::first;
+use cost::page_cost;
 use formed::formed;
 use formed::fresh::start_in;
 use operands::read_numbers;
@@ -15,11 +16,13 @@ ghost use Prim.Native.Nat.{_<_, _≤_};
 ghost use lib.ListN.{length, drop};
 ghost use Rattle.words.specs.Words.{empty};
 ghost use Rattle.arrays.specs.Reading.{arrays};
+ghost use Rattle.claims.specs.Cost.{cost};
+ghost use Rattle.machine.specs.Cost.{costed};
 ghost use Rattle.arrays.specs.Steps.{answer as answering};
 ghost use Rattle.step.specs.Runs.{answerNumbers};
 ghost use Rattle.operands.specs.Numbers.{answered, writeNumbers, readNumbers};
 ghost use Rattle.cetomuhi.specs.Lent.{lent, numbersOver};
-ghost use Rattle.cetomuhi.specs.Exports.{sizeOf, started, startLent, formedLent, done, endCode, commandLent, reached, commandsLent};
+ghost use Rattle.cetomuhi.specs.Exports.{sizeOf, started, startLent, formedLent, costLent, done, endCode, commandLent, reached, commandsLent};
 
 mod numbers;
 
@@ -181,6 +184,44 @@ pub extern "C" fn cetomuhi_well_formed(
         principals,
         counts,
     )
+}
+
+// What those who claim a page pay for it: its code is answered, and share and remainder are put, 0 and 0 where it is refused.
+#[no_mangle]
+pub extern "C" fn cetomuhi_page_cost(
+    numbers: &[u16],
+    words: &[u64],
+    marks: &[u8],
+    mail: &[u64],
+    flags: &[u8],
+    rows: &[u64],
+    pages: &[u16],
+    frames: &[u8],
+    principals: &[u64],
+    counts: &[u16],
+    page: u64,
+    share: &mut u64,
+    remainder: &mut u64,
+) -> u8
+    ensures { λ r. ⌜ costed r (cost (now (share .exit)) (now (remainder .exit))) ≡ costLent (lent (now (numbers .entry)) (now (words .entry)) (now (marks .entry)) (now (mail .entry)) (now (flags .entry)) (now (rows .entry)) (now (pages .entry)) (now (frames .entry)) (now (principals .entry)) (now (counts .entry))) page ⌝ }
+{
+    let nums = numbers_from(numbers);
+    let asked = page_cost(
+        nums,
+        words,
+        marks,
+        mail,
+        flags,
+        rows,
+        pages,
+        frames,
+        principals,
+        counts,
+        page,
+    );
+    *share = asked.share as u64;
+    *remainder = asked.remainder as u64;
+    asked.code
 }
 
 // One command of the bytes at a place, on any state, memory and input: a run of one, so that a command's code stands in the archive once.

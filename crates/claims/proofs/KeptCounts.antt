@@ -82,7 +82,7 @@ claim-balance n u h = go (eqb n 0) refl
         let a = one-some n (omega (arith, z)) in let b = one-some (n + 1) (omega arith) in
         omega (arith, a, b)
 
-first-spends : (n before after : ℕ) → after + one n ≡ before + one (n + 1) → after ≡ pick (eqb n 0) (before + 1) before
+pub first-spends : (n before after : ℕ) → after + one n ≡ before + one (n + 1) → after ≡ pick (eqb n 0) (before + 1) before
 first-spends n before after h = go (eqb n 0) refl
   where
     more : one (n + 1) ≡ 1

@@ -10,6 +10,7 @@ pub mod Changed
 pub mod Balanced
 pub mod Claimable
 pub mod KeptCounts
+pub mod Paying
 pub mod Emptying
 pub mod Created
 pub mod Destroyed

@@ -16,10 +16,11 @@ use Rattle.claims.specs.Tree.{leadsUp}
 use Rattle.claims.specs.Operations.{createReasons, createOf, claimReasons, withCount, claimOf, releaseReasons, releaseOf, destroyReasons, returned, destroyOf}
 use Rattle.claims.specs.Sound.{claimsSound}
 use Rattle.claims.specs.Numbers.{principalFrom, principalCode, claimsIn, numbersOf, window, padded, laid, sizedIn, keptIn, soundIn}
-use Rattle.claims.specs.Lent.{principalIn, countIn, unspentPut, createdIn, claimedIn, releasedIn, emptied, destroyedIn, clearedIn, anyCounts}
+use Rattle.claims.specs.Cost.{claimants}
+use Rattle.claims.specs.Lent.{principalIn, countIn, unspentPut, createdIn, claimedIn, releasedIn, emptied, destroyedIn, clearedIn, anyCounts, claimantsIn}
 use Rattle.claims.proofs.Facts.{facts}
-use Rattle.claims.proofs.Sums.{sum-parts}
-use Rattle.claims.proofs.Counting.{any-snoc}
+use Rattle.claims.proofs.Sums.{sum-same, sum-parts}
+use Rattle.claims.proofs.Counting.{one, any-snoc}
 use Rattle.claims.proofs.Laid.{padded-none, getD-padded, window-laid, getD-window, laid-same, laid-set, laid-cleared}
 use Rattle.claims.proofs.Principals.{held-being, being-below, none-at, counted-at, unspent-small}
 use Rattle.claims.proofs.Claimable.{claimable, releasable}
@@ -203,3 +204,8 @@ module _ (v : ℕ) (numbers counts : List ℕ) (s : soundIn v numbers counts ≡
   pub claimed-in : (page : ℕ) → page < 256 → claimed c page ≡ anyCounts 32 counts page
   claimed-in page h =
       ap (anyAbove page) (sym (take-all 32 (c .counts) (omega (arith, facts v c formed .of-counts)))) ∙ any-below page h 32 (omega arith)
+
+  -- How many claim a page.
+  pub claimants-in : (page : ℕ) → page < 256 → claimants c page ≡ claimantsIn counts page
+  unfolding claimants
+  claimants-in page h = sum-same 32 (λ p. one (countOf c p page)) (λ p. one (countIn counts p page)) (λ p k. ap one (count-at p page k h))

@@ -6,7 +6,7 @@ use lib.ListN.{getD, set}
 use lib.Dec.{eqb, ltb}
 use Rattle.capabilities.specs.Lists.{pick, mapEach}
 use Rattle.claims.specs.declared.Principal.{Principal}
-use Rattle.claims.specs.Claims.{Claims, principal, leaving, parentOf}
+use Rattle.claims.specs.Claims.{Claims, principal, leaving, parentOf, sum}
 use Rattle.claims.specs.Tree.{leadsUp}
 use Rattle.claims.specs.Operations.{returned}
 use Rattle.claims.specs.Numbers.{principalFrom, principalCode, claimsIn}
@@ -50,3 +50,7 @@ clearedIn numbers counts p = mapEach (λ i n. emptied (claimsIn numbers counts) 
 unfoldable pub anyCounts : ℕ → List ℕ → ℕ → Bool
 anyCounts zero counts page = false
 anyCounts (suc n) counts page = anyCounts n counts page || ltb 0 (countIn counts n page)
+
+-- How many of the 32 principals count the page above 0.
+abbrev pub claimantsIn : List ℕ → ℕ → ℕ
+claimantsIn counts page = sum 32 (λ p. pick (ltb 0 (countIn counts p page)) 1 0)

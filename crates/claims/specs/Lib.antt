@@ -3,4 +3,5 @@ pub mod Tree
 pub mod Operations
 pub mod Sound
 pub mod Numbers
+pub mod Cost
 pub mod Lent

@@ -1,20 +1,38 @@
 -- Where privacy begins: the refusal and the effect of a call depend only on the core, the mailboxes and the registers that
 -- the call reads. Other registers and the contents of lent memory play no part. Assumes nothing.
 use Prim.Native.Nat.{ℕ, _*_}
-use mathlib.Core.Bool.{true, not}
+use mathlib.Core.Bool.{Bool, true, not, _&&_}
 use mathlib.Core.List.{List, _∷_}
-use mathlib.Core.Path.{_≡_, sym, ap, _∙_}
+use mathlib.Core.Path.{_≡_, refl, sym, ap, _∙_}
 use lib.ListN.{length}
+use lib.Dec.{eqb}
+use Rattle.capabilities.specs.Lists.{each}
 use Rattle.capabilities.specs.Refusals.{first, reason}
 use Rattle.pages.specs.Layer.{serves}
 use Rattle.pages.proofs.Memory.{served}
+use Rattle.table.specs.Rows.{live}
+use Rattle.table.specs.Tiling.{takersSound}
+use Rattle.claims.specs.Sound.{claimsSound}
+use Rattle.reservations.specs.Core.{Core}
+use Rattle.reservations.specs.Revocation.{coreSound}
 use Rattle.calls.specs.declared.Call.{Call}
+use Rattle.words.specs.declared.Slot.{Slot}
 use Rattle.machine.specs.State.{State}
-use Rattle.machine.specs.Formed.{wellFormed}
+use Rattle.machine.specs.Formed.{mailboxSound, mailboxesSound, formedBare, wellFormed}
 use Rattle.machine.specs.Reasons.{reads, reasons}
 use Rattle.machine.specs.Effects.{effect}
 use Rattle.machine.specs.Step.{reasonsOn, effectOn, stepOf}
 use Rattle.machine.proofs.Lowest.{step-code}
+
+-- Whether a state is well formed depends on the core, the mailboxes and how many registers there are.
+unfoldable pub formedBy : Core → List Slot → ℕ → Bool
+formedBy k mail registers =
+    (((coreSound k && each mailboxSound 0 mail) && (eqb registers 64 && eqb (length mail) 8)) && claimsSound (k .pages .v) (k .claims))
+    && takersSound (live (k .table))
+
+pub formed-by : (s : State) → wellFormed s ≡ formedBy (s .core) (s .mailboxes) (length (s .registers))
+unfolding formedBy wellFormed formedBare mailboxesSound
+formed-by s = refl
 
 -- Two states that agree in the core, the mailboxes and the registers that the call reads.
 pub record Alike (s t : State) (c : Call) : Type 0 where

@@ -20,3 +20,5 @@ pub mod WrongMachines
 pub mod Shapes
 pub mod Masking
 pub mod Undoing
+pub mod Costs
+pub mod WrongCosts

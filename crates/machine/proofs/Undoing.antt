@@ -80,11 +80,11 @@ paged-behind s p page l r z f =
     (behind 12 (noPage (s .core .pages) page) l r (λ e. omega arith) (first-clear 4 (unnamed p) _ (λ e. omega arith) z .1) f)
 
 module _ (s : State) (w : wellFormed s ≡ true) where
-  sound : claimsSound (s .core .pages .v) (s .core .claims) ≡ true
+  pub sound : claimsSound (s .core .pages .v) (s .core .claims) ≡ true
   sound = facts s w .claims
 
   -- A page below V has a count.
-  low : (page : VirtualPage) → page .0 < s .core .pages .v → page .0 < 256
+  pub low : (page : VirtualPage) → page .0 < s .core .pages .v → page .0 < 256
   low page h = let few = layer.sound (s .core .pages) (core-facts (s .core) (facts s w .core) .layer) .v-most in omega (arith, h, few)
 
 pub claim-released : ClaimReleased

@@ -1,6 +1,6 @@
 -- None of the wrong machines is the rule: by one computation over the list, and since equal outcomes have equal numbers.
 use Prim.Native.Nat.{ℕ}
-use mathlib.Core.Bool.{true, false, not, true≢false}
+use mathlib.Core.Bool.{Bool, true, false, not, true≢false}
 use mathlib.Core.List.{List, [], _∷_}
 use mathlib.Core.Path.{_≡_, refl, sym, ap, _∙_}
 use lib.Dec.{eqb}
@@ -12,7 +12,7 @@ use Rattle.claims.specs.Numbers.{principalCode}
 use Rattle.calls.specs.declared.Call.the-variants.{Take}
 use Rattle.machine.specs.Step.{Outcome, stepOf}
 use Rattle.machine.specs.Forgetting.{startBare}
-use Rattle.machine.specs.Edges.{same, all}
+use Rattle.machine.specs.Edges.{same, all, Every}
 use Rattle.machine.specs.Variants.{Rule, Obeys, instead, sweepBy, takeBy, maskBy, plainBy, splitBy, mergeBy, revokeBy, endBy, unmapBy, storeBy, loadBy, collectBy, createBy, claimBy, releaseBy, destroyBy, ruledBy, claimAgainst, destroyAgainst, toldBy}
 use Rattle.machine.specs.WrongClaims.{takesNoLimit, spendsAlways, returnsAlways, destroys, ownMayDestroy, passesLast, allCounts}
 use Rattle.machine.specs.WrongMachines.{Wrong, clearsAll, inventsLeft, inventsLength, pleadsFull, takesForNobody, takesForManager, keepsLower, saysSeveral, joinsOwn, revokesForNobody, collectsNoTaker, filtersAtRest, dropsNumber, clearsByte, turnsDown, answersAlike, keepsState, releases, tagged, tellsTags, refusalWrites, after, from, lent, splits, neighbours, family, counted, machines, numbers, leaves, differs, shown, startRefused, NoneObeys}
@@ -28,7 +28,7 @@ unfolding startRefused startBare computing
 taker-0-refused = refl
 
 -- A list is the same as itself.
-same-self : (l : List ℕ) → same l l ≡ true
+pub same-self : (l : List ℕ) → same l l ≡ true
 unfolding same
 same-self [] = refl
 same-self (x ∷ l) = both (eqb x x) (same l l) (eq-eqb x x refl) (same-self l)
@@ -41,14 +41,16 @@ obeying m w obeys =
     let equal : leaves m w ≡ leaves stepOf w = obeys (w .before .answer .state) (w .call) (w .before .cells) (w .before .tags) in
     ap (λ (o : Outcome). not (same (numbers o) rule)) equal ∙ ap not (same-self rule)
 
-none-of : (l : List Wrong) → all shown l ≡ true → NoneObeys l
-unfolding NoneObeys all shown
-none-of [] e = tt
-none-of (w ∷ rest) e =
-    let here : shown w ≡ true = and-left (shown w) (all shown rest) e in
-    let wrong : differs (w .wrong) w ≡ true = and-left (differs (w .wrong) w) (not (differs (w .right) w)) here in
-    (λ obeys. true≢false (sym wrong ∙ obeying (w .wrong) w obeys), none-of rest (and-right (shown w) (all shown rest) e))
+-- What holds of each entry that passes holds of every entry of a list that passes.
+pub every : {A : Type 0} (t : A → Bool) (P : A → Type 0) → ((x : A) → t x ≡ true → P x) → (l : List A) → all t l ≡ true → Every P l
+unfolding Every all
+every t P f [] e = tt
+every t P f (x ∷ l) e = (f x (and-left (t x) (all t l) e), every t P f l (and-right (t x) (all t l) e))
+
+disobeys : (w : Wrong) → shown w ≡ true → Obeys (w .wrong) → ⊥
+unfolding shown
+disobeys w e obeys = true≢false (sym (and-left (differs (w .wrong) w) (not (differs (w .right) w)) e) ∙ obeying (w .wrong) w obeys)
 
 -- No wrong machine of the list obeys the rule.
 pub none-obeys : NoneObeys machines
-none-obeys = none-of machines all-shown
+none-obeys = every shown (λ w. Obeys (w .wrong) → ⊥) disobeys machines all-shown

@@ -48,6 +48,11 @@ unfoldable pub all : {A : Type 0} → (A → Bool) → List A → Bool
 all P [] = true
 all P (x ∷ l) = P x && all P l
 
+-- The same of what need not be a test.
+unfoldable pub Every : {A : Type 0} → (A → Type 0) → List A → Type 0
+Every P [] = Unit {0}
+Every P (x ∷ l) = P x × Every P l
+
 -- Frame 0 is zeroed and mapped at page 0, and party 0 takes the sixteen cells from 0 on into register 0.
 abbrev pub taken16 : List Call → List Call
 taken16 rest = Zero 0 (frame 0) ∷ Map 0 (page 0) (frame 0) ∷ Take 0 0 0 ∷ rest

@@ -5,6 +5,7 @@ pub mod Roles
 pub mod Reasons
 pub mod Effects
 pub mod Step
+pub mod Cost
 pub mod Undoing
 pub mod Forgetting
 pub mod Command
@@ -12,3 +13,4 @@ pub mod Edges
 pub mod Variants
 pub mod WrongClaims
 pub mod WrongMachines
+pub mod CostCases

@@ -42,7 +42,7 @@ use Rattle.machine.specs.Roles.{plainPermissions}
 use Rattle.machine.specs.Effects.{withClaims}
 use Rattle.machine.specs.Step.{Outcome, left, refused, withCore, stepOf}
 use Rattle.machine.specs.Forgetting.{startBare}
-use Rattle.machine.specs.Edges.{same}
+use Rattle.machine.specs.Edges.{same, Every}
 use Rattle.machine.specs.Variants.{Rule, Obeys, sweepBy, takeBy, maskBy, plainBy, splitBy, mergeBy, revokeBy, endBy, unmapBy, storeBy, loadBy, collectBy, createBy, claimBy, releaseBy, destroyBy, claimAgainst, destroyAgainst, toldBy}
 use Rattle.machine.specs.WrongClaims.{takesNoLimit, spendsAlways, returnsAlways, dropsChildren, returnsUnspent, ownMayDestroy, passesLast, toldNothing, toldOfOther, claimNumbers}
 
@@ -328,6 +328,5 @@ unfoldable pub startRefused : Call → Bool
 startRefused c = eqb (stepOf (startBare 2 1 .state) c (replicate 16 0) (replicate 16 0) .answer .code) 1
 
 -- None of the wrong machines obeys the rule.
-unfoldable pub NoneObeys : List Wrong → Type 0
-NoneObeys [] = Unit {0}
-NoneObeys (w ∷ rest) = (Obeys (w .wrong) → ⊥) × NoneObeys rest
+abbrev pub NoneObeys : List Wrong → Type 0
+NoneObeys = Every (λ w. Obeys (w .wrong) → ⊥)

@@ -7,7 +7,7 @@ use Prim.Native.Nat.{ℕ, _+_, _*_, _<_}
 use native.Mathlib.Omega.{arith}
 use mathlib.Core.Bool.{Bool, true, false, _&&_, true≢false, false≢true}
 use mathlib.Core.List.{List, [], _∷_, _++_}
-use mathlib.Core.Path.{_≡_, refl, sym, ap, subst, _∙_}
+use mathlib.Core.Path.{_≡_, refl, sym, ap, ap₂, subst, _∙_}
 use borrow.Author.Tests.{eq-eqb}
 use lib.Dec.{eqb}
 use lib.ListN.{length, getD}
@@ -25,7 +25,10 @@ use Rattle.words.specs.declared.Slot.{Slot}
 use Rattle.words.specs.Words.{slot, empty, named, registerOf, mailboxOf, wordAt}
 use Rattle.machine.specs.Roles.{IsTake}
 use Rattle.machine.specs.Effects.{taking}
+use Rattle.machine.specs.State.{State}
 use Rattle.machine.proofs.Deeds.{Taken, taken-by}
+use Rattle.machine.proofs.Dependence.{formedBy, formed-by}
+use Rattle.machine.proofs.Costs.{cost-same}
 use Rattle.machine.specs.Step.{effectOn, registersAfter, mailboxesAfter, cellsAfter, tagsAfter}
 use Rattle.histories.specs.Inv.{rowAt, Confined, Inv}
 use Rattle.histories.specs.Inv.{Sound as Bounded}
@@ -34,7 +37,7 @@ use Rattle.histories.proofs.Always.{inv-step, inv-run, inv-begun}
 use Rattle.histories.proofs.Findings.{row-first}
 use Rattle.histories.proofs.View.{shown-at}
 use Rattle.privacy.specs.Rule.{housed, granted, Time, lasting, takenRange, timeAfter, into, told, heard}
-use Rattle.privacy.specs.Claim.{Privacy}
+use Rattle.privacy.specs.Claim.{Within, Privacy, CostsUnnoticed}
 use Rattle.privacy.proofs.Fate.{Granted, Fate, down, up, fate, after}
 use Rattle.privacy.proofs.Glue.{Same, glue}
 use Rattle.privacy.proofs.House.{into-cell, Apart, Tame, Good, apart-good, Housed}
@@ -150,20 +153,49 @@ run-first : (m : Machine) (c : Call) (l : List Call) → run m (c ∷ l) ≡ run
 unfolding run
 run-first m c l = refl
 
+module _ (v f : ℕ) (cells tags : List ℕ) (before : List Call) (c : Call) (house base reg permissions : ℕ) (after₁ after₂ : List Call)
+    (w : Within v f cells tags before c house base reg permissions after₁ after₂) where
+  abbrev begin : Machine
+  begin = begun v f cells tags
+
+  abbrev taken : Machine
+  taken = run begin before
+
+  abbrev span : Time
+  span = lasting (takenRange (taken .state .core .table) house base)
+
+  -- What the lists come to after the take, which is the same in both.
+  same-after : Same house (Rel house) span (next taken c) (next taken c) after₁ after₂
+  same-after =
+      let ok : Ok house span (next taken c) = take-ok taken c house base reg permissions (w .takes) (inv-run before begin (inv-begun v f cells tags)) (w .took) in
+      glue house (Ok house) (Rel house) (keeps house) (turned house) (alone house) (both-left house) after₁ after₂ span (next taken c) (next taken c) ok ok (itself house span (next taken c)) (w .same) (w .discreet₁) (w .discreet₂)
+
+  ran : (l : List Call) → run (next taken c) l ≡ run begin (before ++ c ∷ l)
+  ran l = sym (run-on begin before (c ∷ l) ∙ run-first taken c l)
+
+  -- What the whole lists leave.
+  left-related : Rel house (timeAfter span (next taken c) after₁) (run begin (before ++ c ∷ after₁)) (run begin (before ++ c ∷ after₂))
+  left-related =
+      subst (λ x. Rel house (timeAfter span (next taken c) after₁) x (run begin (before ++ c ∷ after₂))) (ran after₁)
+      (subst (λ x. Rel house (timeAfter span (next taken c) after₁) (run (next taken c) after₁) x) (ran after₂) (same-after .related))
+
 -- Whatever a house keeps in a range it took, no history lets others notice it.
 pub privacy : Privacy
 privacy v f cells tags before c house base reg permissions after₁ after₂ w =
-    let m : Machine = run (begun v f cells tags) before in
-    let t : Time = lasting (takenRange (m .state .core .table) house base) in
-    let inv : Inv m = inv-run before (begun v f cells tags) (inv-begun v f cells tags) in
-    let ok : Ok house t (next m c) = take-ok m c house base reg permissions (w .takes) inv (w .took) in
-    let s : Same house (Rel house) t (next m c) (next m c) after₁ after₂ =
-    glue house (Ok house) (Rel house) (keeps house) (turned house) (alone house) (both-left house) after₁ after₂ t (next m c) (next m c) ok ok (itself house t (next m c)) (w .same) (w .discreet₁) (w .discreet₂) in
-    let ran : (l : List Call) → run (next m c) l ≡ run (begun v f cells tags) (before ++ c ∷ l) = λ l. sym (run-on (begun v f cells tags) before (c ∷ l) ∙ run-first m c l) in
+    let begin : Machine = begun v f cells tags in
+    let m : Machine = run begin before in
+    let s = same-after v f cells tags before c house base reg permissions after₁ after₂ w in
     record {
-      answers = heard-on house (begun v f cells tags) before (c ∷ after₁) (c ∷ after₂) (heard-first house m c after₁ after₂ (s .answers));
+      answers = heard-on house begin before (c ∷ after₁) (c ∷ after₂) (heard-first house m c after₁ after₂ (s .answers));
       ended = s .ended;
-      alike = alike house (timeAfter t (next m c) after₁) (run (begun v f cells tags) (before ++ c ∷ after₁)) (run (begun v f cells tags) (before ++ c ∷ after₂))
-          (subst (λ x. Rel house (timeAfter t (next m c) after₁) x (run (begun v f cells tags) (before ++ c ∷ after₂))) (ran after₁)
-          (subst (λ x. Rel house (timeAfter t (next m c) after₁) (run (next m c) after₁) x) (ran after₂) (s .related)));
+      alike = alike house _ (run begin (before ++ c ∷ after₁)) (run begin (before ++ c ∷ after₂)) (left-related v f cells tags before c house base reg permissions after₁ after₂ w);
     }
+
+-- Nor does the cost of a page.
+pub costs-unnoticed : CostsUnnoticed
+costs-unnoticed v f cells tags before c house base reg permissions after₁ after₂ w n =
+    let g : State = run (begun v f cells tags) (before ++ c ∷ after₁) .state in
+    let h : State = run (begun v f cells tags) (before ++ c ∷ after₂) .state in
+    let r = left-related v f cells tags before c house base reg permissions after₁ after₂ w in
+    cost-same g h n (r .core)
+    (formed-by g ∙ ap (λ k. formedBy k (g .mailboxes) (length (g .registers))) (r .core) ∙ ap₂ (formedBy (h .core)) (r .mail) (r .long) ∙ sym (formed-by h))

@@ -8,24 +8,23 @@ use lib.Dec.{eqb}
 use lib.ListN.{length}
 use Rattle.capabilities.specs.declared.Range.{Range}
 use Rattle.capabilities.specs.Capability.{baseOf}
-use Rattle.capabilities.specs.Lists.{pick, each}
+use Rattle.capabilities.specs.Lists.{pick}
 use Rattle.capabilities.specs.Range.{inside}
 use Rattle.capabilities.specs.Refusals.{first}
 use Rattle.capabilities.proofs.Choice.{pick-yes, and-left, and-right}
 use Rattle.pages.specs.declared.Place.the-variants.{At}
 use Rattle.pages.specs.Layer.{serves}
 use Rattle.pages.specs.Mapping.{lookupOf}
-use Rattle.claims.specs.Sound.{claimsSound}
 use Rattle.reservations.specs.Core.{Core}
 use Rattle.reservations.specs.Revocation.{revoked, coreSound}
 use Rattle.calls.specs.declared.Call.{Call}
 use Rattle.words.specs.declared.Slot.{Slot}
 use Rattle.words.specs.Words.{empty, registerOf}
-use Rattle.machine.specs.Formed.{wellFormed, mailboxesSound, mailboxSound, formedBare}
 use Rattle.machine.specs.Roles.{Sources, fromNone, fromOne, fromTwo, Role, takes, collects, fills, stores, grants, plain, Asked, roleOf, callerOf, sourcesOf}
 use Rattle.machine.specs.Reasons.{Reads, reading, wordsIn, reads, reasons}
 use Rattle.machine.specs.Effects.{Effect}
 use Rattle.machine.specs.Step.{reasonsOn, effectOn, wordAfter}
+use Rattle.machine.proofs.Dependence.{formedBy, formed-by}
 use Rattle.machine.proofs.Deeds.{aimedAt, Deed, took, recored, swept, collectedAll, zeroed, filled, loaded, wrote, mailed, received, deed, collected-as}
 use Rattle.machine.proofs.Found.{Addressing}
 use Rattle.histories.proofs.Showing.{came}
@@ -38,8 +37,6 @@ use Rattle.privacy.proofs.Relate.{Rel, FetchSame, answer-same, effect-r
 use Rattle.privacy.proofs.Sides.{fits-deed, outside}
 use Rattle.privacy.proofs.Steps.{granted-core, granted-layer, granted-cells, granted-tags, granted-next, refused-test, Ok}
 use Rattle.privacy.proofs.Tables.{collect-hides}
-use Rattle.table.specs.Rows.{live}
-use Rattle.table.specs.Tiling.{takersSound}
 
 -- A call reads equal registers if those of its caller are equal.
 words-same : (l m : List Slot) (p : ℕ) (from : Sources) → ((d : ℕ) → registerOf l p d ≡ registerOf m p d) → wordsIn l p from ≡ wordsIn m p from
@@ -50,14 +47,12 @@ words-same l m p (fromTwo a s) e = ap (λ w. reading w (registerOf l p s)) (e a)
 -- The code, by what it depends on.
 unfoldable codeBy : Core → List Slot → ℕ → ℕ → ℕ → Reads → Call → ℕ
 codeBy k mail registers cells tags r c =
-    pick
-    ((((coreSound k && each mailboxSound 0 mail) && (eqb registers 64 && eqb (length mail) 8)) && claimsSound (k .pages .v) (k .claims))
-    && takersSound (live (k .table)))
-    (pick (serves (k .pages) cells tags) (first (reasons k mail r c)) 2) 1
+    pick (formedBy k mail registers) (pick (serves (k .pages) cells tags) (first (reasons k mail r c)) 2) 1
 
 code-by : (m : Machine) (c : Call) → codeOf m c ≡ codeBy (m .state .core) (m .state .mailboxes) (length (m .state .registers)) (length (m .cells)) (length (m .tags)) (reads (m .state .registers) c) c
-unfolding codeOf codeBy wellFormed formedBare mailboxesSound
-code-by m c = refl
+unfolding codeOf codeBy
+code-by m c =
+    ap (λ b. pick b (pick (serves (m .state .core .pages) (length (m .cells)) (length (m .tags))) (first (reasonsOn (m .state) c)) 2) 1) (formed-by (m .state))
 
 -- Whether the time ends depends on the code and the core.
 ending-by : (r : Range) (g h : Machine) (c : Call) → codeOf g c ≡ codeOf h c → g .state .core ≡ h .state .core → ending r g c ≡ ending r h c

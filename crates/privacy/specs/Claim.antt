@@ -6,6 +6,7 @@ use mathlib.Core.List.{List, _∷_, _++_}
 use mathlib.Core.Path.{_≡_}
 use Rattle.calls.specs.declared.Call.{Call}
 use Rattle.machine.specs.Roles.{IsTake}
+use Rattle.machine.specs.Cost.{pageCost}
 use Rattle.histories.specs.Runs.{Machine, next, run, begun, Begins}
 use Rattle.privacy.specs.Rule.{granted, Time, lasting, takenRange, timeAfter, left, discreet, heard, Alike}
 
@@ -48,9 +49,20 @@ module _ (v f : ℕ) (cells tags : List ℕ) (before : List Call) (take : Call) 
     pub ended : timeAfter time afterTake after₁ ≡ timeAfter time afterTake after₂
     pub alike : Alike house (timeAfter time afterTake after₁) (run start (whole after₁)) (run start (whole after₂))
 
+  -- Document 02, 2026-11: after both lists every page costs the same.
+  abbrev pub CostsAlike : List Call → List Call → Type 0
+  CostsAlike after₁ after₂ = (n : ℕ) → pageCost (run start (whole after₁) .state) n ≡ pageCost (run start (whole after₂) .state) n
+
 -- Demand 3: whatever a house keeps in a range it took, no history lets others notice it.
 abbrev pub Privacy : Type 0
 Privacy =
     (v f : ℕ) (cells tags : List ℕ) (before : List Call) (take : Call) (house base reg permissions : ℕ) (after₁ after₂ : List Call)
     → Within v f cells tags before take house base reg permissions after₁ after₂
     → Unnoticed v f cells tags before take house base reg permissions after₁ after₂
+
+-- It speaks of calls. What is asked of a state, and told to the houses on a bill, gives nothing away either.
+abbrev pub CostsUnnoticed : Type 0
+CostsUnnoticed =
+    (v f : ℕ) (cells tags : List ℕ) (before : List Call) (take : Call) (house base reg permissions : ℕ) (after₁ after₂ : List Call)
+    → Within v f cells tags before take house base reg permissions after₁ after₂
+    → CostsAlike v f cells tags before take house base reg permissions after₁ after₂

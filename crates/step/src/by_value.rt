@@ -10,6 +10,8 @@ use arrays::Answer;
 use arrays::Arrays;
 use arrays::Numbers;
 use calls::Call;
+use cost::Costed;
+use cost::page_cost;
 use formed::formed;
 use pages::layer::in_range;
 use words::empty;
@@ -17,7 +19,10 @@ ghost use mathlib.Core.Path.{_≡_};
 ghost use lib.ListN.{replicate};
 ghost use Rattle.arrays.specs.Reading.{arrays};
 ghost use Rattle.arrays.specs.Steps.{leaving};
+ghost use Rattle.claims.specs.Cost.{cost};
+ghost use Rattle.machine.specs.Cost.{costed};
 ghost use Rattle.formed.specs.Test.{formedOf};
+ghost use Rattle.cost.specs.Asked.{costOn};
 ghost use Rattle.step.specs.Entries.{beginning, commanding, startOn, stepOn, telling, commandOn};
 
 // A state with nothing in it but its small numbers, its rows and its principals.
@@ -109,6 +114,36 @@ impl State {
             &frames,
             &principals,
             &counts,
+        )
+    }
+
+    // What those who claim a page pay for it.
+    pub fn page_cost(self, page: u64) -> Costed
+        ensures { λ r. ⌜ costed (r .code) (cost (r .share) (r .remainder)) ≡ costOn (self .arrays) page ⌝ }
+    {
+        let a = self.arrays;
+        let nums = a.nums;
+        let words = a.words;
+        let marks = a.marks;
+        let mail = a.mail;
+        let flags = a.flags;
+        let rows = a.rows;
+        let pages = a.pages;
+        let frames = a.frames;
+        let principals = a.principals;
+        let counts = a.counts;
+        page_cost(
+            nums,
+            &words,
+            &marks,
+            &mail,
+            &flags,
+            &rows,
+            &pages,
+            &frames,
+            &principals,
+            &counts,
+            page,
         )
     }
 

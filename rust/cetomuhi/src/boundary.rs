@@ -75,6 +75,7 @@ mod c {
     over_a_state! {
         writes: cetomuhi_start(v: u64, f: u64;) -> u8;
         reads: cetomuhi_well_formed(;) -> bool;
+        reads: cetomuhi_page_cost(; page: u64, share: *mut u64, remainder: *mut u64) -> u8;
         writes: cetomuhi_command(;
             cells: *mut u64, cells_len: usize, tags: *mut u8, tags_len: usize,
             input: *const u8, input_len: usize, at: usize,
@@ -137,6 +138,13 @@ pub fn start(v: u64, f: u64, state: ArraysMut) -> u8 {
 pub fn well_formed(state: Arrays) -> bool {
     // SAFETY: as above; nothing is written.
     unsafe { lend!(cetomuhi_well_formed, as_ptr, (), state, ()) }
+}
+
+/// What a page costs those who claim it: 0, with share and remainder written. Arrays that are no
+/// well-formed state: 1. A page of V or more: 12. Both numbers are then 0.
+pub fn page_cost(state: Arrays, page: u64, share: &mut u64, remainder: &mut u64) -> u8 {
+    // SAFETY: as above; what is written are two mutable borrows, so they overlap nothing.
+    unsafe { lend!(cetomuhi_page_cost, as_ptr, (), state, (page, share, remainder)) }
 }
 
 /// The command at a place of the input: its code, number, tag and bytes used come first in

@@ -3,10 +3,10 @@
 //!
 //! This crate is the safe Rust side of the library `libcetomuhi.a`, whose functions are proved to
 //! answer for all bytes, numbers and lengths by the rules of document 01, "The reservation machine
-//! of the composition server", with requests 2026-01, 2026-02, 2026-04 and 2026-05. A [`Machine`]
-//! owns its state and memory; a [`State`] is lent memory at every call. A [`Call`] is one of
-//! twenty-one kinds; its [`Answer`] is granted, or one of twenty-two [`Refusal`]s, and then nothing
-//! has changed.
+//! of the composition server", with requests 2026-01, 2026-02, 2026-04, 2026-05 and 2026-11. A
+//! [`Machine`] owns its state and memory; a [`State`] is lent memory at every call. A [`Call`] is one
+//! of twenty-one kinds; its [`Answer`] is granted, or one of twenty-two [`Refusal`]s, and then
+//! nothing has changed. What a page [costs](Cost) those who claim it is asked of a state.
 //!
 //! ```
 //! use cetomuhi::{Call, Frame, Machine, Refusal, VirtualPage};
@@ -55,6 +55,7 @@
 mod answer;
 mod boundary;
 mod call;
+mod cost;
 mod machine;
 mod refusal;
 #[cfg(feature = "session")]
@@ -65,6 +66,7 @@ mod word;
 
 pub use answer::{Answer, Done, Run, ANSWER_NUMBERS};
 pub use call::{Call, Frame, VirtualPage, CALL_NUMBERS, LONGEST};
+pub use cost::Cost;
 pub use machine::{Machine, PAGE_CELLS};
 pub use refusal::Refusal;
 pub use shown::{Claim, FrameState, Mailbox, PageState, Principal, Register};
@@ -78,6 +80,7 @@ pub const VERSION: u64 = 5;
 /// The exported functions over slices of any lengths, one for one. They are safe; the rest of the
 /// crate is more convenient.
 pub mod raw {
-    pub use crate::boundary::{command, commands, read, size, start, version, well_formed, write};
+    pub use crate::boundary::{command, commands, page_cost, read, size};
+    pub use crate::boundary::{start, version, well_formed, write};
     pub use crate::boundary::{Arrays, ArraysMut, Memory};
 }

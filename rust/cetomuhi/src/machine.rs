@@ -1,6 +1,6 @@
 //! A machine that owns its state and its memory.
 
-use crate::{Answer, Call, Done, Refusal, Run, State};
+use crate::{Answer, Call, Cost, Done, Refusal, Run, State};
 
 /// How many cells a page and a frame have.
 pub const PAGE_CELLS: usize = 16;
@@ -53,6 +53,14 @@ impl Machine {
     /// Whether the state is well formed.
     pub fn is_well_formed(&self) -> bool {
         self.state.is_well_formed()
+    }
+
+    /// What a page costs those who claim it.
+    ///
+    /// # Errors
+    /// As with [`State::page_cost`].
+    pub fn page_cost(&self, page: u64) -> Result<Cost, Refusal> {
+        self.state.page_cost(page)
     }
 
     /// The state, to be looked at.

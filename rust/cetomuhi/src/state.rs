@@ -2,7 +2,7 @@
 
 use crate::answer::ANSWER_NUMBERS;
 use crate::boundary::{self, Arrays, ArraysMut, Memory};
-use crate::{Answer, Call, Done, Refusal, Run};
+use crate::{Answer, Call, Cost, Done, Refusal, Run};
 
 /// The whole state: ten arrays of numbers, over memory that the caller lends at each call.
 ///
@@ -93,6 +93,20 @@ impl State {
     /// audits, and for a state read back from elsewhere.
     pub fn is_well_formed(&self) -> bool {
         boundary::well_formed(self.arrays())
+    }
+
+    /// What a page costs those who claim it. A question and no call: it needs no memory, and changes
+    /// nothing.
+    ///
+    /// # Errors
+    /// [`Refusal::IllFormed`] if the state is not well formed; [`Refusal::NoSuchPage`] if the page is
+    /// V or more.
+    pub fn page_cost(&self, page: u64) -> Result<Cost, Refusal> {
+        let mut cost = Cost::default();
+        match boundary::page_cost(self.arrays(), page, &mut cost.share, &mut cost.remainder) {
+            0 => Ok(cost),
+            code => Err(Refusal::of(code.into()).expect("the library answers codes 0, 1 and 12")),
+        }
     }
 
     /// One call over lent memory: 16 F cells and as many tag bytes.

@@ -101,6 +101,11 @@ fn arrays_of_other_lengths_are_refused_and_kept() {
             loose.resize(which, other);
             assert!(!raw::well_formed(loose.arrays()), "array {which} of {other}");
             let before = loose.clone();
+            for page in [0, 3] {
+                let (mut share, mut rest) = (5, 1);
+                let code = raw::page_cost(loose.arrays(), page, &mut share, &mut rest);
+                assert_eq!((code, share, rest), (1, 0, 0), "array {which} of {other}, page {page}");
+            }
             let (mut cells, mut tags) = ([5; 32], [1; 32]);
             let mut answers = [9; 5];
             let memory = Memory { cells: &mut cells, tags: &mut tags };
