@@ -3,7 +3,7 @@ use Prim.Native.Nat.{ℕ, _<_, _≤_, _/_}
 use native.Mathlib.Omega.{arith}
 use mathlib.Core.Bool.{Bool, true, false, _&&_}
 use mathlib.Core.List.{List, _∷_}
-use mathlib.Core.Path.{_≡_, refl, sym, ap, subst, _∙_}
+use mathlib.Core.Path.{_≡_, refl, sym, ap, _∙_}
 use lib.ListN.{length, drop}
 use lib.Dec.{eqb, leb}
 use borrow.Author.Tests.{eqb-true, le-leb}
@@ -13,9 +13,8 @@ use Rattle.claims.specs.Cost.{claimants, Shares}
 use Rattle.claims.specs.Numbers.{claimsIn}
 use Rattle.reservations.proofs.CoreKept.{core-facts}
 use Rattle.machine.specs.Formed.{startOf}
-use Rattle.machine.specs.Cost.{uncosted, pageCost}
 use Rattle.machine.proofs.Keeps.{facts, start-formed}
-use Rattle.machine.proofs.Costs.{cost-shared}
+use Rattle.machine.proofs.Costs.{cost-met}
 use Rattle.arrays.specs.declared.Arrays.{Arrays}
 use Rattle.arrays.specs.declared.Numbers.{Numbers}
 use Rattle.arrays.specs.Reading.{coreOf, stateOf, arraysOf}
@@ -110,7 +109,4 @@ pub cost-lent :
     (l : Lent) (n : ℕ) → formedLent l ≡ true → n < numbersFrom (l .numbers) .v
     → (costLent l n .code ≡ 0) × Shares (claimants (claimsIn (l .principals) (l .counts)) n) (costLent l n .cost)
 unfolding formedLent costLent costOn stateOf coreOf
-cost-lent l n e h =
-    let a = arraysIn l in
-    subst (λ r. (r .code ≡ 0) × Shares (claimants (claimsIn (l .principals) (l .counts)) n) (r .cost))
-    (sym (pick-yes (formedOf a) (pageCost (stateOf a) n) (uncosted 1) e)) (cost-shared (stateOf a) n (tested a e .well) h)
+cost-lent l n = cost-met (formedOf (arraysIn l)) (stateOf (arraysIn l) .core) n

@@ -5,11 +5,11 @@ use mathlib.Core.Bool.{true}
 use mathlib.Core.Path.{_≡_, refl, sym, ap, _∙_, subst}
 use lib.ListN.{length, set, length-set}
 use lib.Seq.{drop-set-lt}
-use Rattle.claims.specs.Claims.{Claims, principalAt, inBeing, parentOf, unspent, countsOf, countOf, above, spent, limitOf}
+use Rattle.claims.specs.Claims.{Claims, principalAt, inBeing, parentOf, unspent, countsOf, countOf, above, spent, limitOf, one}
 use Rattle.claims.specs.Sound.{principalSound, countsSound, claimsSound}
 use Rattle.claims.proofs.Facts.{facts, sound}
 use Rattle.claims.proofs.Sums.{sum-same}
-use Rattle.claims.proofs.Counting.{one, above-set}
+use Rattle.claims.proofs.Counting.{above-set}
 use Rattle.claims.proofs.Principals.{counts-alike, apart}
 use Rattle.claims.proofs.Entries.{one-or-other}
 use Rattle.claims.proofs.Unspent.{ButUnspent, SameTree, but-root, but-counts, still-sound}

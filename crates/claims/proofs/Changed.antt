@@ -7,10 +7,10 @@ use mathlib.Core.Path.{_≡_, refl, sym, ap, _∙_}
 use lib.ListN.{length, getD, set}
 use lib.Seq.{getD-set-same, getD-set-other, set-set, set-getD}
 use Rattle.capabilities.specs.Lists.{pick}
-use Rattle.claims.specs.Claims.{Claims, claims, nobody, principalAt, unspent, countsOf, countOf, limitOf}
+use Rattle.claims.specs.Claims.{Claims, claims, nobody, principalAt, unspent, countsOf, countOf, limitOf, one}
 use Rattle.claims.specs.Claims.{withPrincipal, withCounts, withUnspent, leaving}
 use Rattle.claims.specs.Operations.{withCount}
-use Rattle.claims.proofs.Counting.{one, above-set}
+use Rattle.claims.proofs.Counting.{above-set}
 use Rattle.claims.proofs.Entries.{one-or-other, put-same, put-other, put-length, counted-other, counted-length, limit-by}
 use Rattle.claims.proofs.Unspent.{SameTree}
 

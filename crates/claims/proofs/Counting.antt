@@ -10,14 +10,9 @@ use lib.ListN.{length, getD, set, take, drop, replicate, take-append-drop}
 use lib.Seq.{take-suc}
 use lib.Dec.{ltb}
 use borrow.Author.Tests.{ltb-true, ltb-false, lt-ltb, le-ltb}
-use Rattle.capabilities.specs.Lists.{pick}
 use Rattle.capabilities.proofs.Choice.{at-most, is-false, pick-yes, pick-no, or-false}
 use Rattle.capabilities.proofs.Lists.{same-everywhere}
-use Rattle.claims.specs.Claims.{Claims, above, anyAbove, claimed, countsOf, countOf}
-
--- What one count adds to the number of those above 0.
-abbrev pub one : ℕ → ℕ
-one n = pick (ltb 0 n) 1 0
+use Rattle.claims.specs.Claims.{Claims, one, above, anyAbove, claimed, countsOf, countOf}
 
 pub one-none : (n : ℕ) → n ≡ 0 → one n ≡ 0
 one-none n e = pick-no {A = ℕ} (ltb 0 n) 1 0 (le-ltb 0 n (omega arith))

@@ -10,11 +10,11 @@ use borrow.Author.Tests.{eqb-true, eqb-false}
 use Rattle.capabilities.specs.Lists.{pick}
 use Rattle.capabilities.specs.Refusals.{first}
 use Rattle.capabilities.proofs.Lists.{same-everywhere}
-use Rattle.claims.specs.Claims.{Claims, holds, unspent, countsOf, countOf, above, spent, limitOf}
+use Rattle.claims.specs.Claims.{Claims, holds, unspent, countsOf, countOf, above, spent, limitOf, one}
 use Rattle.claims.specs.Operations.{claimReasons, claimOf, releaseReasons, releaseOf}
 use Rattle.claims.specs.Sound.{claimsSound, freshClaims}
 use Rattle.claims.proofs.Facts.{facts, sound}
-use Rattle.claims.proofs.Counting.{one, one-none, one-some, above-past, above-zeros}
+use Rattle.claims.proofs.Counting.{one-none, one-some, above-past, above-zeros}
 use Rattle.claims.proofs.Changed.{changed, changed-count-else, changed-if}
 use Rattle.claims.proofs.Balanced.{Change, change-count, change-limit, change-spent, change-sound}
 use Rattle.claims.proofs.Principals.{held-being, counts-alike, being-below, Counted, counted-at, counted-below, counted-within}

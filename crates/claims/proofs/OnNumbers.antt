@@ -11,7 +11,7 @@ use Rattle.capabilities.specs.Lists.{pick, mapEach}
 use Rattle.capabilities.specs.Refusals.{first}
 use Rattle.capabilities.proofs.Choice.{and-left, and-right}
 use Rattle.capabilities.proofs.Lists.{map-set}
-use Rattle.claims.specs.Claims.{Claims, principal, nobody, principalAt, inBeing, parentOf, unspent, countsOf, countOf, limitOf, anyAbove, claimed, withPrincipal, withCounts, leaving, withUnspent}
+use Rattle.claims.specs.Claims.{Claims, principal, nobody, principalAt, inBeing, parentOf, unspent, countsOf, countOf, limitOf, anyAbove, claimed, withPrincipal, withCounts, leaving, withUnspent, one}
 use Rattle.claims.specs.Tree.{leadsUp}
 use Rattle.claims.specs.Operations.{createReasons, createOf, claimReasons, withCount, claimOf, releaseReasons, releaseOf, destroyReasons, returned, destroyOf}
 use Rattle.claims.specs.Sound.{claimsSound}
@@ -20,7 +20,7 @@ use Rattle.claims.specs.Cost.{claimants}
 use Rattle.claims.specs.Lent.{principalIn, countIn, unspentPut, createdIn, claimedIn, releasedIn, emptied, destroyedIn, clearedIn, anyCounts, claimantsIn}
 use Rattle.claims.proofs.Facts.{facts}
 use Rattle.claims.proofs.Sums.{sum-same, sum-parts}
-use Rattle.claims.proofs.Counting.{one, any-snoc}
+use Rattle.claims.proofs.Counting.{any-snoc}
 use Rattle.claims.proofs.Laid.{padded-none, getD-padded, window-laid, getD-window, laid-same, laid-set, laid-cleared}
 use Rattle.claims.proofs.Principals.{held-being, being-below, none-at, counted-at, unspent-small}
 use Rattle.claims.proofs.Claimable.{claimable, releasable}

@@ -9,13 +9,13 @@ use borrow.Author.Tests.{ltb-true, lt-ltb, eq-eqb, ne-eqb}
 use Rattle.capabilities.specs.Lists.{pick}
 use Rattle.capabilities.specs.Refusals.{first}
 use Rattle.capabilities.proofs.Choice.{at-most, is-false, pick-yes, pick-no, same-test}
-use Rattle.claims.specs.Claims.{Claims, countOf, claimed}
+use Rattle.claims.specs.Claims.{Claims, countOf, claimed, one}
 use Rattle.claims.specs.Operations.{claimReasons, claimOf}
 use Rattle.claims.specs.Sound.{claimsSound}
 use Rattle.claims.specs.Cost.{claimants, Cost, cost, Shares, costOf}
 use Rattle.claims.proofs.Facts.{facts}
 use Rattle.claims.proofs.Sums.{sum-same, sum-one, sum-most, summand}
-use Rattle.claims.proofs.Counting.{one, one-some, claimed-by, claimed-if}
+use Rattle.claims.proofs.Counting.{one-some, claimed-by, claimed-if}
 use Rattle.claims.proofs.Principals.{held-being, being-below}
 use Rattle.claims.proofs.Claimable.{claimable}
 use Rattle.claims.proofs.KeptCounts.{claim-others, claim-counts, first-spends}

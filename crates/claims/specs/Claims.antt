@@ -49,10 +49,14 @@ countsOf c p = getD (c .counts) p []
 abbrev pub countOf : Claims → ℕ → ℕ → ℕ
 countOf c p page = getD (countsOf c p) page 0
 
+-- 1 for a count above 0, however great.
+abbrev pub one : ℕ → ℕ
+one n = pick (ltb 0 n) 1 0
+
 -- How many of some counts are above 0.
 unfoldable pub above : List ℕ → ℕ
 above [] = 0
-above (n ∷ l) = pick (ltb 0 n) 1 0 + above l
+above (n ∷ l) = one n + above l
 
 -- "A principal's spent limit is the number of pages it counts above 0."
 abbrev pub spent : Claims → ℕ → ℕ

@@ -1,13 +1,13 @@
 -- Document 02, 2026-11: what each of those who claim a page pays for its 16 cells. Assumes nothing.
 use Prim.Native.Nat.{ℕ, _+_, _*_, _/_, _%_, _<_}
 use mathlib.Core.Path.{_≡_}
-use lib.Dec.{eqb, ltb}
+use lib.Dec.{eqb}
 use Rattle.capabilities.specs.Lists.{pick}
-use Rattle.claims.specs.Claims.{Claims, countOf, sum}
+use Rattle.claims.specs.Claims.{Claims, countOf, one, sum}
 
 -- "A page with n claiming principals": of the 32, 1 for each that counts the page above 0, however often it claims.
 unfoldable pub claimants : Claims → ℕ → ℕ
-claimants c page = sum 32 (λ p. pick (ltb 0 (countOf c p page)) 1 0)
+claimants c page = sum 32 (λ p. one (countOf c p page))
 
 -- What each pays, and what is left over.
 pub record Cost : Type 0 where

@@ -6,7 +6,7 @@ use lib.ListN.{getD, set}
 use lib.Dec.{eqb, ltb}
 use Rattle.capabilities.specs.Lists.{pick, mapEach}
 use Rattle.claims.specs.declared.Principal.{Principal}
-use Rattle.claims.specs.Claims.{Claims, principal, leaving, parentOf, sum}
+use Rattle.claims.specs.Claims.{Claims, principal, leaving, parentOf, one, sum}
 use Rattle.claims.specs.Tree.{leadsUp}
 use Rattle.claims.specs.Operations.{returned}
 use Rattle.claims.specs.Numbers.{principalFrom, principalCode, claimsIn}
@@ -53,4 +53,4 @@ anyCounts (suc n) counts page = anyCounts n counts page || ltb 0 (countIn counts
 
 -- How many of the 32 principals count the page above 0.
 abbrev pub claimantsIn : List ℕ → ℕ → ℕ
-claimantsIn counts page = sum 32 (λ p. pick (ltb 0 (countIn counts p page)) 1 0)
+claimantsIn counts page = sum 32 (λ p. one (countIn counts p page))

@@ -5,8 +5,7 @@ use claims::lent::count_in;
 use formed::formed;
 ghost use Prim.Native.Nat.{_≤_};
 ghost use mathlib.Core.Path.{_≡_};
-ghost use lib.Dec.{ltb};
-ghost use Rattle.capabilities.specs.Lists.{pick};
+ghost use Rattle.claims.specs.Claims.{one};
 ghost use Rattle.claims.specs.Cost.{cost, costOf};
 ghost use Rattle.claims.specs.Lent.{claimantsIn};
 ghost use Rattle.machine.specs.Cost.{costed};
@@ -22,7 +21,7 @@ pub struct Costed {
 
 // 1 for a principal that counts the page above 0, however often; 0 for another.
 fn claimant(count: u16) -> u8
-    ensures { λ r. ⌜ (r ≡ pick (ltb 0 count) 1 0) × (r ≤ 1) ⌝ }
+    ensures { λ r. ⌜ (r ≡ one count) × (r ≤ 1) ⌝ }
 {
     (0 < count) as u8
 }

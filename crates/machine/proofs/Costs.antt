@@ -1,13 +1,15 @@
 -- Document 02, 2026-11: the cost of a page, of every state. Assumes nothing.
-use Prim.Native.Nat.{ℕ, _+_}
+use Prim.Native.Nat.{ℕ, _+_, _<_}
+use native.Mathlib.Omega.{arith}
 use mathlib.Core.Bool.{Bool, true, not}
 use mathlib.Core.List.{[], _∷_}
 use mathlib.Core.Path.{_≡_, refl, sym, ap, ap₂, subst, _∙_}
 use lib.Dec.{eqb, leb}
-use borrow.Author.Tests.{eq-eqb, ne-eqb, eqb-false, lt-leb}
+use borrow.Author.Tests.{eq-eqb, ne-eqb, eqb-false, lt-leb, leb-false, not-false}
 use Rattle.capabilities.specs.Lists.{pick}
 use Rattle.capabilities.specs.Refusals.{reason, first}
 use Rattle.capabilities.proofs.Choice.{pick-yes, pick-no}
+use Rattle.capabilities.proofs.Refusals.{first-clear}
 use Rattle.pages.specs.Mapping.{noPage}
 use Rattle.claims.specs.Claims.{countOf}
 use Rattle.claims.specs.Operations.{claimReasons}
@@ -21,51 +23,53 @@ use Rattle.machine.specs.Formed.{wellFormed}
 use Rattle.machine.specs.Reasons.{reasons}
 use Rattle.machine.specs.Effects.{effect}
 use Rattle.machine.specs.Step.{Outcome, done, effectOn}
-use Rattle.machine.specs.Cost.{Costed, costed, uncosted, costReasons, pageCost, claimantsOf, CostShared, CostDetermined, CountedOnce}
+use Rattle.machine.specs.Cost.{costed, uncosted, costReasons, costBy, pageCost, claimantsOf, CostShared, CostDetermined, CountedOnce}
 use Rattle.machine.proofs.Judging.{pick-by, Granted, step-by}
 use Rattle.machine.proofs.Deeds.{paged-clear}
 use Rattle.machine.proofs.Undoing.{sound, low}
 
-module _ (s : State) (n : ℕ) where
-  -- Of a well-formed state there is the page's reason alone.
-  pub cost-code : wellFormed s ≡ true → first (costReasons s n) ≡ pick (leb (s .core .pages .v) n) 12 0
-  unfolding costReasons first
-  cost-code w = pick-no (not (wellFormed s)) 1 (pick (leb (s .core .pages .v) n) 12 0) (ap not w)
+module _ (good : Bool) (c : Core) (n : ℕ) where
+  -- A granted question: the state is well formed, and the page is one of its own.
+  pub cost-asked : first (costReasons good c n) ≡ 0 → (good ≡ true) × (n < c .pages .v)
+  unfolding costReasons
+  cost-asked e =
+      let (well, rest) = first-clear 1 (not good) (reason 12 (noPage (c .pages) (page n)) ∷ []) (λ z. omega (arith, z)) e in
+      (not-false good well, leb-false (c .pages .v) n (first-clear 12 (noPage (c .pages) (page n)) [] (λ z. omega (arith, z)) rest .0))
 
-  -- What a granted question is answered.
-  pub cost-granted : first (costReasons s n) ≡ 0 → pageCost s n ≡ costed 0 (costOf (claimantsOf s n))
-  unfolding pageCost
+  -- What it is answered, and what a refused one is.
+  pub cost-granted : first (costReasons good c n) ≡ 0 → costBy good c n ≡ costed 0 (costOf (claimants (c .claims) n))
+  unfolding costBy
   cost-granted e =
-      let code = first (costReasons s n) in
-      pick-yes (eqb code 0) (costed 0 (costOf (claimantsOf s n))) (uncosted code) (eq-eqb code 0 e)
+      let code = first (costReasons good c n) in
+      pick-yes (eqb code 0) (costed 0 (costOf (claimants (c .claims) n))) (uncosted code) (eq-eqb code 0 e)
 
-  -- And what a refused one is.
-  pub cost-refused : (first (costReasons s n) ≡ 0 → ⊥) → pageCost s n ≡ uncosted (first (costReasons s n))
-  unfolding pageCost
+  pub cost-refused : (first (costReasons good c n) ≡ 0 → ⊥) → costBy good c n ≡ uncosted (first (costReasons good c n))
+  unfolding costBy
   cost-refused e =
-      let code = first (costReasons s n) in
-      pick-no (eqb code 0) (costed 0 (costOf (claimantsOf s n))) (uncosted code) (ne-eqb code 0 e)
+      let code = first (costReasons good c n) in
+      pick-no (eqb code 0) (costed 0 (costOf (claimants (c .claims) n))) (uncosted code) (ne-eqb code 0 e)
+
+  -- Granted, it is the sentence's cost.
+  pub cost-met : good ≡ true → n < c .pages .v → (costBy good c n .code ≡ 0) × Shares (claimants (c .claims) n) (costBy good c n .cost)
+  unfolding costReasons first
+  cost-met w h =
+      let v = c .pages .v in
+      let is = cost-granted (pick-no (not good) 1 (pick (leb v n) 12 0) (ap not w) ∙ pick-no {A = ℕ} (leb v n) 12 0 (lt-leb v n h)) in
+      (ap (λ r. r .code) is, subst (λ r. Shares (claimants (c .claims) n) (r .cost)) (sym is) (shares (claimants (c .claims) n)))
 
 -- What is answered depends on the core and on whether the state is well formed.
 pub cost-same : (s t : State) (n : ℕ) → s .core ≡ t .core → wellFormed s ≡ wellFormed t → pageCost s n ≡ pageCost t n
-unfolding pageCost costReasons
-cost-same s t n e w = ap₂ asked w e
-  where
-    asked : Bool → Core → Costed
-    asked good k =
-        let code = first (reason 1 (not good) ∷ reason 12 (noPage (k .pages) (page n)) ∷ []) in
-        pick (eqb code 0) (costed 0 (costOf (claimants (k .claims) n))) (uncosted code)
+unfolding pageCost
+cost-same s t n e w = ap₂ (λ b k. costBy b k n) w e
 
 pub cost-shared : CostShared
-cost-shared s n w h =
-    let v = s .core .pages .v in
-    let is = cost-granted s n (cost-code s n w ∙ pick-no {A = ℕ} (leb v n) 12 0 (lt-leb v n h)) in
-    (ap (λ r. r .code) is, subst (λ r. Shares (claimantsOf s n) (r .cost)) (sym is) (shares (claimantsOf s n)))
+unfolding pageCost
+cost-shared s n = cost-met (wellFormed s) (s .core) n
 
 pub cost-determined : CostDetermined
-unfolding pageCost
+unfolding pageCost costBy
 cost-determined s n c z m =
-    let code = first (costReasons s n) in
+    let code = first (costReasons (wellFormed s) (s .core) n) in
     let k = claimantsOf s n in
     determined k c m
     ∙ pick-by (λ r. r .code ≡ 0 → costOf k ≡ r .cost) (eqb code 0) (costed 0 (costOf k)) (uncosted code) (λ e y. refl) (λ e y. absurd (eqb-false code 0 e y)) z

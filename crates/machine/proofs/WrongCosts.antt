@@ -1,34 +1,32 @@
 -- The query answers what the list of cases names, and none of the wrong ones does what it does: by one computation over each list.
 use mathlib.Core.Bool.{true, false, not, true≢false}
-use mathlib.Core.Path.{_≡_, refl, sym, ap, _∙_}
+use mathlib.Core.Path.{_≡_, refl, sym, _∙_}
 use Rattle.capabilities.proofs.Choice.{and-left}
 use Rattle.claims.specs.Cost.{claimants, costOf}
 use Rattle.machine.specs.Forgetting.{startBare}
-use Rattle.machine.specs.Cost.{Costed, costReasons, pageCost}
-use Rattle.machine.specs.Edges.{same, all}
+use Rattle.machine.specs.Cost.{costReasons, costBy, pageCost}
+use Rattle.machine.specs.Edges.{same, apart, all}
 use Rattle.machine.specs.CostCases.{claimedBy, sharedBy, Query, numbers, meets, cases, askedBy, countsClaims, leavesN, divides15, paysNobody, roundsUp, takesPageV, takesAll, pageFirst, answersAlike, Wrong, queries, Answers, differs, shown, NoneAnswers}
 use Rattle.machine.proofs.Computing.{computing}
-use Rattle.machine.proofs.WrongMachines.{same-self, every}
+use Rattle.machine.proofs.WrongMachines.{not-apart, every}
 
 pub all-meet : all meets cases ≡ true
-unfolding all meets cases numbers same claimedBy sharedBy startBare claimants costOf costReasons pageCost computing
+unfolding all meets cases numbers same claimedBy sharedBy startBare claimants costOf costReasons costBy pageCost computing
 all-meet = refl
 
 -- The shape with the rule's own parts is the rule.
 pub asked-rule : Answers (askedBy costReasons claimants costOf)
-unfolding askedBy pageCost
+unfolding askedBy costBy pageCost
 asked-rule s n = refl
 
 pub all-shown : all shown queries ≡ true
-unfolding all shown queries differs numbers same askedBy countsClaims leavesN divides15 paysNobody roundsUp takesPageV takesAll pageFirst answersAlike claimedBy sharedBy startBare claimants costOf costReasons pageCost computing
+unfolding all shown queries differs apart numbers same askedBy countsClaims leavesN divides15 paysNobody roundsUp takesPageV takesAll pageFirst answersAlike claimedBy sharedBy startBare claimants costOf costReasons costBy pageCost computing
 all-shown = refl
 
 -- A query that answers what the rule answers does not differ from it.
 answering : (q : Query) (w : Wrong) → Answers q → differs q w ≡ false
 unfolding differs
-answering q w is =
-    let rule = numbers (pageCost (w .state) (w .page)) in
-    ap (λ (r : Costed). not (same (numbers r) rule)) (is (w .state) (w .page)) ∙ ap not (same-self rule)
+answering q w is = not-apart numbers (q (w .state) (w .page)) (pageCost (w .state) (w .page)) (is (w .state) (w .page))
 
 misanswers : (w : Wrong) → shown w ≡ true → Answers (w .wrong) → ⊥
 unfolding shown

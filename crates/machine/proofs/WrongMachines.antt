@@ -10,16 +10,16 @@ use Rattle.pages.specs.Numbers.{pageCode, frameCode}
 use Rattle.table.specs.Numbers.{rowCode}
 use Rattle.claims.specs.Numbers.{principalCode}
 use Rattle.calls.specs.declared.Call.the-variants.{Take}
-use Rattle.machine.specs.Step.{Outcome, stepOf}
+use Rattle.machine.specs.Step.{stepOf}
 use Rattle.machine.specs.Forgetting.{startBare}
-use Rattle.machine.specs.Edges.{same, all, Every}
+use Rattle.machine.specs.Edges.{same, apart, all, Every}
 use Rattle.machine.specs.Variants.{Rule, Obeys, instead, sweepBy, takeBy, maskBy, plainBy, splitBy, mergeBy, revokeBy, endBy, unmapBy, storeBy, loadBy, collectBy, createBy, claimBy, releaseBy, destroyBy, ruledBy, claimAgainst, destroyAgainst, toldBy}
 use Rattle.machine.specs.WrongClaims.{takesNoLimit, spendsAlways, returnsAlways, destroys, ownMayDestroy, passesLast, allCounts}
 use Rattle.machine.specs.WrongMachines.{Wrong, clearsAll, inventsLeft, inventsLength, pleadsFull, takesForNobody, takesForManager, keepsLower, saysSeveral, joinsOwn, revokesForNobody, collectsNoTaker, filtersAtRest, dropsNumber, clearsByte, turnsDown, answersAlike, keepsState, releases, tagged, tellsTags, refusalWrites, after, from, lent, splits, neighbours, family, counted, machines, numbers, leaves, differs, shown, startRefused, NoneObeys}
 use Rattle.machine.proofs.Computing.{computing}
 
 pub all-shown : all shown machines ≡ true
-unfolding all shown machines differs numbers same instead sweepBy takeBy maskBy plainBy splitBy mergeBy revokeBy endBy unmapBy storeBy loadBy collectBy createBy claimBy releaseBy destroyBy ruledBy claimAgainst destroyAgainst toldBy clearsAll inventsLeft inventsLength pleadsFull takesForNobody takesForManager keepsLower saysSeveral joinsOwn revokesForNobody collectsNoTaker filtersAtRest dropsNumber clearsByte turnsDown answersAlike keepsState releases tagged tellsTags refusalWrites takesNoLimit spendsAlways returnsAlways destroys ownMayDestroy passesLast allCounts after from lent splits neighbours family counted pageCode frameCode rowCode principalCode computing
+unfolding all shown machines differs apart numbers same instead sweepBy takeBy maskBy plainBy splitBy mergeBy revokeBy endBy unmapBy storeBy loadBy collectBy createBy claimBy releaseBy destroyBy ruledBy claimAgainst destroyAgainst toldBy clearsAll inventsLeft inventsLength pleadsFull takesForNobody takesForManager keepsLower saysSeveral joinsOwn revokesForNobody collectsNoTaker filtersAtRest dropsNumber clearsByte turnsDown answersAlike keepsState releases tagged tellsTags refusalWrites takesNoLimit spendsAlways returnsAlways destroys ownMayDestroy passesLast allCounts after from lent splits neighbours family counted pageCode frameCode rowCode principalCode computing
 all-shown = refl
 
 -- A fresh table with taker 0: a take that the rule grants from a start is refused under 1.
@@ -28,18 +28,20 @@ unfolding startRefused startBare computing
 taker-0-refused = refl
 
 -- A list is the same as itself.
-pub same-self : (l : List ℕ) → same l l ≡ true
+same-self : (l : List ℕ) → same l l ≡ true
 unfolding same
 same-self [] = refl
 same-self (x ∷ l) = both (eqb x x) (same l l) (eq-eqb x x refl) (same-self l)
 
+-- Equal things are not apart.
+pub not-apart : {A : Type 0} (numbers : A → List ℕ) (x y : A) → x ≡ y → apart numbers x y ≡ false
+unfolding apart
+not-apart numbers x y e = ap (λ z. not (same (numbers z) (numbers y))) e ∙ ap not (same-self (numbers y))
+
 -- A machine that obeys the rule does not differ from it.
 obeying : (m : Rule) (w : Wrong) → Obeys m → differs m w ≡ false
 unfolding differs
-obeying m w obeys =
-    let rule = numbers (leaves stepOf w) in
-    let equal : leaves m w ≡ leaves stepOf w = obeys (w .before .answer .state) (w .call) (w .before .cells) (w .before .tags) in
-    ap (λ (o : Outcome). not (same (numbers o) rule)) equal ∙ ap not (same-self rule)
+obeying m w obeys = not-apart numbers (leaves m w) (leaves stepOf w) (obeys (w .before .answer .state) (w .call) (w .before .cells) (w .before .tags))
 
 -- What holds of each entry that passes holds of every entry of a list that passes.
 pub every : {A : Type 0} (t : A → Bool) (P : A → Type 0) → ((x : A) → t x ≡ true → P x) → (l : List A) → all t l ≡ true → Every P l

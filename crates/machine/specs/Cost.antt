@@ -1,6 +1,6 @@
 -- Document 02, 2026-11: the cost of a page, asked of a state. It is no command: no party sends it, and it changes nothing. Assumes nothing.
 use Prim.Native.Nat.{ℕ, _+_, _<_}
-use mathlib.Core.Bool.{true, not}
+use mathlib.Core.Bool.{Bool, true, not}
 use mathlib.Core.List.{List, [], _∷_}
 use mathlib.Core.Path.{_≡_}
 use lib.Dec.{eqb}
@@ -9,6 +9,7 @@ use Rattle.capabilities.specs.Refusals.{Reason, reason, first}
 use Rattle.pages.specs.Mapping.{noPage}
 use Rattle.claims.specs.Claims.{countOf}
 use Rattle.claims.specs.Cost.{claimants, Cost, cost, Shares, costOf}
+use Rattle.reservations.specs.Core.{Core}
 use Rattle.calls.specs.declared.Call.the-variants.{Claim}
 use Rattle.calls.specs.Commands.{page}
 use Rattle.machine.specs.State.{State}
@@ -27,15 +28,20 @@ costed code c = record { code = code; cost = c }
 abbrev pub uncosted : ℕ → Costed
 uncosted code = costed code (cost 0 0)
 
--- "Refusals are 1 and, for a page of V or more, 12."
-unfoldable pub costReasons : State → ℕ → List Reason
-costReasons s n = reason 1 (not (wellFormed s)) ∷ reason 12 (noPage (s .core .pages) (page n)) ∷ []
+-- "Refusals are 1 and, for a page of V or more, 12." Whether the state is well formed is found before: of the state itself, or of the
+-- arrays that it is read from.
+unfoldable pub costReasons : Bool → Core → ℕ → List Reason
+costReasons good c n = reason 1 (not good) ∷ reason 12 (noPage (c .pages) (page n)) ∷ []
 
 -- "For a page with n claiming principals, give share and remainder."
+unfoldable pub costBy : Bool → Core → ℕ → Costed
+costBy good c n =
+    let code = first (costReasons good c n) in
+    pick (eqb code 0) (costed 0 (costOf (claimants (c .claims) n))) (uncosted code)
+
+-- The same asked of a state.
 unfoldable pub pageCost : State → ℕ → Costed
-pageCost s n =
-    let code = first (costReasons s n) in
-    pick (eqb code 0) (costed 0 (costOf (claimants (s .core .claims) n))) (uncosted code)
+pageCost s n = costBy (wellFormed s) (s .core) n
 
 -- How many principals claim a page of a state.
 abbrev pub claimantsOf : State → ℕ → ℕ

@@ -12,6 +12,7 @@ use Rattle.claims.specs.Claims.{Claims, countOf, sum}
 use Rattle.claims.specs.Operations.{createOf, claimOf}
 use Rattle.claims.specs.Sound.{freshClaims}
 use Rattle.claims.specs.Cost.{claimants, Cost, cost, costOf}
+use Rattle.reservations.specs.Core.{Core}
 use Rattle.calls.specs.Commands.{page}
 use Rattle.machine.specs.State.{State}
 use Rattle.machine.specs.Formed.{wellFormed, fresh}
@@ -19,7 +20,7 @@ use Rattle.machine.specs.Effects.{withClaims}
 use Rattle.machine.specs.Step.{withCore}
 use Rattle.machine.specs.Forgetting.{startBare}
 use Rattle.machine.specs.Cost.{Costed, costed, uncosted, costReasons, pageCost}
-use Rattle.machine.specs.Edges.{same, Every}
+use Rattle.machine.specs.Edges.{same, apart, Every}
 
 -- Principals 0 to n − 1 claim page 1 twice each; all but 0 were made for it under 0.
 unfoldable pub claimedBy : ℕ → Claims
@@ -69,9 +70,9 @@ cases =
     ∷ asking (fresh 257 1) 0 1 0 0 ∷ asking (startBare 2 1 .state) 1 1 0 0 ∷ asking (startBare 2 1 .state) 2 1 0 0 ∷ []
 
 -- The query by other reasons, another number of claimants or another division.
-unfoldable pub askedBy : (State → ℕ → List Reason) → (Claims → ℕ → ℕ) → (ℕ → Cost) → Query
+unfoldable pub askedBy : (Bool → Core → ℕ → List Reason) → (Claims → ℕ → ℕ) → (ℕ → Cost) → Query
 askedBy reasons count divide s n =
-    let code = first (reasons s n) in
+    let code = first (reasons (wellFormed s) (s .core) n) in
     pick (eqb code 0) (costed 0 (divide (count (s .core .claims) n))) (uncosted code)
 
 -- One that counts claims and not principals.
@@ -94,14 +95,14 @@ unfoldable pub roundsUp : ℕ → Cost
 roundsUp n = pick (eqb n 0) (cost 0 16) (cost ((16 + n - 1) / n) 0)
 
 -- One that takes page V for a page, one that asks nothing of the state, and one that judges 12 first.
-unfoldable pub takesPageV : State → ℕ → List Reason
-takesPageV s n = reason 1 (not (wellFormed s)) ∷ reason 12 (ltb (s .core .pages .v) n) ∷ []
+unfoldable pub takesPageV : Bool → Core → ℕ → List Reason
+takesPageV good c n = reason 1 (not good) ∷ reason 12 (ltb (c .pages .v) n) ∷ []
 
-unfoldable pub takesAll : State → ℕ → List Reason
-takesAll s n = reason 12 (noPage (s .core .pages) (page n)) ∷ []
+unfoldable pub takesAll : Bool → Core → ℕ → List Reason
+takesAll good c n = reason 12 (noPage (c .pages) (page n)) ∷ []
 
-unfoldable pub pageFirst : State → ℕ → List Reason
-pageFirst s n = reason 12 (noPage (s .core .pages) (page n)) ∷ reason 1 (not (wellFormed s)) ∷ []
+unfoldable pub pageFirst : Bool → Core → ℕ → List Reason
+pageFirst good c n = reason 12 (noPage (c .pages) (page n)) ∷ reason 1 (not good) ∷ []
 
 -- One that answers alike.
 unfoldable pub answersAlike : Query
@@ -135,7 +136,7 @@ abbrev pub Answers : Query → Type 0
 Answers q = (s : State) (n : ℕ) → q s n ≡ pageCost s n
 
 unfoldable pub differs : Query → Wrong → Bool
-differs q w = not (same (numbers (q (w .state) (w .page))) (numbers (pageCost (w .state) (w .page))))
+differs q w = apart numbers (q (w .state) (w .page)) (pageCost (w .state) (w .page))
 
 unfoldable pub shown : Wrong → Bool
 shown w = differs (w .wrong) w && not (differs (w .right) w)

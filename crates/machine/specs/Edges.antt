@@ -1,7 +1,7 @@
 -- Document 01, 'Edges': the cases marked K, as one list. Each is a start and calls, one after the other over zeroed lent
 -- memory, with the codes that the document names. Assumes nothing.
 use Prim.Native.Nat.{ℕ, _*_}
-use mathlib.Core.Bool.{Bool, true, false, _&&_}
+use mathlib.Core.Bool.{Bool, true, false, not, _&&_}
 use mathlib.Core.List.{List, [], _∷_}
 use lib.ListN.{replicate}
 use lib.Dec.{eqb}
@@ -40,6 +40,10 @@ same [] [] = true
 same [] (y ∷ ys) = false
 same (x ∷ xs) [] = false
 same (x ∷ xs) (y ∷ ys) = eqb x y && same xs ys
+
+-- Two things with different numbers.
+unfoldable pub apart : {A : Type 0} → (A → List ℕ) → A → A → Bool
+apart numbers x y = not (same (numbers x) (numbers y))
 
 unfoldable pub meets : Case → Bool
 meets c = same (codes (c .v) (c .f) (c .calls)) (c .expected)

@@ -42,7 +42,7 @@ use Rattle.machine.specs.Roles.{plainPermissions}
 use Rattle.machine.specs.Effects.{withClaims}
 use Rattle.machine.specs.Step.{Outcome, left, refused, withCore, stepOf}
 use Rattle.machine.specs.Forgetting.{startBare}
-use Rattle.machine.specs.Edges.{same, Every}
+use Rattle.machine.specs.Edges.{apart, Every}
 use Rattle.machine.specs.Variants.{Rule, Obeys, sweepBy, takeBy, maskBy, plainBy, splitBy, mergeBy, revokeBy, endBy, unmapBy, storeBy, loadBy, collectBy, createBy, claimBy, releaseBy, destroyBy, claimAgainst, destroyAgainst, toldBy}
 use Rattle.machine.specs.WrongClaims.{takesNoLimit, spendsAlways, returnsAlways, dropsChildren, returnsUnspent, ownMayDestroy, passesLast, toldNothing, toldOfOther, claimNumbers}
 
@@ -316,7 +316,7 @@ abbrev pub leaves : Rule → Wrong → Outcome
 leaves m w = m (w .before .answer .state) (w .call) (w .before .cells) (w .before .tags)
 
 unfoldable pub differs : Rule → Wrong → Bool
-differs m w = not (same (numbers (leaves m w)) (numbers (leaves stepOf w)))
+differs m w = apart numbers (leaves m w) (leaves stepOf w)
 
 -- The wrong machine's outcome differs from the rule's; as a control, that of the right one in the same shape does not (that it
 -- never does is proved in `Shapes`).

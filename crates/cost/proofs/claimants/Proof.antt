@@ -2,17 +2,15 @@
 use native.Mathlib.Omega.{arith}
 use Prim.Native.Nat.{ℕ, _≤_, _-_}
 use mathlib.Core.Path.{_≡_, refl, ap, _∙_}
-use lib.Dec.{ltb}
 use borrow.Author.Needs.{needs}
-use Rattle.capabilities.specs.Lists.{pick}
-use Rattle.claims.specs.Claims.{sum}
+use Rattle.claims.specs.Claims.{one, sum}
 use Rattle.claims.specs.Lent.{countIn}
 use Rattle.claims.proofs.Sums.{sum-turn}
 use Rattle.cost.proofs.claimants.Statement.{statement}
 use Rattle.cost.proofs.claimants.Tie as tie
 
 abbrev Inv-loop : tie.InvT-loop
-Inv-loop counts page n₀ p₀ n p = (p ≤ 32) × (n ≤ p) × (n ≡ sum p (λ q. pick (ltb 0 (countIn counts q page)) 1 0))
+Inv-loop counts page n₀ p₀ n p = (p ≤ 32) × (n ≤ p) × (n ≡ sum p (λ q. one (countIn counts q page)))
 
 abbrev μ-loop : tie.MeasureT-loop
 μ-loop counts page n₀ p₀ n p = 32 - p
@@ -43,8 +41,8 @@ loop-again c =
     let here = c .claimant .ensures in (
       omega arith,
       omega (arith, here .1),
-      sum-turn (λ q. pick (ltb 0 (countIn (a .counts .now) q (a .page))) 1 0) (loop .p) (loop .n) _ (loop .inv .2)
-          (here .0 ∙ ap (λ (k : ℕ). pick (ltb 0 k) 1 0) (c .before .count-in .ensures)),
+      sum-turn (λ q. one (countIn (a .counts .now) q (a .page))) (loop .p) (loop .n) _ (loop .inv .2)
+          (here .0 ∙ ap one (c .before .count-in .ensures)),
     )
 
 returns : tie.Need-returns Inv-loop μ-loop
@@ -52,7 +50,7 @@ returns c =
     let a = c .before .before .before .args in
     let loop = c .before .loop in
     let e : loop .p ≡ 32 = omega arith in
-    loop .inv .2 ∙ ap (λ (k : ℕ). sum k (λ q. pick (ltb 0 (countIn (a .counts .now) q (a .page))) 1 0)) e
+    loop .inv .2 ∙ ap (λ (k : ℕ). sum k (λ q. one (countIn (a .counts .now) q (a .page)))) e
 
 pub claimants-spec : {M : Type 1} → statement M
 claimants-spec = tie.close (tie.spec Inv-loop μ-loop loop-holds count-in-requires claimant-requires add-n add-p loop-less loop-again returns)

@@ -1,11 +1,9 @@
 -- `cost::page_cost` meets its contract. Refused, the code says why; granted, the arrays are well formed and the counts are the state's.
-use mathlib.Core.Bool.{not}
-use mathlib.Core.Path.{_≡_, sym, ap, ap₂, _∙_}
-use Rattle.capabilities.specs.Lists.{pick}
+use mathlib.Core.Path.{ap, ap₂, _∙_}
 use Rattle.arrays.specs.Reading.{arrays}
 use Rattle.claims.specs.Cost.{cost, costOf}
-use Rattle.machine.specs.Cost.{costed, uncosted}
-use Rattle.cost.proofs.Asking.{codeBy, asked-refused, asked-granted, asked-low, asked-cost}
+use Rattle.machine.specs.Cost.{costed}
+use Rattle.cost.proofs.Asking.{asked-refused, asked-low, asked-cost}
 use borrow.Author.Needs.{needs}
 use Rattle.cost.proofs.page_cost.Statement.{statement}
 use Rattle.cost.proofs.page_cost.Tie as tie
@@ -33,17 +31,13 @@ returns : tie.Need-returns
 returns c =
     let a = c .before .before .before .before .before .before .before .before .before .before .before .before .before .before .args in
     let m = arrays (a .nums) (a .words .now) (a .marks .now) (a .mail .now) (a .flags .now) (a .rows .now) (a .pages .now) (a .frames .now) (a .principals .now) (a .counts .now) in
-    let good = c .before .before .before .before .formed in
-    let code : c .before .first2 .result ≡ codeBy (good .result) (a .nums .v) (a .page) = c .before .first2 .ensures ∙ ap (pick (not (good .result)) 1) (c .before .before .first .ensures) in
-    ap uncosted code ∙ asked-refused m (a .page) (good .result) (good .ensures) (λ z. c .if1 .taken (code ∙ z))
+    asked-refused m (a .page) _ (c .before .before .before .before .formed .ensures) _ _ (c .before .before .first .ensures) (c .before .first2 .ensures) (c .if1 .taken)
 
 cast-claimants : tie.Need-cast-claimants
 cast-claimants c =
     let a = c .before .before .before .before .before .before .before .before .before .before .before .before .before .before .args in
     let m = arrays (a .nums) (a .words .now) (a .marks .now) (a .mail .now) (a .flags .now) (a .rows .now) (a .pages .now) (a .frames .now) (a .principals .now) (a .counts .now) in
-    let good = c .before .before .before .before .formed in
-    let code : c .before .first2 .result ≡ codeBy (good .result) (a .nums .v) (a .page) = c .before .first2 .ensures ∙ ap (pick (not (good .result)) 1) (c .before .before .first .ensures) in
-    let low = asked-low m (a .page) (asked-granted m (a .page) (good .result) (good .ensures) (sym code ∙ c .if1 .left)) in
+    let low = asked-low m (a .page) _ (c .before .before .before .before .formed .ensures) _ _ (c .before .before .first .ensures) (c .before .first2 .ensures) (c .if1 .left) in
     search (needs, low)
 
 claimants-requires : tie.Need-claimants-requires
@@ -59,11 +53,9 @@ returns-2 : tie.Need-returns-2
 returns-2 c =
     let a = c .before .before .before .before .before .before .before .before .before .before .before .before .before .before .before .before .before .args in
     let m = arrays (a .nums) (a .words .now) (a .marks .now) (a .mail .now) (a .flags .now) (a .rows .now) (a .pages .now) (a .frames .now) (a .principals .now) (a .counts .now) in
-    let good = c .before .before .before .before .before .before .before .formed in
-    let code : c .before .before .before .before .first2 .result ≡ codeBy (good .result) (a .nums .v) (a .page) = c .before .before .before .before .first2 .ensures ∙ ap (pick (not (good .result)) 1) (c .before .before .before .before .before .first .ensures) in
-    let granted = asked-granted m (a .page) (good .result) (good .ensures) (sym code ∙ c .before .before .before .if1 .left) in
     ap₂ (λ s r. costed 0 (cost s r)) (c .before .share .ensures) (c .remainder .ensures)
-    ∙ ap (λ k. costed 0 (costOf k)) (c .before .before .claimants .ensures) ∙ asked-cost m (a .page) granted
+    ∙ ap (λ k. costed 0 (costOf k)) (c .before .before .claimants .ensures)
+    ∙ asked-cost m (a .page) _ (c .before .before .before .before .before .before .before .formed .ensures) _ _ (c .before .before .before .before .before .first .ensures) (c .before .before .before .before .first2 .ensures) (c .before .before .before .if1 .left)
 
 pub page-cost-spec : {M : Type 1} → statement M
 page-cost-spec =
