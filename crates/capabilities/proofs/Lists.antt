@@ -1,4 +1,4 @@
--- Laws of `each`, `mapEach` and `map`: one entry more, as a loop goes, what they say of one entry, and lists in parts. Assumes nothing.
+-- Laws of `each`, `mapEach`, `map` and `all`: one entry more, as a loop goes, what they say of one entry, and lists in parts. Assumes nothing.
 use Prim.Native.Nat.{ℕ, zero, suc, _+_, _<_, _≤_}
 use native.Mathlib.Nat.{add-zero, add-suc, suc-add, zero-add}
 use native.Mathlib.Numerals.{add-one}
@@ -10,7 +10,7 @@ use lib.ListN.{length, getD, take, drop, set, replicate, length-drop, length-rep
 use lib.Seq.{take-suc, take-all, take-at, take-add, length-take-le, length-front, getD-at, getD-drop, set-at, drop-at, drop-cons, drop-drop, append-snoc}
 use lib.Dec.{leb, ltb}
 use borrow.Author.Tests.{leb-true, leb-false, ltb-true, ltb-false}
-use Rattle.capabilities.specs.Lists.{each, mapEach}
+use Rattle.capabilities.specs.Lists.{each, mapEach, all, Every}
 use Rattle.capabilities.proofs.Choice.{and-left, and-right, cross}
 
 pub empty : {A : Type 0} (l : List A) → length l ≡ 0 → l ≡ []
@@ -228,3 +228,9 @@ module _ {A B : Type 0} (f : A → B) where
   pub back : (g : B → A) (d : A) (l : List A) → ((i : ℕ) → i < length l → g (f (getD l i d)) ≡ getD l i d) → map g (map f l) ≡ l
   back g d [] h = refl
   back g d (y ∷ l) h = ap (λ z. z ∷ map g (map f l)) (h 0 (omega arith)) ∙ ap (λ k. y ∷ k) (back g d l (λ i p. h (suc i) (omega (arith, p))))
+
+-- What holds of each entry that passes holds of every entry of a list that passes.
+pub every : {A : Type 0} (t : A → Bool) (P : A → Type 0) → ((x : A) → t x ≡ true → P x) → (l : List A) → all t l ≡ true → Every P l
+unfolding Every all
+every t P f [] e = tt
+every t P f (x ∷ l) e = (f x (and-left (t x) (all t l) e), every t P f l (and-right (t x) (all t l) e))

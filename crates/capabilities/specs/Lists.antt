@@ -2,6 +2,7 @@
 use Prim.Native.Nat.{ℕ, suc}
 use mathlib.Core.Bool.{Bool, true, false, _&&_}
 use mathlib.Core.List.{List, [], _∷_}
+use lib.Dec.{eqb}
 
 -- The first if the test holds, or else the second.
 abbrev pub pick {ℓ} : {A : Type ℓ} → Bool → A → A → A
@@ -17,3 +18,20 @@ each P n (x ∷ l) = P n x && each P (suc n) l
 unfoldable pub mapEach : {A B : Type 0} → (ℕ → A → B) → ℕ → List A → List B
 mapEach f n [] = []
 mapEach f n (x ∷ l) = f n x ∷ mapEach f (suc n) l
+
+-- Every entry passes the test.
+unfoldable pub all : {A : Type 0} → (A → Bool) → List A → Bool
+all P [] = true
+all P (x ∷ l) = P x && all P l
+
+-- The same of what need not be a test.
+unfoldable pub Every : {A : Type 0} → (A → Type 0) → List A → Type 0
+Every P [] = Unit {0}
+Every P (x ∷ l) = P x × Every P l
+
+-- The same numbers in the same order.
+unfoldable pub same : List ℕ → List ℕ → Bool
+same [] [] = true
+same [] (y ∷ ys) = false
+same (x ∷ xs) [] = false
+same (x ∷ xs) (y ∷ ys) = eqb x y && same xs ys

@@ -5,6 +5,7 @@ use mathlib.Core.Bool.{Bool, true, _&&_}
 use mathlib.Core.List.{List, [], _∷_, _++_, map}
 use mathlib.Core.Path.{_≡_, refl}
 use lib.ListN.{length, replicate}
+use Rattle.capabilities.specs.Lists.{same, all}
 use Rattle.capabilities.specs.declared.Range.{Range}
 use Rattle.pages.specs.Pages.{Pages}
 use Rattle.sweep.specs.Sweep.{Passed, passing, sweepOf}
@@ -15,7 +16,6 @@ use Rattle.calls.specs.declared.Call.the-variants.{Take, Split, Merge, Revoke, 
 use Rattle.calls.specs.Commands.{page, frame}
 use Rattle.words.specs.declared.Slot.{Slot}
 use Rattle.words.specs.Words.{byteOf}
-use Rattle.machine.specs.Edges.{same, all}
 use Rattle.machine.specs.Formed.{startOf}
 use Rattle.machine.specs.Step.{stepOf}
 use Rattle.machine.specs.Variants.{Rule, instead, sweepBy, loadBy, storeBy}

@@ -3,13 +3,13 @@ use Prim.Native.Nat.{ℕ}
 use mathlib.Core.Bool.{true}
 use mathlib.Core.List.{List, [], _∷_}
 use mathlib.Core.Path.{_≡_, refl}
+use Rattle.capabilities.specs.Lists.{same, all}
 use Rattle.pages.specs.Entries.{maps}
 use Rattle.pages.specs.Layer.{pageAt}
 use Rattle.claims.specs.Claims.{unspent}
 use Rattle.calls.specs.declared.Call.the-variants.{Map, Unmap, Zero, Create, Claim, Release, Destroy}
 use Rattle.calls.specs.Commands.{page, frame}
 use Rattle.words.specs.Words.{byteOf}
-use Rattle.machine.specs.Edges.{same, all}
 use Rattle.machine.specs.Step.{stepOf}
 use Rattle.machine.proofs.Computing.{computing}
 use Rattle.histories.specs.Runs.{Machine, begun}

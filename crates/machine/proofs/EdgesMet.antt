@@ -1,7 +1,8 @@
 -- Document 01's K cases: the rules give the codes that it names, by one computation over the list.
 use mathlib.Core.Bool.{true}
 use mathlib.Core.Path.{_≡_, refl}
-use Rattle.machine.specs.Edges.{codesFrom, codes, same, meets, all, cases}
+use Rattle.capabilities.specs.Lists.{same, all}
+use Rattle.machine.specs.Edges.{codesFrom, codes, meets, cases}
 use Rattle.machine.proofs.Computing.{computing}
 
 pub all-meet : all meets cases ≡ true

@@ -1,14 +1,16 @@
 -- The query answers what the list of cases names, and none of the wrong ones does what it does: by one computation over each list.
 use mathlib.Core.Bool.{true, false, not, true≢false}
 use mathlib.Core.Path.{_≡_, refl, sym, _∙_}
+use Rattle.capabilities.specs.Lists.{same, all}
 use Rattle.capabilities.proofs.Choice.{and-left}
+use Rattle.capabilities.proofs.Lists.{every}
 use Rattle.claims.specs.Cost.{claimants, costOf}
 use Rattle.machine.specs.Forgetting.{startBare}
 use Rattle.machine.specs.Cost.{costReasons, costBy, pageCost}
-use Rattle.machine.specs.Edges.{same, apart, all}
+use Rattle.machine.specs.Edges.{apart}
 use Rattle.machine.specs.CostCases.{claimedBy, sharedBy, Query, numbers, meets, cases, askedBy, countsClaims, leavesN, divides15, paysNobody, roundsUp, takesPageV, takesAll, pageFirst, answersAlike, Wrong, queries, Answers, differs, shown, NoneAnswers}
 use Rattle.machine.proofs.Computing.{computing}
-use Rattle.machine.proofs.WrongMachines.{not-apart, every}
+use Rattle.machine.proofs.WrongMachines.{not-apart}
 
 pub all-meet : all meets cases ≡ true
 unfolding all meets cases numbers same claimedBy sharedBy startBare claimants costOf costReasons costBy pageCost computing

@@ -5,14 +5,16 @@ use mathlib.Core.List.{List, [], _∷_}
 use mathlib.Core.Path.{_≡_, refl, sym, ap, _∙_}
 use lib.Dec.{eqb}
 use borrow.Author.Tests.{eq-eqb}
-use Rattle.capabilities.proofs.Choice.{and-left, and-right, both}
+use Rattle.capabilities.specs.Lists.{same, all, Every}
+use Rattle.capabilities.proofs.Choice.{and-left, both}
+use Rattle.capabilities.proofs.Lists.{every}
 use Rattle.pages.specs.Numbers.{pageCode, frameCode}
 use Rattle.table.specs.Numbers.{rowCode}
 use Rattle.claims.specs.Numbers.{principalCode}
 use Rattle.calls.specs.declared.Call.the-variants.{Take}
 use Rattle.machine.specs.Step.{stepOf}
 use Rattle.machine.specs.Forgetting.{startBare}
-use Rattle.machine.specs.Edges.{same, apart, all, Every}
+use Rattle.machine.specs.Edges.{apart}
 use Rattle.machine.specs.Variants.{Rule, Obeys, instead, sweepBy, takeBy, maskBy, plainBy, splitBy, mergeBy, revokeBy, endBy, unmapBy, storeBy, loadBy, collectBy, createBy, claimBy, releaseBy, destroyBy, ruledBy, claimAgainst, destroyAgainst, toldBy}
 use Rattle.machine.specs.WrongClaims.{takesNoLimit, spendsAlways, returnsAlways, destroys, ownMayDestroy, passesLast, allCounts}
 use Rattle.machine.specs.WrongMachines.{Wrong, clearsAll, inventsLeft, inventsLength, pleadsFull, takesForNobody, takesForManager, keepsLower, saysSeveral, joinsOwn, revokesForNobody, collectsNoTaker, filtersAtRest, dropsNumber, clearsByte, turnsDown, answersAlike, keepsState, releases, tagged, tellsTags, refusalWrites, after, from, lent, splits, neighbours, family, counted, machines, numbers, leaves, differs, shown, startRefused, NoneObeys}
@@ -42,12 +44,6 @@ not-apart numbers x y e = ap (λ z. not (same (numbers z) (numbers y))) e ∙ ap
 obeying : (m : Rule) (w : Wrong) → Obeys m → differs m w ≡ false
 unfolding differs
 obeying m w obeys = not-apart numbers (leaves m w) (leaves stepOf w) (obeys (w .before .answer .state) (w .call) (w .before .cells) (w .before .tags))
-
--- What holds of each entry that passes holds of every entry of a list that passes.
-pub every : {A : Type 0} (t : A → Bool) (P : A → Type 0) → ((x : A) → t x ≡ true → P x) → (l : List A) → all t l ≡ true → Every P l
-unfolding Every all
-every t P f [] e = tt
-every t P f (x ∷ l) e = (f x (and-left (t x) (all t l) e), every t P f l (and-right (t x) (all t l) e))
 
 disobeys : (w : Wrong) → shown w ≡ true → Obeys (w .wrong) → ⊥
 unfolding shown

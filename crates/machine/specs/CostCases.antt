@@ -5,7 +5,7 @@ use mathlib.Core.Bool.{Bool, true, not, _&&_}
 use mathlib.Core.List.{List, [], _∷_}
 use mathlib.Core.Path.{_≡_}
 use lib.Dec.{eqb, ltb}
-use Rattle.capabilities.specs.Lists.{pick}
+use Rattle.capabilities.specs.Lists.{pick, same, Every}
 use Rattle.capabilities.specs.Refusals.{Reason, reason, first}
 use Rattle.pages.specs.Mapping.{noPage}
 use Rattle.claims.specs.Claims.{Claims, countOf, sum}
@@ -20,7 +20,7 @@ use Rattle.machine.specs.Effects.{withClaims}
 use Rattle.machine.specs.Step.{withCore}
 use Rattle.machine.specs.Forgetting.{startBare}
 use Rattle.machine.specs.Cost.{Costed, costed, uncosted, costReasons, pageCost}
-use Rattle.machine.specs.Edges.{same, apart, Every}
+use Rattle.machine.specs.Edges.{apart}
 
 -- Principals 0 to n − 1 claim page 1 twice each; all but 0 were made for it under 0.
 unfoldable pub claimedBy : ℕ → Claims

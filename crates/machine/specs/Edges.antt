@@ -1,10 +1,10 @@
 -- Document 01, 'Edges': the cases marked K, as one list. Each is a start and calls, one after the other over zeroed lent
 -- memory, with the codes that the document names. Assumes nothing.
 use Prim.Native.Nat.{ℕ, _*_}
-use mathlib.Core.Bool.{Bool, true, false, not, _&&_}
+use mathlib.Core.Bool.{Bool, not}
 use mathlib.Core.List.{List, [], _∷_}
 use lib.ListN.{replicate}
-use lib.Dec.{eqb}
+use Rattle.capabilities.specs.Lists.{same}
 use Rattle.calls.specs.declared.Call.{Call}
 use Rattle.calls.specs.declared.Call.the-variants.{Take, Split, Give, Revoke, Sweep, Collect, Map, Zero, Load, Store, Narrow}
 use Rattle.calls.specs.Commands.{page, frame}
@@ -35,27 +35,12 @@ codes v f calls =
     let a = startOf v f in
     a .code ∷ codesFrom (a .state) (replicate (16 * f) 0) (replicate (16 * f) 0) calls
 
-unfoldable pub same : List ℕ → List ℕ → Bool
-same [] [] = true
-same [] (y ∷ ys) = false
-same (x ∷ xs) [] = false
-same (x ∷ xs) (y ∷ ys) = eqb x y && same xs ys
-
 -- Two things with different numbers.
 unfoldable pub apart : {A : Type 0} → (A → List ℕ) → A → A → Bool
 apart numbers x y = not (same (numbers x) (numbers y))
 
 unfoldable pub meets : Case → Bool
 meets c = same (codes (c .v) (c .f) (c .calls)) (c .expected)
-
-unfoldable pub all : {A : Type 0} → (A → Bool) → List A → Bool
-all P [] = true
-all P (x ∷ l) = P x && all P l
-
--- The same of what need not be a test.
-unfoldable pub Every : {A : Type 0} → (A → Type 0) → List A → Type 0
-Every P [] = Unit {0}
-Every P (x ∷ l) = P x × Every P l
 
 -- Frame 0 is zeroed and mapped at page 0, and party 0 takes the sixteen cells from 0 on into register 0.
 abbrev pub taken16 : List Call → List Call

@@ -11,7 +11,7 @@ use lib.Dec.{leb, eqb}
 use Rattle.capabilities.specs.declared.Range.{Range}
 use Rattle.capabilities.specs.Capability.{baseOf, permitted, permits}
 use Rattle.capabilities.specs.Range.{inside}
-use Rattle.capabilities.specs.Lists.{pick}
+use Rattle.capabilities.specs.Lists.{pick, Every}
 use Rattle.pages.specs.declared.VirtualPage.{VirtualPage}
 use Rattle.pages.specs.declared.PageState.the-variants.{Unmapped}
 use Rattle.pages.specs.Pages.{Pages, Paged}
@@ -42,7 +42,7 @@ use Rattle.machine.specs.Roles.{plainPermissions}
 use Rattle.machine.specs.Effects.{withClaims}
 use Rattle.machine.specs.Step.{Outcome, left, refused, withCore, stepOf}
 use Rattle.machine.specs.Forgetting.{startBare}
-use Rattle.machine.specs.Edges.{apart, Every}
+use Rattle.machine.specs.Edges.{apart}
 use Rattle.machine.specs.Variants.{Rule, Obeys, sweepBy, takeBy, maskBy, plainBy, splitBy, mergeBy, revokeBy, endBy, unmapBy, storeBy, loadBy, collectBy, createBy, claimBy, releaseBy, destroyBy, claimAgainst, destroyAgainst, toldBy}
 use Rattle.machine.specs.WrongClaims.{takesNoLimit, spendsAlways, returnsAlways, dropsChildren, returnsUnspent, ownMayDestroy, passesLast, toldNothing, toldOfOther, claimNumbers}
 

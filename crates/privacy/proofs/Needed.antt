@@ -5,10 +5,10 @@ use mathlib.Core.Bool.{true, false, _&&_}
 use mathlib.Core.List.{List, [], _∷_}
 use mathlib.Core.Path.{_≡_, refl}
 use lib.ListN.{replicate}
+use Rattle.capabilities.specs.Lists.{all}
 use Rattle.calls.specs.Commands.{page, frame}
 use Rattle.calls.specs.declared.Call.{Call}
 use Rattle.calls.specs.declared.Call.the-variants.{Split, Give, Revoke, Sweep, Collect, Map, Unmap, Zero, Load, Store, Number, Grant, Receive, TakeMasked}
-use Rattle.machine.specs.Edges.{all}
 use Rattle.privacy.proofs.Pairs.{Entry, inBoth, inOne, inTwo, same, says, fine, Pair, unguarded, unequal, differing, comparing}
 
 -- House 3 has page 0, and party 5 has page 1 and granted house 3 its capability, which is in register 5.

@@ -7,7 +7,7 @@ use mathlib.Core.Path.{_≡_, refl, sym, ap, _∙_}
 use borrow.Author.Tests.{eqb-true}
 use lib.Dec.{eqb}
 use lib.ListN.{length}
-use Rattle.capabilities.specs.Lists.{pick}
+use Rattle.capabilities.specs.Lists.{pick, all}
 use Rattle.capabilities.proofs.Choice.{and-left, and-right}
 use Rattle.calls.specs.declared.Call.{Call}
 use Rattle.words.specs.declared.Slot.{Slot}
@@ -15,7 +15,6 @@ use Rattle.words.specs.Words.{slot, registerOf}
 use Rattle.machine.specs.Formed.{startOf}
 use Rattle.machine.specs.Roles.{IsTake}
 use Rattle.machine.specs.Reasons.{Reads, reading}
-use Rattle.machine.specs.Edges.{all}
 use Rattle.machine.proofs.Computing.{computing}
 use Rattle.histories.specs.Runs.{Machine, outcome, next, run, begun}
 use Rattle.histories.specs.Live.{virtual, wordIn}

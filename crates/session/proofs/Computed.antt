@@ -4,11 +4,11 @@ use Prim.Native.Nat.{ℕ}
 use mathlib.Core.Bool.{Bool, true}
 use mathlib.Core.List.{List, [], _∷_}
 use mathlib.Core.Path.{_≡_, refl}
+use Rattle.capabilities.specs.Lists.{same, all}
 use Rattle.calls.specs.Reader.{whole, readOf}
 use Rattle.machine.specs.Command.{onReading, commandJudged, commandOf}
 use Rattle.lines.specs.Lines.{digits, decimal, lineOf}
 use Rattle.session_rules.specs.Session.{linesFrom, linesRead, linesOf}
-use Rattle.machine.specs.Edges.{same, all}
 use Rattle.machine.proofs.Computing.{computing}
 
 -- Document 01's own session: bytes in 85, lines out 18.
