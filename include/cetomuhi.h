@@ -4,8 +4,8 @@
  * The functions of the library (section "The library") are total: they answer for all numbers,
  * bytes and lengths, and a refused call leaves every byte as it was. The inline functions after
  * them put pointers and lengths in their places; they are tested, not proved. "The document" is
- * document 01 with requests 2026-01, 2026-02, 2026-04, 2026-05 and 2026-11, whose numbers the
- * commands and refusals bear.
+ * document 01 with requests 2026-01, 2026-02, 2026-04, 2026-05, 2026-07 and 2026-11, whose numbers
+ * the commands and refusals bear.
  *
  * What a caller owes, here as with all C: pointers are valid and aligned for the lengths that go
  * with them, and what a function writes overlaps nothing else that it is handed. Nothing is kept
@@ -74,7 +74,7 @@ enum cetomuhi_kind {
 };
 
 /* The code of an answer: the first that applies, in the order of their numbers, but for 20 and 21,
- * which come after 12, and 22, after 13. */
+ * which come after 12, and 22, after 13. No call gets 25, which is for questions about a table. */
 enum cetomuhi_code {
     CETOMUHI_GRANTED = 0,
     CETOMUHI_REFUSED_ILL_FORMED = 1,  /* the state is not well formed, or V or F out of range */
@@ -98,7 +98,8 @@ enum cetomuhi_code {
     CETOMUHI_REFUSED_MAILBOX = 19,         /* the mailbox granted to is full, or one's own empty */
     CETOMUHI_REFUSED_WRONG_PRINCIPAL = 20, /* not in being; not held as needed; or not free */
     CETOMUHI_REFUSED_CLAIM_LIMIT = 21,     /* too little unspent; a count of 65,535; or one of 0 */
-    CETOMUHI_REFUSED_CLAIMED = 22          /* the page to unmap has a claim */
+    CETOMUHI_REFUSED_CLAIMED = 22,         /* the page to unmap has a claim */
+    CETOMUHI_REFUSED_WRONG_RANGE = 25      /* no table; no cells; past its end; or no room for 64 */
 };
 
 /* A refusal in words. */
@@ -127,8 +128,12 @@ static inline const char *cetomuhi_refusal_words(uint64_t code) {
         "the principal is not in being or not held as needed, or its number is not free",
         "too little limit is unspent, or the count is at its most, or at 0",
         "the page has a claim",
+        NULL, /* 23 and 24 are not in use */
+        NULL,
+        "the records are no table, the range or length is wrong, or the list has no room",
     };
-    return code < sizeof words / sizeof words[0] ? words[code] : "no answer of the machine";
+    const char *const own = code < sizeof words / sizeof words[0] ? words[code] : NULL;
+    return own != NULL ? own : "no answer of the machine";
 }
 
 /* A command's word: "take" for 0x01. */
@@ -203,6 +208,20 @@ typedef struct cetomuhi_cost {
     uint64_t remainder; /* cells left over; 0 if refused */
 } cetomuhi_cost;
 
+/* Reservations by their bases, in rising order. */
+typedef struct cetomuhi_listed {
+    uint64_t code;                 /* 0, or refusal 25 */
+    uint64_t count;                /* how many there are; 0 if refused */
+    uint16_t bases[CETOMUHI_ROWS]; /* the first `count` are theirs; the rest is 0 */
+} cetomuhi_listed;
+
+/* The Open reservation of enough cells that is nearest to a cell. */
+typedef struct cetomuhi_nearest_open {
+    uint64_t code;  /* 0, or refusal 25 */
+    uint64_t found; /* 1; or 0: no Open one has that many cells, or refused */
+    uint64_t base;  /* 0 if none is found */
+} cetomuhi_nearest_open;
+
 /* ---- The library ----
  *
  * A slice is a pointer and a length. No pointer may be null, also where the length is 0. Ten
@@ -244,6 +263,27 @@ uint8_t cetomuhi_page_cost(const uint16_t *numbers, size_t numbers_len, const ui
                            size_t frames_len, const uint64_t *principals, size_t principals_len,
                            const uint16_t *counts, size_t counts_len, uint64_t page,
                            uint64_t *share, uint64_t *remainder);
+
+/* The next three are asked of a table, a state's or any other: all of `rows` are records like those
+ * of a cetomuhi_state, and each begins where the one before ends, the first at cell 0. They answer
+ * 0, or refusal 25 and write nothing: the records are none or over 64, have a length 0, do not tile
+ * so or end above 4,096; `cells` is 0; or, for the two lists, the range ends past the records or
+ * `bases` is shorter than 64. States, holders and takers may be any. */
+
+/* Those that share a cell with the `cells` cells from `first` on: their bases come first in
+ * `bases`, whose rest is kept, and `*count` is how many. */
+uint8_t cetomuhi_sharing(const uint64_t *rows, size_t rows_len, uint64_t first, uint64_t cells,
+                         uint16_t *bases, size_t bases_len, uint64_t *count);
+
+/* The same for those with all their cells in the range. */
+uint8_t cetomuhi_within(const uint64_t *rows, size_t rows_len, uint64_t first, uint64_t cells,
+                        uint16_t *bases, size_t bases_len, uint64_t *count);
+
+/* Of the Open ones of `cells` cells or more the nearest to `cell`, which may lie anywhere: `*found`
+ * is 1 and `*base` its base. Both are 0 if there is none. The distance is to its closest cell, 0
+ * inside; of two equally near the lower is found. */
+uint8_t cetomuhi_nearest(const uint64_t *rows, size_t rows_len, uint64_t cell, uint64_t cells,
+                         uint64_t *found, uint64_t *base);
 
 /* The command that stands at `at`, the state tested first: 1, and code, number, tag and used come
  * first in `answers`. 0, and nothing is done, if `answers` is shorter than four. */
@@ -420,6 +460,41 @@ static inline cetomuhi_cost cetomuhi_state_page_cost(const cetomuhi_state *state
     return cost;
 }
 
+/* How many rows of the state are its table: its count, or none if it counts more than there are,
+ * which is refusal 25. */
+static inline size_t cetomuhi_table_length(const cetomuhi_state *state) {
+    const size_t count = state->numbers[2];
+    return count <= CETOMUHI_ROWS ? count : 0;
+}
+
+/* The reservations that share a cell with the `cells` cells from `first` on. The state's table
+ * alone is looked at, here and in the next two. */
+static inline cetomuhi_listed cetomuhi_state_sharing(const cetomuhi_state *state, uint64_t first,
+                                                     uint64_t cells) {
+    cetomuhi_listed listed = {0, 0, {0}};
+    listed.code = cetomuhi_sharing(state->rows, cetomuhi_table_length(state), first, cells,
+                                   listed.bases, CETOMUHI_ROWS, &listed.count);
+    return listed;
+}
+
+/* Those with all their cells among the `cells` cells from `first` on. */
+static inline cetomuhi_listed cetomuhi_state_within(const cetomuhi_state *state, uint64_t first,
+                                                    uint64_t cells) {
+    cetomuhi_listed listed = {0, 0, {0}};
+    listed.code = cetomuhi_within(state->rows, cetomuhi_table_length(state), first, cells,
+                                  listed.bases, CETOMUHI_ROWS, &listed.count);
+    return listed;
+}
+
+/* The Open one of `cells` cells or more that is nearest to `cell`. */
+static inline cetomuhi_nearest_open cetomuhi_state_nearest(const cetomuhi_state *state,
+                                                           uint64_t cell, uint64_t cells) {
+    cetomuhi_nearest_open nearest = {0, 0, 0};
+    nearest.code = cetomuhi_nearest(state->rows, cetomuhi_table_length(state), cell, cells,
+                                    &nearest.found, &nearest.base);
+    return nearest;
+}
+
 /* The memory, or none of it if a pointer is null; `cell` and `tag` are there to be pointed at. */
 static inline cetomuhi_memory cetomuhi_lent(cetomuhi_memory memory, uint64_t *cell, uint8_t *tag) {
     const cetomuhi_memory none = {cell, tag, 0};
@@ -485,6 +560,21 @@ static inline bool cetomuhi_machine_well_formed(const cetomuhi_machine *machine)
 static inline cetomuhi_cost cetomuhi_machine_page_cost(const cetomuhi_machine *machine,
                                                        uint64_t page) {
     return cetomuhi_state_page_cost(&machine->state, page);
+}
+
+static inline cetomuhi_listed cetomuhi_machine_sharing(const cetomuhi_machine *machine,
+                                                       uint64_t first, uint64_t cells) {
+    return cetomuhi_state_sharing(&machine->state, first, cells);
+}
+
+static inline cetomuhi_listed cetomuhi_machine_within(const cetomuhi_machine *machine,
+                                                      uint64_t first, uint64_t cells) {
+    return cetomuhi_state_within(&machine->state, first, cells);
+}
+
+static inline cetomuhi_nearest_open cetomuhi_machine_nearest(const cetomuhi_machine *machine,
+                                                             uint64_t cell, uint64_t cells) {
+    return cetomuhi_state_nearest(&machine->state, cell, cells);
 }
 
 static inline cetomuhi_answer cetomuhi_machine_command(cetomuhi_machine *machine,

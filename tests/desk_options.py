@@ -58,21 +58,22 @@ class Words(Case):
         for word in ("--help", "-h"):
             status, output, error = desk(word)
             self.assertEqual((status, error), (0, ""))
-            for option in ("./desk FILE.hex", "--explain", "--state", "--state=end", "--help"):
+            options = ("--explain", "--state", "--state=end", "--map", "--help")
+            for option in ("./desk FILE.hex", *options):
                 self.assertIn(option, output)
 
     def test_words_that_are_wrong(self):
         session = SESSIONS[0]
         self.fails("no file is named; ./desk --help says how")
         self.fails("no file is named; ./desk --help says how", "--explain")
-        for word in ("--states", "--state=all", "-x"):
+        for word in ("--states", "--state=all", "--map=end", "-x"):
             fault = f"{word}: no such option; ./desk --help says which there are"
             self.fails(fault, session, word)
         self.fails("a.hex and b.hex: one file at a time", "a.hex", "b.hex")
 
     def test_files_that_are_wrong(self):
         missing = self.folder / "missing.hex"
-        for options in ((), ("--explain",), ("--state",)):
+        for options in ((), ("--explain",), ("--state",), ("--map",)):
             self.fails(f"{missing}: No such file or directory", missing, *options)
             self.fails(f"{self.folder}: Is a directory", self.folder, *options)
             odd = self.session("00 02 01 # V and F\n\n0A 00 0\n")
@@ -134,15 +135,39 @@ class Building(Case):
     def test_no_library_and_no_compiler(self):
         archive = self.folder / "libcetomuhi.a"
         self.misses(f"{archive} is missing", "--state", CETOMUHI_LIB_DIR=str(self.folder))
-        fault = "--state needs a C compiler, and no-cc is not found"
-        self.misses(fault, "--state", CC="no-cc", CETOMUHI_LIB_DIR=LIBRARY)
+        for option in ("--state", "--map"):
+            fault = f"{option} needs a C compiler, and no-cc is not found"
+            self.misses(fault, option, CC="no-cc", CETOMUHI_LIB_DIR=LIBRARY)
+
+    # Times in seconds from the epoch: all parts at 1, the program at 2, then one part at 3.
+    def test_a_part_that_is_newer(self):
+        for name in ("tools", "include"):
+            (self.root / name).unlink()
+            shutil.copytree(ROOT / name, self.root / name)
+        archive = self.root / "target/staticlib/libcetomuhi.a"
+        archive.parent.mkdir()
+        shutil.copy(f"{LIBRARY}/libcetomuhi.a", archive)
+        parts = [*self.root.glob("tools/*.[ch]"), self.root / "include/cetomuhi.h", archive]
+        self.assertEqual(len(parts), 5)
+        shower = self.root / "target/tools/show_state"
+        words = (self.document, "--state=end")
+        expected = desk(*words, root=self.root, CETOMUHI_LIB_DIR="")
+        for newer in (None, *parts):
+            for part in parts:
+                os.utime(part, (1, 1))
+            os.utime(shower, (2, 2))
+            if newer:
+                os.utime(newer, (3, 3))
+            self.assertEqual(desk(*words, root=self.root, CETOMUHI_LIB_DIR=""), expected)
+            self.assertEqual(shower.stat().st_mtime != 2, newer is not None, newer)
 
     def test_a_program_with_other_lines(self):
         self.program.unlink()
         self.program.write_text("#!/bin/sh\necho 0 0 0\n")
         self.program.chmod(0o755)
         fault = f"{self.document}: the program's lines are not the library's"
-        self.misses(fault, "--state", CETOMUHI_LIB_DIR=LIBRARY)
+        for option in ("--state", "--map"):
+            self.misses(fault, option, CETOMUHI_LIB_DIR=LIBRARY)
 
 
 # Each command after a start with V 2 and F 1, and why it is refused; granted ones have no reason.

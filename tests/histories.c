@@ -319,11 +319,22 @@ static void test_refusals_and_showing(void) {
     CHECK(cetomuhi_page_at(&m.state, 3).frame == 2 && cetomuhi_frame_at(&m.state, 2) == 2);
 }
 
-/* Every code, kind and state has words of its own. */
-static void test_words(void) {
-    for (uint64_t code = 0; code < 23; code++)
+/* Every code has words of its own, and those in `unused` share one phrase. */
+static void test_code_words(void) {
+    static const uint64_t unused[] = {23, 24, 26, 255, UINT64_MAX};
+    static const uint64_t last = CETOMUHI_REFUSED_WRONG_RANGE;
+    for (size_t i = 0; i < COUNT(unused); i++)
+        CHECK(strcmp(cetomuhi_refusal_words(unused[i]), "no answer of the machine") == 0);
+    for (uint64_t code = 0; code < 23; code++) {
         for (uint64_t other = code + 1; other < 24; other++)
             CHECK(strcmp(cetomuhi_refusal_words(code), cetomuhi_refusal_words(other)) != 0);
+        CHECK(strcmp(cetomuhi_refusal_words(code), cetomuhi_refusal_words(last)) != 0);
+    }
+    CHECK(strstr(cetomuhi_refusal_words(last), "the records are no table") != NULL);
+}
+
+/* Every kind and state has a word of its own. */
+static void test_words(void) {
     CHECK(strcmp(cetomuhi_kind_word(CETOMUHI_TAKE), "take") == 0);
     for (uint64_t kind = 0; kind <= CETOMUHI_DESTROY; kind++)
         for (uint64_t other = kind + 1; other <= CETOMUHI_DESTROY; other++)
@@ -482,6 +493,7 @@ int main(int count, char **words) {
     test_joined_takers();
     test_revoked_takers();
     test_refusals_and_showing();
+    test_code_words();
     test_words();
     for (long i = 0; i < rounds; i++)
         random_history(rooms[(size_t)i % COUNT(rooms)]);

@@ -1,9 +1,10 @@
 #!/usr/bin/env python3
-"""Shows that the tests of the cost of a page catch faults in what stands around the proved function.
+"""Shows that the tests of the cost of a page and of the questions about a table catch faults in what stands
+around the proved functions.
 
 Puts one fault after another into a copy of the C header, the Rust crate or the plain implementation in
-bench/ and runs the test that is named with it, which must then fail. No session shows a cost. The library
-is libcetomuhi.a in the folder that CETOMUHI_LIB_DIR names, or in target/staticlib.
+bench/ and runs the test that is named with it, which must then fail. No session asks such a question. The
+library is libcetomuhi.a in the folder that CETOMUHI_LIB_DIR names, or in target/staticlib.
 """
 
 import os
@@ -17,6 +18,9 @@ ROOT = pathlib.Path(__file__).resolve().parent.parent
 LIBRARY = pathlib.Path(os.environ.get("CETOMUHI_LIB_DIR") or ROOT / "target/staticlib").resolve()
 
 C, RUST, PLAIN = "tests/cost.c", "rust/cetomuhi/tests/cost.rs", "bench/tests/cost.rs"
+MAPS_C, MAPS_RUST = "tests/maps.c", "rust/cetomuhi/tests/maps.rs"
+WORDS_C, WORDS_RUST = "tests/histories.c", "rust/cetomuhi/tests/shown.rs"
+TESTS = (C, RUST, PLAIN, MAPS_C, MAPS_RUST, WORDS_C, WORDS_RUST)
 
 # What goes wrong, the file, the text there, what stands in its place, the test that shows it.
 FAULTS = [
@@ -104,6 +108,148 @@ FAULTS = [
         "if !self.is_well_formed() && page < self.pages.pages().len() as u64 {",
         PLAIN,
     ),
+    (
+        "the header asks about all rows instead of those in use",
+        "include/cetomuhi.h",
+        "return count <= CETOMUHI_ROWS ? count : 0;",
+        "return count > 0 ? CETOMUHI_ROWS : 0;",
+        MAPS_C,
+    ),
+    (
+        "the header takes 64 rows where the state counts more",
+        "include/cetomuhi.h",
+        "return count <= CETOMUHI_ROWS ? count : 0;",
+        "return count <= CETOMUHI_ROWS ? count : CETOMUHI_ROWS;",
+        MAPS_C,
+    ),
+    (
+        "the header lists those that share cells for those within",
+        "include/cetomuhi.h",
+        "listed.code = cetomuhi_within(",
+        "listed.code = cetomuhi_sharing(",
+        MAPS_C,
+    ),
+    (
+        "the header swaps the range's first cell and its length",
+        "include/cetomuhi.h",
+        "cetomuhi_sharing(state->rows, cetomuhi_table_length(state), first, cells,",
+        "cetomuhi_sharing(state->rows, cetomuhi_table_length(state), cells, first,",
+        MAPS_C,
+    ),
+    (
+        "the header lends one number too few",
+        "include/cetomuhi.h",
+        """listed.code = cetomuhi_within(state->rows, cetomuhi_table_length(state), first, cells,
+                                  listed.bases, CETOMUHI_ROWS,""",
+        """listed.code = cetomuhi_within(state->rows, cetomuhi_table_length(state), first, cells,
+                                  listed.bases, CETOMUHI_ROWS - 1,""",
+        MAPS_C,
+    ),
+    (
+        "the header drops the code of the nearest",
+        "include/cetomuhi.h",
+        "nearest.code = cetomuhi_nearest(",
+        "cetomuhi_nearest(",
+        MAPS_C,
+    ),
+    (
+        "the header swaps found and base",
+        "include/cetomuhi.h",
+        "&nearest.found, &nearest.base);",
+        "&nearest.base, &nearest.found);",
+        MAPS_C,
+    ),
+    (
+        "a machine in C cuts a cell to 16 bits",
+        "include/cetomuhi.h",
+        "return cetomuhi_state_nearest(&machine->state, cell, cells);",
+        "return cetomuhi_state_nearest(&machine->state, (uint16_t)cell, cells);",
+        MAPS_C,
+    ),
+    (
+        "a machine in C is asked about the last cells instead of those beyond",
+        "include/cetomuhi.h",
+        "return cetomuhi_state_within(&machine->state, first, cells);",
+        "return cetomuhi_state_within(&machine->state, first < 99 ? first : 99, cells);",
+        MAPS_C,
+    ),
+    (
+        "the header has no empty places before refusal 25",
+        "include/cetomuhi.h",
+        "        NULL, /* 23 and 24 are not in use */\n        NULL,\n",
+        "",
+        WORDS_C,
+    ),
+    (
+        "the header has no words for refusal 25",
+        "include/cetomuhi.h",
+        "words[code] : NULL;",
+        "words[code < 23 ? code : 23] : NULL;",
+        WORDS_C,
+    ),
+    (
+        "the crate takes 64 rows where the state counts more",
+        "rust/cetomuhi/src/maps.rs",
+        "unwrap_or_default()",
+        "unwrap_or(&self.rows)",
+        MAPS_RUST,
+    ),
+    (
+        "the crate lists those within for those that share cells",
+        "rust/cetomuhi/src/maps.rs",
+        "self.listed(boundary::sharing, first, cells)",
+        "self.listed(boundary::within, first, cells)",
+        MAPS_RUST,
+    ),
+    (
+        "the crate lends one number too few",
+        "rust/cetomuhi/src/maps.rs",
+        "const ROOM: usize = 64;",
+        "const ROOM: usize = 63;",
+        MAPS_RUST,
+    ),
+    (
+        "the crate answers a list with its unused places",
+        "rust/cetomuhi/src/maps.rs",
+        ".take(count as usize)",
+        ".take(count.max(1) as usize)",
+        MAPS_RUST,
+    ),
+    (
+        "the crate finds base 0 where none is found",
+        "rust/cetomuhi/src/maps.rs",
+        "(found == 1).then_some(base)",
+        "(found <= 1).then_some(base)",
+        MAPS_RUST,
+    ),
+    (
+        "the crate takes refusal 25 for granted",
+        "rust/cetomuhi/src/maps.rs",
+        "0 => Ok(()),",
+        "0 | 25 => Ok(()),",
+        MAPS_RUST,
+    ),
+    (
+        "the crate swaps the cell and the length",
+        "rust/cetomuhi/src/boundary.rs",
+        "rows.len(), cell, cells, found, base)",
+        "rows.len(), cells, cell, found, base)",
+        MAPS_RUST,
+    ),
+    (
+        "a machine in Rust cuts a cell to 16 bits",
+        "rust/cetomuhi/src/machine.rs",
+        "self.state.nearest(cell, cells)",
+        "self.state.nearest(cell & 0xFFFF, cells)",
+        MAPS_RUST,
+    ),
+    (
+        "the crate has refusals by place instead of number",
+        "rust/cetomuhi/src/refusal.rs",
+        "Some(Refusal::ALL[index.ok()?])",
+        "Some(Refusal::ALL[index.unwrap_or_else(|place| place.min(22))])",
+        WORDS_RUST,
+    ),
 ]
 
 
@@ -114,13 +260,14 @@ def run(command, folder):
 
 def passes(folder, test):
     """Whether a test passes in a copy of the repository. One that does not compile ends the program."""
-    if test == C:
-        program = folder / "cost"
-        build = ["cc", "-std=c11", "-Iinclude", C, f"-L{LIBRARY}", "-lcetomuhi", "-o", program]
+    path = pathlib.Path(test)
+    if path.suffix == ".c":
+        program = folder / path.stem
+        build = ["cc", "-std=c11", "-Iinclude", test, f"-L{LIBRARY}", "-lcetomuhi", "-o", program]
         start = [program]
     else:
-        manifest = folder / pathlib.Path(test).parent.parent / "Cargo.toml"
-        start = ["cargo", "test", "--quiet", "--offline", "--manifest-path", manifest, "--test", "cost"]
+        manifest = folder / path.parent.parent / "Cargo.toml"
+        start = ["cargo", "test", "--quiet", "--offline", "--manifest-path", manifest, "--test", path.stem]
         build = [*start, "--no-run"]
     built = run(build, folder)
     if built.returncode != 0:
@@ -151,7 +298,7 @@ def try_all():
         folder = pathlib.Path(name)
         for part in ("include", "tests", "rust", "bench"):
             shutil.copytree(ROOT / part, folder / part, ignore=shutil.ignore_patterns("target"))
-        failing = [test for test in (C, RUST, PLAIN) if not passes(folder, test)]
+        failing = [test for test in TESTS if not passes(folder, test)]
         if failing:
             sys.exit(f"fails without a fault: {' '.join(failing)}")
         return [try_fault(folder, fault) for fault in FAULTS]

@@ -1,16 +1,18 @@
-/* Runs a session over the library and prints its lines with the machine's state in tables.
+/* Runs a session over the library and prints its lines with the machine's state.
  *
- *     show_state each <BYTES    after each line the state, or 'as before'
- *     show_state end <BYTES     the state once, after the last line
+ *     show_state each WHAT WIDTH <BYTES    after each line the state, or 'as before'
+ *     show_state end WHAT WIDTH <BYTES     the state once, after the last line
  *
- * The bytes are those that the program `desk` reads. Its lines begin with a digit, those of a table
- * with blanks. */
+ * WHAT is `tables`, `map` or `both`, WIDTH the columns for a line of the map. The bytes are those
+ * that the program `desk` reads. Its lines begin with a digit, those of a state with blanks. */
 #include <inttypes.h>
 #include <stdbool.h>
 #include <stdio.h>
+#include <stdlib.h>
 #include <string.h>
 
 #include "cetomuhi.h"
+#include "draw_map.h"
 
 #define INPUT 32768 /* the bytes of its input that a session looks at */
 #define START 3     /* the bytes of V and F */
@@ -219,7 +221,7 @@ static void show_claims(const cetomuhi_state *state)
         }
 }
 
-static void show_state(const cetomuhi_state *state)
+static void show_tables(const cetomuhi_state *state)
 {
     if (cetomuhi_page_count(state) == 0)
         printf("    all zero\n");
@@ -234,6 +236,22 @@ static void show_state(const cetomuhi_state *state)
 }
 
 /* ---- The session ---- */
+
+/* What is shown of the state, and when. */
+typedef struct view {
+    bool each; /* after each line; else after the last */
+    bool tables;
+    bool map;
+    size_t width; /* of the map */
+} view;
+
+static void show_state(const cetomuhi_state *state, const view *how)
+{
+    if (how->tables)
+        show_tables(state);
+    if (how->map)
+        draw_map(state, how->width, how->tables);
+}
 
 static void show_answer(cetomuhi_answer answer)
 {
@@ -254,30 +272,30 @@ static bool goes_on(cetomuhi_answer answer)
     return answer.code == CETOMUHI_GRANTED || answer.code > CETOMUHI_REFUSED_NO_COMMAND;
 }
 
-static void run(const uint8_t *input, size_t length, bool each)
+static void run(const uint8_t *input, size_t length, const view *how)
 {
     static cetomuhi_machine machine;
     static cetomuhi_state before;
     cetomuhi_answer answer = start(&machine, input, length);
     size_t at = START;
     show_answer(answer);
-    if (each)
-        show_state(&machine.state);
+    if (how->each)
+        show_state(&machine.state, how);
     while (goes_on(answer) && at < length) {
         before = machine.state;
         answer = cetomuhi_machine_command(&machine, input, length, at);
         at += (size_t)answer.used;
-        if (each)
+        if (how->each)
             putchar('\n');
         show_answer(answer);
-        if (each && memcmp(&before, &machine.state, sizeof before) == 0)
+        if (how->each && memcmp(&before, &machine.state, sizeof before) == 0)
             printf("    as before\n");
-        else if (each)
-            show_state(&machine.state);
+        else if (how->each)
+            show_state(&machine.state, how);
     }
-    if (!each) {
+    if (!how->each) {
         putchar('\n');
-        show_state(&machine.state);
+        show_state(&machine.state, how);
     }
 }
 
@@ -287,19 +305,35 @@ static int fail(const char *words)
     return 1;
 }
 
+static bool same(const char *word, const char *other)
+{
+    return strcmp(word, other) == 0;
+}
+
+/* Whether the words of the command line are such as stand at the top. */
+static bool read_words(view *how, int argc, char **argv)
+{
+    if (argc != 4)
+        return false;
+    how->each = same(argv[1], "each");
+    how->tables = same(argv[2], "tables") || same(argv[2], "both");
+    how->map = same(argv[2], "map") || same(argv[2], "both");
+    how->width = strtoul(argv[3], NULL, 10);
+    return (how->each || same(argv[1], "end")) && (how->tables || how->map);
+}
+
 int main(int argc, char **argv)
 {
     static uint8_t input[INPUT];
-    const bool each = argc == 2 && strcmp(argv[1], "each") == 0;
-    const bool end = argc == 2 && strcmp(argv[1], "end") == 0;
-    if (!each && !end)
-        return fail("show_state each|end <BYTES");
+    view how;
+    if (!read_words(&how, argc, argv))
+        return fail("show_state each|end tables|map|both WIDTH <BYTES");
     if (!cetomuhi_matches())
         return fail("the library is not the one that include/cetomuhi.h describes");
     const size_t length = fread(input, 1, sizeof input, stdin);
     if (ferror(stdin))
         return fail("standard input could not be read");
-    run(input, length, each);
+    run(input, length, &how);
     if (fflush(stdout) != 0 || ferror(stdout))
         return fail("standard output could not be written");
     return 0;

@@ -4,8 +4,10 @@ mod any_call;
 mod claims;
 mod granted;
 mod memory;
+pub mod queries;
 mod random;
 mod revocation;
+mod tables;
 
 use crate::plain::{Call, Memory, State, INPUT_LIMIT};
 use granted::Mood;

@@ -1,5 +1,5 @@
-//! The rules of document 01 and requests 2026-01, 2026-02, 2026-04, 2026-05 and 2026-11 in plain
-//! Rust, written from the documents alone, and what compares and times them against the proved
+//! The rules of document 01 and requests 2026-01, 2026-02, 2026-04, 2026-05, 2026-07 and 2026-11 in
+//! plain Rust, written from the documents alone, and what compares and times them against the proved
 //! libraries, which the crate `cetomuhi` wraps.
 
 pub mod costs;
@@ -12,6 +12,7 @@ pub mod odd;
 pub mod operands;
 pub mod plain;
 pub mod proved;
+pub mod queries;
 pub mod tally;
 pub mod timing;
 pub mod workloads;

@@ -1,14 +1,18 @@
-//! Whole sessions by the two proved libraries, and a machine of the embeddable one, if the feature
-//! `proved` links them.
+//! Whole sessions by the two proved libraries, and a machine and queries of the embeddable one, if the
+//! feature `proved` links them.
 
 /// Whether the libraries are linked.
 pub const LINKED: bool = cfg!(feature = "proved");
 
 #[cfg(feature = "proved")]
+pub use cetomuhi::raw::{nearest, sharing, within};
+#[cfg(feature = "proved")]
 pub use cetomuhi::session::{session, session_checked, LINES_LIMIT};
 #[cfg(feature = "proved")]
 pub use linked::Machine;
 
+#[cfg(not(feature = "proved"))]
+pub use unlinked::{list as sharing, list as within, nearest};
 #[cfg(not(feature = "proved"))]
 pub use unlinked::{session, session as session_checked, Machine, LINES_LIMIT};
 
@@ -49,6 +53,14 @@ mod unlinked {
     pub const LINES_LIMIT: usize = 26 * 16_384;
 
     pub fn session(_: &[u8], _: &mut [u8]) -> Option<usize> {
+        panic!("built without the feature `proved`")
+    }
+
+    pub fn list(_: &[u64], _: u64, _: u64, _: &mut [u16], _: &mut u64) -> u8 {
+        panic!("built without the feature `proved`")
+    }
+
+    pub fn nearest(_: &[u64], _: u64, _: u64, _: &mut u64, _: &mut u64) -> u8 {
         panic!("built without the feature `proved`")
     }
 

@@ -1,7 +1,9 @@
-//! The sessions that the benchmark times.
+//! The sessions and queries that the benchmark times.
 
 use crate::generate;
+use crate::plain::maps::{LAST_END, LIST_ROOM};
 use crate::plain::{Action, Call, INPUT_LIMIT};
+use crate::queries::{Kind, Query};
 
 /// Generated sessions of several sizes, each as long as an input may be.
 pub fn mix() -> Vec<Vec<u8>> {
@@ -120,6 +122,24 @@ pub fn claimed(v: u16, f: u8, claimants: u8) -> Vec<u8> {
         session.call(0, Action::Claim { principal: number, page: 1 });
     }
     session.bytes
+}
+
+/// Queries of all kinds over so many Open records of equal length up to cell 4,096.
+pub fn queries(records: usize) -> [(&'static str, Query); 5] {
+    let length = LAST_END / records;
+    let row = |place| (place * length) as u64 | (length as u64) << 16;
+    let query = |kind, first, cells| {
+        let rows = (0..records).map(row).collect();
+        Query { kind, rows, first, cells, room: LIST_ROOM }
+    };
+    let (all, middle) = (LAST_END as u64, LAST_END as u64 / 2);
+    [
+        ("sharing, all cells", query(Kind::Sharing, 0, all)),
+        ("sharing, one cell", query(Kind::Sharing, middle, 1)),
+        ("within, all cells", query(Kind::Within, 0, all)),
+        ("within, one cell", query(Kind::Within, middle, 1)),
+        ("nearest to the middle, of 1 cell or more", query(Kind::Nearest, middle, 1)),
+    ]
 }
 
 /// The first of so many reservations split and merged over and over, so that all others move.
@@ -241,6 +261,9 @@ mod tests {
         }
         for claimants in [0, 1, 3, 32] {
             assert!(all_granted(&claimed(16, 16, claimants)), "{claimants}");
+        }
+        for (name, query) in [1, 8, 64].into_iter().flat_map(queries) {
+            assert_eq!(query.expected().0.code, 0, "{name}");
         }
         for (name, shorter, longer) in kinds_by_difference() {
             assert!(all_granted(&longer) && longer.starts_with(&shorter), "{name}");

@@ -1,4 +1,4 @@
-//! The long comparisons with the library, on a few thousand commands and rounds.
+//! The long comparisons with the library, on a few thousand commands, tables and rounds.
 
 #![cfg(feature = "proved")]
 
@@ -18,6 +18,12 @@ fn a_load_shows_no_difference() {
         let line = last_line(env!("CARGO_BIN_EXE_load"), &["3000", seed, v, f]);
         assert!(line.starts_with("commands 3") && line.ends_with(" differences 0"), "{line}");
     }
+}
+
+#[test]
+fn maps_show_no_difference() {
+    let line = last_line(env!("CARGO_BIN_EXE_compare_maps"), &["1000", "2"]);
+    assert_eq!(line, "0 differences");
 }
 
 #[test]

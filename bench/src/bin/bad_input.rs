@@ -1,14 +1,15 @@
 //! Random states, lengths and bytes through every exported function.
 //!
 //! `bad_input [ROUNDS [SEED]]`, 1,000,000 rounds from seed 1 on. Each round has its state in arrays
-//! of their own and calls all nine functions. There must be an answer each time, and it must be the
+//! of their own and calls all twelve functions. There must be an answer each time, and it must be the
 //! plain rules' one; what is refused must keep every byte. Exit status 1 if any differs.
 
 use cetomuhi::{raw, VERSION};
 use cetomuhi_bench::costs::Costs;
-use cetomuhi_bench::generate::Random;
+use cetomuhi_bench::generate::{queries, Random};
 use cetomuhi_bench::lent::{written, Lent};
 use cetomuhi_bench::plain::{self, Cost, Memory, Refusal};
+use cetomuhi_bench::queries::{Kind, Queries, PROVED};
 use cetomuhi_bench::{odd, operands};
 use std::process::ExitCode;
 
@@ -46,6 +47,7 @@ struct Tally {
     /// Answers of single commands and of runs, by code.
     codes: [u64; 23],
     costs: Costs,
+    queries: Queries,
     differences: usize,
 }
 
@@ -57,7 +59,7 @@ impl Tally {
         for (code, count) in self.codes.iter().enumerate() {
             println!("  {code:>2} {count:>10}");
         }
-        print!("{}", self.costs);
+        print!("{}{}", self.costs, self.queries);
         println!("differences {}", self.differences);
     }
 }
@@ -68,12 +70,15 @@ fn wrong_if(condition: bool, fault: &'static str) -> Fault {
     condition.then_some(fault)
 }
 
-fn try_all(random: &mut Random, sound: &[Lent], tally: &mut Tally) -> [Fault; 8] {
+fn try_all(random: &mut Random, sound: &[Lent], tally: &mut Tally) -> [Fault; 11] {
     let lent = odd::state(random, sound);
     let which = random.number();
     [
         try_well_formed(&lent, tally),
         try_page_cost(random, &lent, tally),
+        try_query(random, Kind::Sharing, &lent, tally),
+        try_query(random, Kind::Within, &lent, tally),
+        try_query(random, Kind::Nearest, &lent, tally),
         try_command(random, lent.clone(), tally),
         try_commands(random, lent.clone(), tally),
         try_start(random, lent.clone(), tally),
@@ -109,6 +114,19 @@ fn try_page_cost(random: &mut Random, lent: &Lent, tally: &mut Tally) -> Fault {
     let code = raw::page_cost(lent.arrays(), page, &mut share, &mut remainder);
     wrong_if(Cost { code, share, remainder } != expected, "page_cost: another answer")
         .or(wrong_if(*lent != before, "page_cost: not kept"))
+}
+
+fn try_query(random: &mut Random, kind: Kind, lent: &Lent, tally: &mut Tally) -> Fault {
+    let used = lent.numbers.get(2).map_or(0, |count| usize::from(*count));
+    let query = queries::odd(random, kind, lent.rows.get(..used).unwrap_or(&lent.rows));
+    let (expected, causes) = query.expected();
+    tally.queries.count(&query, &expected, &causes);
+    let words = match kind {
+        Kind::Sharing => "sharing: another answer, or not kept",
+        Kind::Within => "within: another answer, or not kept",
+        Kind::Nearest => "nearest: another answer, or not kept",
+    };
+    query.fault(&PROVED, &expected).map(|_| words)
 }
 
 /// What the plain rules make of lent arrays and memory, if these are a well-formed state; the

@@ -5,10 +5,11 @@
 use cetomuhi_bench::costs::Machines;
 use cetomuhi_bench::plain;
 use cetomuhi_bench::proved::{self, LINES_LIMIT};
+use cetomuhi_bench::queries::{Query, Reply, Version, LOOPS, PROVED};
 use cetomuhi_bench::tally::Tally;
 use cetomuhi_bench::timing::{fastest, ticks_a_second};
 use cetomuhi_bench::workloads::{claimed, kinds, kinds_by_difference, mix, small_calls};
-use cetomuhi_bench::workloads::{sweep, Cells, SWEPT_CELLS};
+use cetomuhi_bench::workloads::{queries, sweep, Cells, SWEPT_CELLS};
 use std::hint::black_box;
 use std::time::Duration;
 
@@ -22,6 +23,7 @@ fn main() {
     print_sweeps();
     print_growth();
     print_costs();
+    print_queries();
 }
 
 /// Seconds of both machines for the same sessions, each the fastest of many runs.
@@ -211,7 +213,11 @@ fn print_costs() {
             println!("| {v} | {f} | {claimants} |{}{}", costs(&cost), costs(&test));
         }
     }
+    println!();
 }
+
+/// How often a run asks its question.
+const TIMES: usize = 1_000;
 
 /// Nanoseconds of a question, to which both must give the same answer.
 fn time_question<T: PartialEq>(
@@ -219,17 +225,47 @@ fn time_question<T: PartialEq>(
     plain: impl Fn(&plain::State) -> T,
     proved: impl Fn(&proved::Machine) -> T,
 ) -> Both {
-    const TIMES: usize = 1_000;
-    let mut by_plain = || (0..TIMES).for_each(|_| _ = black_box(plain(black_box(&machines.plain))));
-    let mut by_proved =
-        || (0..TIMES).for_each(|_| _ = black_box(proved(black_box(&machines.proved))));
-    let mut runs: Vec<&mut dyn FnMut()> = vec![&mut by_plain];
     if proved::LINKED {
         let same = plain(&machines.plain) == proved(&machines.proved);
         assert!(same, "the two answer differently: run compare");
-        runs.push(&mut by_proved);
     }
-    let best = fastest(&mut runs, Duration::from_millis(400));
+    time_runs([
+        &mut || (0..TIMES).for_each(|_| _ = black_box(plain(black_box(&machines.plain)))),
+        &mut || (0..TIMES).for_each(|_| _ = black_box(proved(black_box(&machines.proved)))),
+    ])
+}
+
+/// Nanoseconds of one question, of a run by the plain version and one by the proved.
+fn time_runs(mut runs: [&mut dyn FnMut(); 2]) -> Both {
+    let linked = if proved::LINKED { 2 } else { 1 };
+    let best = fastest(&mut runs[..linked], Duration::from_millis(400));
     let both = Both { plain: best[0], proved: best.get(1).copied() };
     both.map(|seconds| seconds * 1e9 / TIMES as f64)
+}
+
+fn print_queries() {
+    println!("Nanoseconds a query over so many records, all Open and of equal length, up to cell");
+    println!("4,096, which are tested each time.\n");
+    println!("| records | query | plain | proved | ratio |");
+    println!("|---:|---|---:|---:|---:|");
+    for records in [1, 8, 64] {
+        for (name, query) in queries(records) {
+            println!("| {records} | {name} |{}", costs(&time_query(&query)));
+        }
+    }
+}
+
+fn time_query(query: &Query) -> Both {
+    let (mut by_plain, mut by_proved) = (query.reply(&LOOPS), Reply::unwritten(query.room));
+    if proved::LINKED {
+        query.ask(&PROVED, &mut by_proved);
+        assert!(by_plain == by_proved, "the two answer differently: run compare_maps");
+    }
+    let run = |version: &Version, reply: &mut Reply| {
+        for _ in 0..TIMES {
+            black_box(query).ask(black_box(version), reply);
+            black_box(&reply);
+        }
+    };
+    time_runs([&mut || run(&LOOPS, &mut by_plain), &mut || run(&PROVED, &mut by_proved)])
 }

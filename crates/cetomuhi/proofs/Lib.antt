@@ -3,3 +3,4 @@ pub mod Fits
 pub mod One
 pub mod Ways
 pub mod Laws
+pub mod Putting

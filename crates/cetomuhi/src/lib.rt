@@ -25,6 +25,7 @@ ghost use Rattle.cetomuhi.specs.Lent.{lent, numbersOver};
 ghost use Rattle.cetomuhi.specs.Exports.{sizeOf, started, startLent, formedLent, costLent, done, endCode, commandLent, reached, commandsLent};
 
 mod numbers;
+pub mod questions;
 
 // Writes the small numbers over those that are lent.
 fn put_numbers(numbers: &mut [u16], nums: Numbers)

@@ -102,6 +102,32 @@ mod c {
             numbers: *mut u64,
             numbers_len: usize,
         ) -> usize;
+        pub fn cetomuhi_sharing(
+            rows: *const u64,
+            rows_len: usize,
+            first: u64,
+            cells: u64,
+            bases: *mut u16,
+            bases_len: usize,
+            count: *mut u64,
+        ) -> u8;
+        pub fn cetomuhi_within(
+            rows: *const u64,
+            rows_len: usize,
+            first: u64,
+            cells: u64,
+            bases: *mut u16,
+            bases_len: usize,
+            count: *mut u64,
+        ) -> u8;
+        pub fn cetomuhi_nearest(
+            rows: *const u64,
+            rows_len: usize,
+            cell: u64,
+            cells: u64,
+            found: *mut u64,
+            base: *mut u64,
+        ) -> u8;
         pub fn cetomuhi_version() -> u64;
         pub fn cetomuhi_size(which: u64) -> usize;
     }
@@ -226,6 +252,33 @@ pub fn read(input: &[u8], at: usize, numbers: &mut [u64]) -> usize {
     let (to, room) = (numbers.as_mut_ptr(), numbers.len());
     // SAFETY: both pointers are those of live slices with their lengths, which do not overlap.
     unsafe { c::cetomuhi_read(input.as_ptr(), input.len(), at, to, room) }
+}
+
+/// Which of the records share a cell with the `cells` cells from `first` on: 0, their bases come first
+/// in `bases`, whose rest is kept, and `count` is how many. All of `rows` are records as those of a
+/// state, 1 to 64, that tile up to 4,096 cells from cell 0 on, and the range has cells and lies in
+/// them; else, and where `bases` is shorter than 64: 25, and nothing is written.
+pub fn sharing(rows: &[u64], first: u64, cells: u64, bases: &mut [u16], count: &mut u64) -> u8 {
+    let (to, room) = (bases.as_mut_ptr(), bases.len());
+    // SAFETY: both pointers are those of live slices with their lengths. What is written are mutable
+    // borrows, so they overlap nothing.
+    unsafe { c::cetomuhi_sharing(rows.as_ptr(), rows.len(), first, cells, to, room, count) }
+}
+
+/// The same for the records with all their cells in the range.
+pub fn within(rows: &[u64], first: u64, cells: u64, bases: &mut [u16], count: &mut u64) -> u8 {
+    let (to, room) = (bases.as_mut_ptr(), bases.len());
+    // SAFETY: as above.
+    unsafe { c::cetomuhi_within(rows.as_ptr(), rows.len(), first, cells, to, room, count) }
+}
+
+/// Of the Open records of `cells` cells or more the nearest to `cell`: 0, `found` is 1 and `base` its
+/// base; both are 0 if there is none. Records that are no table, and 0 for `cells`: 25, and nothing
+/// is written.
+pub fn nearest(rows: &[u64], cell: u64, cells: u64, found: &mut u64, base: &mut u64) -> u8 {
+    // SAFETY: the pointer is that of a live slice with its length; what is written are two mutable
+    // borrows, so they overlap nothing.
+    unsafe { c::cetomuhi_nearest(rows.as_ptr(), rows.len(), cell, cells, found, base) }
 }
 
 /// The library's version, which changes with the layout of a state and with what a call does. This

@@ -3,10 +3,12 @@
 //!
 //! This crate is the safe Rust side of the library `libcetomuhi.a`, whose functions are proved to
 //! answer for all bytes, numbers and lengths by the rules of document 01, "The reservation machine
-//! of the composition server", with requests 2026-01, 2026-02, 2026-04, 2026-05 and 2026-11. A
-//! [`Machine`] owns its state and memory; a [`State`] is lent memory at every call. A [`Call`] is one
-//! of twenty-one kinds; its [`Answer`] is granted, or one of twenty-two [`Refusal`]s, and then
-//! nothing has changed. What a page [costs](Cost) those who claim it is asked of a state.
+//! of the composition server", with requests 2026-01, 2026-02, 2026-04, 2026-05, 2026-07 and
+//! 2026-11. A [`Machine`] owns its state and memory; a [`State`] is lent memory at every call. A
+//! [`Call`] is one of twenty-one kinds; its [`Answer`] is granted, or one of twenty-two [`Refusal`]s,
+//! and then nothing has changed. What a page [costs](Cost) those who claim it is asked of a state,
+//! and which reservations [share](State::sharing) cells with a range, lie [within](State::within) it
+//! or are [nearest](State::nearest) to a cell.
 //!
 //! ```
 //! use cetomuhi::{Call, Frame, Machine, Refusal, VirtualPage};
@@ -57,6 +59,7 @@ mod boundary;
 mod call;
 mod cost;
 mod machine;
+mod maps;
 mod refusal;
 #[cfg(feature = "session")]
 pub mod session;
@@ -80,7 +83,7 @@ pub const VERSION: u64 = 5;
 /// The exported functions over slices of any lengths, one for one. They are safe; the rest of the
 /// crate is more convenient.
 pub mod raw {
-    pub use crate::boundary::{command, commands, page_cost, read, size};
-    pub use crate::boundary::{start, version, well_formed, write};
+    pub use crate::boundary::{command, commands, nearest, page_cost, read, sharing, size};
+    pub use crate::boundary::{start, version, well_formed, within, write};
     pub use crate::boundary::{Arrays, ArraysMut, Memory};
 }

@@ -63,6 +63,30 @@ impl Machine {
         self.state.page_cost(page)
     }
 
+    /// The bases of the reservations that share a cell with the `cells` cells from `first` on.
+    ///
+    /// # Errors
+    /// As with [`State::sharing`].
+    pub fn sharing(&self, first: u64, cells: u64) -> Result<Vec<u16>, Refusal> {
+        self.state.sharing(first, cells)
+    }
+
+    /// The bases of the reservations with all their cells among the `cells` cells from `first` on.
+    ///
+    /// # Errors
+    /// As with [`State::within`].
+    pub fn within(&self, first: u64, cells: u64) -> Result<Vec<u16>, Refusal> {
+        self.state.within(first, cells)
+    }
+
+    /// The base of the Open reservation of `cells` cells or more that is nearest to `cell`.
+    ///
+    /// # Errors
+    /// As with [`State::nearest`].
+    pub fn nearest(&self, cell: u64, cells: u64) -> Result<Option<u16>, Refusal> {
+        self.state.nearest(cell, cells)
+    }
+
     /// The state, to be looked at.
     pub fn state(&self) -> &State {
         &self.state

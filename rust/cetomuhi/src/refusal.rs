@@ -4,7 +4,8 @@ use std::error::Error;
 use std::fmt;
 
 /// The documents' refusals, by their numbers. A call gets the first that applies: they are judged in
-/// the order of their numbers, but 20 and 21 after 12, and 22 after 13.
+/// the order of their numbers, but 20 and 21 after 12, and 22 after 13. No call gets 25, which is for
+/// questions about a table.
 #[derive(Clone, Copy, Debug, PartialEq, Eq, PartialOrd, Ord, Hash)]
 #[repr(u8)]
 pub enum Refusal {
@@ -58,11 +59,15 @@ pub enum Refusal {
     ClaimLimit = 21,
     /// The page to unmap has a claim.
     Claimed = 22,
+    /// Records of reservations are none or over 64, have a length 0, do not tile from cell 0 or end
+    /// above 4,096. Or of what is asked about them the range is empty or runs past their end, the
+    /// length is 0, or a list has no room for 64.
+    WrongRange = 25,
 }
 
 impl Refusal {
     /// All of them, in the order of their numbers.
-    pub const ALL: [Refusal; 22] = [
+    pub const ALL: [Refusal; 23] = [
         Refusal::IllFormed,
         Refusal::LentLength,
         Refusal::NoCommand,
@@ -85,15 +90,16 @@ impl Refusal {
         Refusal::WrongPrincipal,
         Refusal::ClaimLimit,
         Refusal::Claimed,
+        Refusal::WrongRange,
     ];
 
     /// The refusal of a number, if there is one.
     pub fn of(number: u64) -> Option<Refusal> {
-        let index = usize::try_from(number).ok()?.checked_sub(1)?;
-        Refusal::ALL.get(index).copied()
+        let index = Refusal::ALL.binary_search_by_key(&number, |known| known.number().into());
+        Some(Refusal::ALL[index.ok()?])
     }
 
-    /// Its number, 1 to 22.
+    /// Its number, 1 to 22 or 25.
     pub fn number(self) -> u8 {
         self as u8
     }
@@ -138,6 +144,9 @@ impl Refusal {
                 "too little limit is unspent, or the count is at its most, or at 0"
             }
             Refusal::Claimed => "the page has a claim",
+            Refusal::WrongRange => {
+                "the records are no table, the range or length is wrong, or the list has no room"
+            }
         }
     }
 }

@@ -90,14 +90,16 @@ fn any_state_is_shown() {
 #[test]
 fn refusals_have_numbers_and_words() {
     let words: HashSet<&str> = Refusal::ALL.iter().map(|refusal| refusal.words()).collect();
-    assert_eq!(words.len(), 22);
-    for (refusal, number) in Refusal::ALL.into_iter().zip(1..) {
+    assert_eq!(words.len(), 23);
+    for (refusal, number) in Refusal::ALL.into_iter().zip((1..=22).chain([25])) {
         assert_eq!((refusal.number(), Refusal::of(number.into())), (number, Some(refusal)));
         let printable = |byte: u8| (b' '..=b'~').contains(&byte) && byte != b':';
         assert!(refusal.words().bytes().all(printable) && refusal.to_string() == refusal.words());
         assert_eq!(refusal.ends_a_run(), number <= 3);
     }
-    assert_eq!((Refusal::of(0), Refusal::of(23), Refusal::of(u64::MAX)), (None, None, None));
+    for number in [0, 23, 24, 26, 256, u64::MAX] {
+        assert_eq!(Refusal::of(number), None);
+    }
 }
 
 /// The header has the same words, each a string on a line; a crate without the repository has none.

@@ -1,0 +1,44 @@
+-- Document 02, 2026-07, as a server asks it: of records as numbers, with the answer's numbers put into lent ones. Assumes nothing.
+use Prim.Native.Nat.{ℕ}
+use mathlib.Core.List.{List, [], map}
+use lib.Dec.{eqb}
+use Rattle.capabilities.specs.Lists.{pick}
+use Rattle.table.specs.Numbers.{rowFrom}
+use Rattle.maps.specs.declared.Question.{Question}
+use Rattle.maps.specs.declared.Question.the-variants.{Nearest}
+use Rattle.maps.specs.Questions.{Left, askOf}
+
+-- What a list leaves: the code, its length, and the slice.
+pub record Listed : Type 0 where
+  pub code : ℕ
+  pub count : ℕ
+  pub bases : List ℕ
+
+abbrev pub listed : ℕ → ℕ → List ℕ → Listed
+listed code count bases = record { code = code; count = count; bases = bases }
+
+-- A number that is put if the code is 0: "nothing is then written".
+abbrev pub putIf : ℕ → ℕ → ℕ → ℕ
+putIf code new old = pick (eqb code 0) new old
+
+abbrev pub listedBy : Left → ℕ → Listed
+listedBy o count = listed (o .answer .code) (putIf (o .answer .code) (o .answer .count) count) (o .bases)
+
+-- By the rule, of the records that the numbers read as.
+unfoldable pub listLent : List ℕ → Question → ℕ → List ℕ → Listed
+listLent rows q count bases = listedBy (askOf (map rowFrom rows) q bases) count
+
+-- What the search for the nearest leaves: the code, whether there is one, and its base.
+pub record Sited : Type 0 where
+  pub code : ℕ
+  pub found : ℕ
+  pub base : ℕ
+
+abbrev pub sited : ℕ → ℕ → ℕ → Sited
+sited code found base = record { code = code; found = found; base = base }
+
+abbrev pub sitedBy : Left → ℕ → ℕ → Sited
+sitedBy o found base = sited (o .answer .code) (putIf (o .answer .code) (o .answer .count) found) (putIf (o .answer .code) (o .answer .base) base)
+
+unfoldable pub nearestLent : List ℕ → ℕ → ℕ → ℕ → ℕ → Sited
+nearestLent rows cell cells found base = sitedBy (askOf (map rowFrom rows) (Nearest cell cells) []) found base

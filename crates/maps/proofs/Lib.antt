@@ -1,0 +1,17 @@
+pub mod Ranges
+pub mod Walking
+pub mod Turning
+pub mod Surveying
+pub mod Listing
+pub mod Nearing
+pub mod Asking
+pub mod Reading
+pub mod Lending
+pub mod Handing
+pub mod Calling
+pub mod Meaning
+pub mod Tiled
+pub mod Bases
+pub mod Least
+pub mod OwnTable
+pub mod WrongMaps

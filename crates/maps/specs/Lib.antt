@@ -1,0 +1,7 @@
+pub mod Cells
+pub mod Records
+pub mod Questions
+pub mod Walks
+pub mod Promises
+pub mod Cases
+pub mod WrongMaps
