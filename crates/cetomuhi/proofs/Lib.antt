@@ -4,3 +4,4 @@ pub mod One
 pub mod Ways
 pub mod Laws
 pub mod Putting
+pub mod OwnRows

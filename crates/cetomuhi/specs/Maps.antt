@@ -1,11 +1,18 @@
 -- Document 02, 2026-07, as a server asks it: of records as numbers, with the answer's numbers put into lent ones. Assumes nothing.
 use Prim.Native.Nat.{ℕ}
+use mathlib.Core.Bool.{true, false}
 use mathlib.Core.List.{List, [], map}
+use mathlib.Core.Path.{_≡_}
 use lib.Dec.{eqb}
+use lib.ListN.{take}
 use Rattle.capabilities.specs.Lists.{pick}
 use Rattle.table.specs.Numbers.{rowFrom}
+use Rattle.machine.specs.Formed.{wellFormed}
+use Rattle.arrays.specs.declared.Arrays.{Arrays}
+use Rattle.arrays.specs.Reading.{stateOf}
 use Rattle.maps.specs.declared.Question.{Question}
 use Rattle.maps.specs.declared.Question.the-variants.{Nearest}
+use Rattle.maps.specs.Records.{badRecords}
 use Rattle.maps.specs.Questions.{Left, askOf}
 
 -- What a list leaves: the code, its length, and the slice.
@@ -42,3 +49,7 @@ sitedBy o found base = sited (o .answer .code) (putIf (o .answer .code) (o .answ
 
 unfoldable pub nearestLent : List ℕ → ℕ → ℕ → ℕ → ℕ → Sited
 nearestLent rows cell cells found base = sitedBy (askOf (map rowFrom rows) (Nearest cell cells) []) found base
+
+-- A server's own rows, as many as its table counts, are no cause of 25 if its state is well formed.
+abbrev pub OwnRowsNever : Type 0
+OwnRowsNever = (a : Arrays) → wellFormed (stateOf a) ≡ true → badRecords (map rowFrom (take (a .nums .count) (a .rows))) ≡ false

@@ -1,6 +1,5 @@
 // Ranges of cells, as plain numbers.
 ghost use mathlib.Core.Path.{_≡_};
-ghost use Prim.Native.Nat.{_+_, _-_};
 ghost use Rattle.maps.specs.Cells.{span, shares, within, distance, beyond};
 
 // `length` cells from `base` on share a cell with `cells` from `first` on.

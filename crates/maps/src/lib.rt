@@ -3,7 +3,7 @@
 pub mod cells;
 pub mod numbers;
 pub mod records;
-pub mod steps;
+mod steps;
 
 // Which reservations share a cell with `cells` cells from `first` on; which lie within them; which Open one of at least `cells` cells is
 // nearest to a cell.
