@@ -1,5 +1,5 @@
 -- The rows of a well-formed state's arrays, as many as its table counts, read as its table.
-use mathlib.Core.Path.{_≡_, ap, _∙_}
+use mathlib.Core.Path.{ap, _∙_}
 use Rattle.capabilities.proofs.Lists.{map-take}
 use Rattle.table.specs.Rows.{live}
 use Rattle.table.specs.Numbers.{rowFrom}

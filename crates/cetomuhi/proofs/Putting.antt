@@ -11,7 +11,7 @@ use Rattle.maps.specs.declared.Question.the-variants.{Nearest}
 use Rattle.maps.specs.declared.Answer.{Answer}
 use Rattle.maps.specs.Questions.{Left, left, askOf}
 use Rattle.maps.proofs.Asking.{no-slice}
-use Rattle.cetomuhi.specs.Maps.{Listed, listed, putIf, listedBy, listLent, Sited, sited, sitedBy, nearestLent}
+use Rattle.cetomuhi.specs.Maps.{listed, putIf, listedBy, listLent, Sited, sited, nearestLent}
 
 put-granted : (code new old : ℕ) → code ≡ 0 → new ≡ putIf code new old
 put-granted code new old e = sym (pick-yes (eqb code 0) new old (eq-eqb code 0 e))

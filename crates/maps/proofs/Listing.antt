@@ -1,7 +1,7 @@
 -- What the walk for a list leaves: the bases of those that are asked for, in their order, in front of the rest of the slice; and of a
 -- question that lists none, the slice as it was. One law about the bases listed so far and the room behind them.
 use mathlib.Core.Path.{_≡_, refl, sym, _∙_, ap}
-use Prim.Native.Nat.{ℕ, zero, suc, _+_, _<_, _≤_}
+use Prim.Native.Nat.{ℕ, suc, _+_, _<_, _≤_}
 use native.Mathlib.Omega.{arith}
 use native.Mathlib.Nat.{zero-add, add-zero}
 use mathlib.Core.Bool.{Bool, true, false, _&&_}
@@ -9,7 +9,6 @@ use mathlib.Core.List.{List, [], _∷_, _++_, map, append-assoc}
 use lib.ListN.{length, set, drop, length-append}
 use lib.Dec.{ltb}
 use borrow.Author.Tests.{lt-ltb}
-use Rattle.capabilities.specs.Lists.{pick}
 use Rattle.capabilities.proofs.Choice.{pick-yes, pick-no, both}
 use Rattle.table.specs.declared.Reservation.{Reservation}
 use Rattle.table.specs.Rows.{rangeOf}

@@ -1,6 +1,6 @@
 -- What one step of a walk leaves, by the tests that the code makes.
-use mathlib.Core.Path.{_≡_, refl, sym, _∙_, ap}
-use Prim.Native.Nat.{ℕ, _+_, _<_, _≤_}
+use mathlib.Core.Path.{_≡_, sym, _∙_, ap}
+use Prim.Native.Nat.{ℕ, _+_, _<_}
 use native.Mathlib.Omega.{arith}
 use mathlib.Core.Bool.{Bool, true, false, not, _&&_, _||_}
 use mathlib.Core.List.{List}
@@ -12,12 +12,10 @@ use Rattle.capabilities.proofs.Choice.{pick-yes, pick-no, kept, and-right}
 use Rattle.table.specs.Rows.{isOpen}
 use Rattle.table.specs.declared.ReservationState.{ReservationState}
 use Rattle.maps.specs.declared.Question.{Question}
-use Rattle.maps.specs.declared.Answer.{Answer}
 use Rattle.maps.specs.declared.Seen.{Seen}
-use Rattle.maps.specs.declared.Judged.{Judged}
 use Rattle.maps.specs.Cells.{span, distance}
 use Rattle.maps.specs.Questions.{answer, listed, badQuestion}
-use Rattle.maps.specs.Walks.{seen, goesOn, tileWith, closer, nearWith, judged, judgeWith, Listed, listing, listWith, answerWith}
+use Rattle.maps.specs.Walks.{seen, goesOn, tileWith, closer, nearWith, judged, judgeWith, listing, listWith, answerWith}
 
 -- ---- The tiling
 pub tile-on : (s : Seen) (b l : ℕ) → goesOn s b l ≡ true → seen (goesOn s b l) (s .end + l) (s .found) (s .base) (s .distance) ≡ tileWith s b l

@@ -1,9 +1,9 @@
 -- Document 02, 2026-07: "Over a lent slice of reservation records, in the table's order". Assumes nothing.
 use Prim.Native.Nat.{ℕ, _+_}
-use mathlib.Core.Bool.{Bool, true, false, not, _&&_, _||_}
+use mathlib.Core.Bool.{Bool, true, not, _&&_, _||_}
 use mathlib.Core.List.{List, [], _∷_}
 use lib.ListN.{length}
-use lib.Dec.{leb, ltb, eqb}
+use lib.Dec.{ltb, eqb}
 use Rattle.capabilities.specs.Lists.{pick}
 use Rattle.table.specs.declared.Reservation.{Reservation}
 

@@ -19,7 +19,7 @@ use contract.Monad.{Fun, fact}
 use contract.Running.{givenOf, tables, tablesOf}
 use types.Kit.{Given, Item, Sq, runs, atRet, ‵, raw, _⊛_, ⋆, some, later, _$_, _∵_, !, qed, by, move, keep, drop, use0, use1, use2, use3, split, split3, join, pick, rewrite, fsplit, fjoin, feqL, suffices, frame, await, done}
 use types.Part.{agg, whole, sub, look-in}
-use types.Run.{look, init, forget, stop, hop, fld, from, load, of-opd, addr, and-then, no-more, assigns, land, first, returns, enter, alloc1, alloc0, params1, pass1, pass0, free1, free0}
+use types.Run.{look, init, forget, stop, hop, fld, from, load, of-opd, addr, and-then, no-more, assigns, land, returns, enter, alloc1, alloc0, params1, pass1, pass0, free1, free0}
 use types.Tokens.{lft-new, lft-end}
 use sound.WpLaws.{fmOf, WpFn-mono}
 use denote.RattleType.{owns}
@@ -53,7 +53,6 @@ use Rattle.maps.proofs.Question as Q
 use Rattle.maps.proofs.Question.Laws as Q′
 use Rattle.maps.proofs.Answer as B
 use Rattle.maps.proofs.Answer.Laws as B′
-use Rattle.maps.proofs.Asking.{asked}
 use Rattle.maps.proofs.Reading.{read-asked, few-read}
 use Rattle.maps.proofs.Lending.{Records, records, Back, First, lends-first, array-back}
 use denote.Array.{array-typed}
