@@ -1,5 +1,7 @@
 pub mod Choice
 pub mod Lists
+pub mod Members
+pub mod Flatten
 pub mod Refusals
 pub mod Capabilities
 pub mod Codes

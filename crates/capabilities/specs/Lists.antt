@@ -1,7 +1,9 @@
 -- Words for lists of entries, each entry with its number. Assumes nothing.
 use Prim.Native.Nat.{ℕ, suc}
 use mathlib.Core.Bool.{Bool, true, false, _&&_}
+use mathlib.Core.Logic.{_⊎_}
 use mathlib.Core.List.{List, [], _∷_}
+use mathlib.Core.Path.{_≡_}
 use lib.Dec.{eqb}
 
 -- The first if the test holds, or else the second.
@@ -28,6 +30,21 @@ all P (x ∷ l) = P x && all P l
 unfoldable pub Every : {A : Type 0} → (A → Type 0) → List A → Type 0
 Every P [] = Unit {0}
 Every P (x ∷ l) = P x × Every P l
+
+-- Something stands in a list.
+abbrev pub In : {A : Type 0} → A → List A → Type 0
+In x [] = ⊥
+In x (y ∷ l) = (x ≡ y) ⊎ In x l
+
+-- Each entry stands so to every one after it.
+abbrev pub Ordered : {A : Type 0} → (A → A → Type 0) → List A → Type 0
+Ordered R [] = Unit {0}
+Ordered R (x ∷ l) = ((y : _) → In y l → R x y) × Ordered R l
+
+-- Those that pass a test, in their order.
+unfoldable pub filter : {A : Type 0} → (A → Bool) → List A → List A
+filter P [] = []
+filter P (x ∷ l) = pick (P x) (x ∷ filter P l) (filter P l)
 
 -- The same numbers in the same order.
 unfoldable pub same : List ℕ → List ℕ → Bool

@@ -10,7 +10,7 @@ use lib.ListN.{length, take, drop}
 use lib.Seq.{take-length}
 use lib.Dec.{eqb, leb, ltb}
 use borrow.Author.Tests.{ltb-false, leb-true, le-ltb, lt-ltb, leb-false}
-use Rattle.capabilities.specs.Lists.{pick}
+use Rattle.capabilities.specs.Lists.{pick, filter}
 use Rattle.capabilities.proofs.Choice.{pick-yes, pick-no, or-false}
 use Rattle.table.specs.declared.Reservation.{Reservation}
 use Rattle.maps.specs.declared.Question.{Question}
@@ -19,7 +19,7 @@ use Rattle.maps.specs.declared.Answer.{Answer}
 use Rattle.maps.specs.declared.Seen.{Seen}
 use Rattle.maps.specs.declared.Judged.{Judged}
 use Rattle.maps.specs.Cells.{span, beyond}
-use Rattle.maps.specs.Records.{filter, tileFrom, cellsOf, badRecords}
+use Rattle.maps.specs.Records.{tileFrom, cellsOf, badRecords}
 use Rattle.maps.specs.Questions.{basesOf, candidate, answer, found, badList, badQuestion, Left, left, put, granted, refused, askOf}
 use Rattle.maps.specs.Walks.{nothing, tileWith, seenWith, seenOver, judged, judgeWith, Listed, listing, listOver, answerWith}
 use Rattle.maps.proofs.Surveying.{soundFrom, goes-on, ends-at}

@@ -9,17 +9,16 @@ use mathlib.Core.Path.{_≡_, refl, sym, ap, subst}
 use lib.Dec.{eqb, ltb}
 use lib.ListN.{length}
 use borrow.Author.Tests.{eqb-true, eqb-false, ltb-true, ltb-false}
-use Rattle.capabilities.specs.Lists.{pick}
+use Rattle.capabilities.specs.Lists.{pick, In, filter}
+use Rattle.capabilities.proofs.Members.{in-filter, from-filter}
 use Rattle.capabilities.proofs.Choice.{is-false}
 use Rattle.table.specs.declared.Reservation.{Reservation}
 use Rattle.table.specs.Rows.{rangeOf}
 use Rattle.maps.specs.declared.Answer.{Answer}
 use Rattle.maps.specs.declared.Question.the-variants.{Nearest}
 use Rattle.maps.specs.Cells.{distance}
-use Rattle.maps.specs.Records.{filter}
 use Rattle.maps.specs.Questions.{candidate, nearer, nearest, answer, found, left, granted, refused, askOf}
-use Rattle.maps.specs.Promises.{In, NoFarther, NearestIsLeast, NoneOnlyIfNone}
-use Rattle.maps.proofs.Bases.{in-filter, from-filter}
+use Rattle.maps.specs.Promises.{NoFarther, NearestIsLeast, NoneOnlyIfNone}
 
 -- ---- The order of distances, and of bases at one distance
 abbrev Low : ℕ → ℕ → ℕ → ℕ → Type 0

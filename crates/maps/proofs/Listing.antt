@@ -9,12 +9,12 @@ use mathlib.Core.List.{List, [], _∷_, _++_, map, append-assoc}
 use lib.ListN.{length, set, drop, length-append}
 use lib.Dec.{ltb}
 use borrow.Author.Tests.{lt-ltb}
+use Rattle.capabilities.specs.Lists.{filter}
 use Rattle.capabilities.proofs.Choice.{pick-yes, pick-no, both}
 use Rattle.table.specs.declared.Reservation.{Reservation}
 use Rattle.table.specs.Rows.{rangeOf}
 use Rattle.maps.specs.declared.Question.{Question}
 use Rattle.maps.specs.declared.Question.the-variants.{Nearest}
-use Rattle.maps.specs.Records.{filter}
 use Rattle.maps.specs.Questions.{listed, basesOf}
 use Rattle.maps.specs.Walks.{Listed, listing, listWith, listOver}
 

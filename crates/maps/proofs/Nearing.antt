@@ -5,7 +5,7 @@ use Prim.Native.Nat.{ℕ}
 use mathlib.Core.Bool.{Bool, true, false, not, _&&_, _||_}
 use mathlib.Core.List.{List, [], _∷_}
 use lib.Dec.{eqb, ltb}
-use Rattle.capabilities.specs.Lists.{pick}
+use Rattle.capabilities.specs.Lists.{pick, filter}
 use Rattle.capabilities.proofs.Choice.{pick-yes, pick-no}
 use Rattle.table.specs.declared.Reservation.{Reservation}
 use Rattle.table.specs.Rows.{rangeOf}
@@ -14,7 +14,6 @@ use Rattle.maps.specs.declared.Question.the-variants.{Nearest}
 use Rattle.maps.specs.declared.Answer.{Answer}
 use Rattle.maps.specs.declared.Seen.{Seen}
 use Rattle.maps.specs.Cells.{distance}
-use Rattle.maps.specs.Records.{filter}
 use Rattle.maps.specs.Questions.{candidate, nearer, nearest, answer, found}
 use Rattle.maps.specs.Walks.{seen, tileWith, closer, better, nearWith, seenWith, seenOver}
 

@@ -7,10 +7,10 @@ use mathlib.Core.List.{List, [], _∷_}
 use mathlib.Core.Path.{_≡_, sym, _∙_, ap}
 use lib.Dec.{eqb, ltb}
 use borrow.Author.Tests.{eqb-true, ltb-true}
+use Rattle.capabilities.specs.Lists.{In}
 use Rattle.capabilities.proofs.Choice.{and-left, and-right}
 use Rattle.table.specs.declared.Reservation.{Reservation}
 use Rattle.maps.specs.Records.{tileFrom}
-use Rattle.maps.specs.Promises.{In}
 
 -- What a tiling says of its first record.
 pub record Begins (from : ℕ) (r : Reservation) (l : List Reservation) : Type 0 where

@@ -5,6 +5,7 @@ use mathlib.Core.Bool.{true, false}
 use mathlib.Core.Logic.{_⊎_}
 use mathlib.Core.List.{List, [], _∷_}
 use Rattle.capabilities.specs.declared.Range.{Range}
+use Rattle.capabilities.specs.Lists.{In, Ordered}
 use Rattle.capabilities.specs.Range.{inside}
 use Rattle.table.specs.declared.Reservation.{Reservation}
 use Rattle.table.specs.Rows.{rangeOf, live}
@@ -15,11 +16,6 @@ use Rattle.maps.specs.declared.Question.the-variants.{Nearest}
 use Rattle.maps.specs.Cells.{shares, within, distance}
 use Rattle.maps.specs.Records.{tileFrom, badRecords}
 use Rattle.maps.specs.Questions.{listed, basesOf, candidate, answer, askOf}
-
--- Something stands in a list.
-abbrev pub In : {A : Type 0} → A → List A → Type 0
-In x [] = ⊥
-In x (y ∷ l) = (x ≡ y) ⊎ In x l
 
 -- ---- What the tests say of cells
 
@@ -47,14 +43,9 @@ DistanceMeans = (c : ℕ) (p : Range) → 0 < p .length
 
 -- ---- The lists
 
--- Each is above the one before it.
-abbrev pub Rising : List ℕ → Type 0
-Rising [] = Unit {0}
-Rising (b ∷ l) = ((c : ℕ) → In c l → b < c) × Rising l
-
 -- "In rising base", of records that tile: no base stands there twice.
 abbrev pub ListRises : Type 0
-ListRises = (q : Question) (l : List Reservation) → tileFrom 0 l ≡ true → Rising (basesOf q l)
+ListRises = (q : Question) (l : List Reservation) → tileFrom 0 l ≡ true → Ordered _<_ (basesOf q l)
 
 -- Complete: a record that passes has its base in the list.
 abbrev pub ListComplete : Type 0

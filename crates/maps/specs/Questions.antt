@@ -4,7 +4,7 @@ use mathlib.Core.Bool.{Bool, false, _&&_, _||_}
 use mathlib.Core.List.{List, [], _∷_, _++_, map}
 use lib.ListN.{length, drop}
 use lib.Dec.{leb, ltb, eqb}
-use Rattle.capabilities.specs.Lists.{pick}
+use Rattle.capabilities.specs.Lists.{pick, filter}
 use Rattle.capabilities.specs.declared.Range.{Range}
 use Rattle.table.specs.Rows.{isOpen, rangeOf}
 use Rattle.table.specs.declared.Reservation.{Reservation}
@@ -12,7 +12,7 @@ use Rattle.maps.specs.declared.Question.{Question}
 use Rattle.maps.specs.declared.Question.the-variants.{Sharing, Within, Nearest}
 use Rattle.maps.specs.declared.Answer.{Answer}
 use Rattle.maps.specs.Cells.{span, shares, within, distance, beyond}
-use Rattle.maps.specs.Records.{filter, cellsOf, badRecords}
+use Rattle.maps.specs.Records.{cellsOf, badRecords}
 
 -- "List those sharing cells with a cell range and those within it". Nearest lists none.
 unfoldable pub listed : Question → Range → Bool

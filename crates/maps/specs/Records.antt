@@ -7,11 +7,6 @@ use lib.Dec.{ltb, eqb}
 use Rattle.capabilities.specs.Lists.{pick}
 use Rattle.table.specs.declared.Reservation.{Reservation}
 
--- Those that pass a test, in their order.
-unfoldable pub filter : {A : Type 0} → (A → Bool) → List A → List A
-filter P [] = []
-filter P (x ∷ l) = pick (P x) (x ∷ filter P l) (filter P l)
-
 -- Each begins where the one before it ends, and has a cell.
 unfoldable pub tileFrom : ℕ → List Reservation → Bool
 tileFrom from [] = true

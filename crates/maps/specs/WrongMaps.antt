@@ -5,7 +5,7 @@ use mathlib.Core.List.{List, [], _∷_, _++_, map}
 use mathlib.Core.Path.{_≡_}
 use lib.ListN.{length, drop, replicate}
 use lib.Dec.{eqb, leb, ltb}
-use Rattle.capabilities.specs.Lists.{pick, Every}
+use Rattle.capabilities.specs.Lists.{pick, Every, filter}
 use Rattle.capabilities.specs.declared.Range.{Range}
 use Rattle.table.specs.declared.Reservation.{Reservation}
 use Rattle.table.specs.Rows.{isOpen, isTaken, rangeOf}
@@ -13,7 +13,7 @@ use Rattle.maps.specs.declared.Answer.{Answer}
 use Rattle.maps.specs.declared.Question.{Question}
 use Rattle.maps.specs.declared.Question.the-variants.{Sharing, Within, Nearest}
 use Rattle.maps.specs.Cells.{span, shares, within, distance, beyond}
-use Rattle.maps.specs.Records.{filter, tileFrom, cellsOf, badRecords}
+use Rattle.maps.specs.Records.{tileFrom, cellsOf, badRecords}
 use Rattle.maps.specs.Questions.{listed, basesOf, candidate, nearer, nearest, answer, badQuestion, Left, left, put, askOf}
 use Rattle.maps.specs.Promises.{apart}
 use Rattle.maps.specs.Cases.{Program, openAt, alike, mixed, slice, Case, refuses, lists, finds, meets, meetsBy}
