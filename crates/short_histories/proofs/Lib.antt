@@ -1,0 +1,10 @@
+pub mod Choosing
+pub mod Listing
+pub mod Order
+pub mod Continuing
+pub mod Numbered
+pub mod Putting
+pub mod Writing
+pub mod Extending
+pub mod Computed
+pub mod Walking

@@ -1,0 +1,82 @@
+-- `short_histories::text::put_line` meets its contract. After i turns the digits of the first i bytes stand there.
+use Prim.Native.Nat.{_-_}
+use native.Mathlib.Omega.{arith}
+use borrow.Author.Needs.{needs}
+use mathlib.Core.Path.{_∙_}
+use lib.ListN.{length, length-set}
+use Rattle.short_histories.proofs.Putting.{Spelt, spelt-none, spelt-two, spelt-room, line-room, spelt-line}
+use Rattle.short_histories.proofs.text.put_line.Statement.{statement}
+use Rattle.short_histories.proofs.text.put_line.Tie as tie
+
+abbrev Inv-loop : tie.InvT-loop
+Inv-loop bytes at out₀ end₀ i₀ out end i = Spelt bytes at out₀ i end out
+
+abbrev μ-loop : tie.MeasureT-loop
+μ-loop bytes at out₀ end₀ i₀ out end i = length bytes - i
+
+loop-holds : tie.Need-loop-holds Inv-loop μ-loop
+loop-holds c = spelt-none (c .before .before .args .bytes .now) (c .before .before .args .at) (c .before .before .args .out .now)
+
+shared-slice-read-byte : tie.Need-shared-slice-read-byte Inv-loop μ-loop
+shared-slice-read-byte c = c .before .loop-test .taken
+
+high-requires : tie.Need-high-requires Inv-loop μ-loop
+high-requires c κs = search needs
+
+slice-write-out : tie.Need-slice-write-out Inv-loop μ-loop
+slice-write-out c = let room = spelt-room (c .before .before .before .before .before .before .args .bytes .now) (c .before .before .before .before .before .before .args .at) (c .before .before .before .before .before .before .args .out .now) (c .before .before .before .before .before .before .pre) (c .before .before .before .loop .i) (c .before .before .before .loop .end) (c .before .before .before .loop .out) (c .before .before .before .loop .inv) (c .before .before .loop-test .taken) in omega (arith, room)
+
+low-requires : tie.Need-low-requires Inv-loop μ-loop
+low-requires c κs = search needs
+
+add-out : tie.Need-add-out Inv-loop μ-loop
+add-out c = let room = spelt-room (c .before .before .before .before .before .before .before .args .bytes .now) (c .before .before .before .before .before .before .before .args .at) (c .before .before .before .before .before .before .before .args .out .now) (c .before .before .before .before .before .before .before .pre) (c .before .before .before .before .loop .i) (c .before .before .before .before .loop .end) (c .before .before .before .before .loop .out) (c .before .before .before .before .loop .inv) (c .before .before .before .loop-test .taken) in omega (arith, room)
+
+slice-write-out-2 : tie.Need-slice-write-out-2 Inv-loop μ-loop
+slice-write-out-2 c = let room = spelt-room (c .before .before .before .before .before .before .before .args .bytes .now) (c .before .before .before .before .before .before .before .args .at) (c .before .before .before .before .before .before .before .args .out .now) (c .before .before .before .before .before .before .before .pre) (c .before .before .before .before .loop .i) (c .before .before .before .before .loop .end) (c .before .before .before .before .loop .out) (c .before .before .before .before .loop .inv) (c .before .before .before .loop-test .taken) in rw length-set (omega (arith, room))
+
+add-end : tie.Need-add-end Inv-loop μ-loop
+add-end c = let room = spelt-room (c .before .before .before .before .before .before .before .args .bytes .now) (c .before .before .before .before .before .before .before .args .at) (c .before .before .before .before .before .before .before .args .out .now) (c .before .before .before .before .before .before .before .pre) (c .before .before .before .before .loop .i) (c .before .before .before .before .loop .end) (c .before .before .before .before .loop .out) (c .before .before .before .before .loop .inv) (c .before .before .before .loop-test .taken) in omega (arith, room)
+
+add-i : tie.Need-add-i Inv-loop μ-loop
+add-i c = omega (arith, c .before .before .before .loop-test .taken)
+
+loop-less : tie.Need-loop-less Inv-loop μ-loop
+loop-less c = omega (arith, c .before .before .before .loop-test .taken)
+
+loop-again : tie.Need-loop-again Inv-loop μ-loop
+loop-again c = spelt-two (c .before .before .before .before .before .before .before .args .bytes .now) (c .before .before .before .before .before .before .before .args .at) (c .before .before .before .before .before .before .before .args .out .now) (c .before .before .before .before .before .before .before .pre) (c .before .before .before .before .loop .i) (c .before .before .before .before .loop .end) (c .before .before .before .before .loop .out) (c .before .before .before .before .loop .inv) (c .before .high .result) (c .low .result) (c .before .before .before .loop-test .taken) (c .before .high .ensures) (c .low .ensures)
+
+slice-write-out-3 : tie.Need-slice-write-out-3 Inv-loop μ-loop
+slice-write-out-3 c = let room = line-room (c .before .before .before .before .args .bytes .now) (c .before .before .before .before .args .at) (c .before .before .before .before .args .out .now) (c .before .before .before .before .pre) (c .before .loop .i) (c .before .loop .end) (c .before .loop .out) (c .before .loop .inv) in omega (arith, room)
+
+add-result : tie.Need-add-result Inv-loop μ-loop
+add-result c = let room = line-room (c .before .before .before .before .args .bytes .now) (c .before .before .before .before .args .at) (c .before .before .before .before .args .out .now) (c .before .before .before .before .pre) (c .before .loop .i) (c .before .loop .end) (c .before .loop .out) (c .before .loop .inv) in omega (arith, room)
+
+same-length : tie.Need-same-length Inv-loop μ-loop
+same-length c = length-set (c .before .loop .out) (c .before .loop .end) 10 ∙ c .before .loop .inv .laid .size
+
+returns : tie.Need-returns Inv-loop μ-loop
+returns c = spelt-line (c .before .before .before .before .args .bytes .now) (c .before .before .before .before .args .at) (c .before .before .before .before .args .out .now) (c .before .before .before .before .pre) (c .before .loop .i) (c .before .loop .end) (c .before .loop .out) (c .before .loop .inv) (c .loop-test .left)
+
+pub put-line-spec : {M : Type 1} → statement M
+put-line-spec =
+    tie.close
+    (tie.spec
+    Inv-loop
+    μ-loop
+    loop-holds
+    shared-slice-read-byte
+    high-requires
+    slice-write-out
+    low-requires
+    add-out
+    slice-write-out-2
+    add-end
+    add-i
+    loop-less
+    loop-again
+    slice-write-out-3
+    add-result
+    same-length
+    returns)

@@ -1,0 +1,324 @@
+-- `short_histories::walk::extend` meets its contract. It calls itself with one command less to come, so it ends. After k turns the lines
+-- that go on from the first k listed commands stand there.
+use native.Mathlib.Omega.{arith}
+use mathlib.Core.Path.{_≡_, sym, subst}
+use mathlib.Core.Logic.{⊎-elim}
+use mathlib.Core.List.{List}
+use lib.ListN.{length, take}
+use lib.Seq.{length-take-le}
+use Rattle.calls.specs.Commands.{bytesOf}
+use Rattle.calls.specs.declared.Call.{Call}
+use Rattle.calls.specs.declared.Call.the-variants.{Collect}
+use Rattle.lines.specs.Laid.{Laid}
+use Rattle.lines.proofs.Laying.{laid-none}
+use Rattle.short_histories.specs.Listed.{listed}
+use Rattle.short_histories.proofs.Numbered.{listed-length}
+use Rattle.short_histories.proofs.Extending.{listed-short, partOf, lines-none, lines-parts, part-granted, part-refused}
+use Rattle.short_histories.proofs.Putting.{Parts, parts-none, parts-next, parts-room, parts-all, length-under}
+use Prim.Native.Nat.{ℕ, _+_, _-_, _<_, _≤_}
+use borrow.Fn.Kinds.{In}
+use borrow.Fn.PlainCycle.{Measures, is, falls, and}
+use Rattle.short_histories.proofs.walk.extend.Reads as extend
+use Rattle.short_histories.proofs.walk.extend.Kinds as extend-kinds
+use Rattle.short_histories.proofs.walk.+extend.Lts-extend as extend-lts
+use Rattle.short_histories.proofs.commands.command.Reads as command-reads
+use Rattle.short_histories.proofs.text.put_line.Reads as put-line-reads
+use Rattle.short_histories.proofs.walk.attempt.Reads as attempt-reads
+use Rattle.short_histories.proofs.walk.longer.Reads as longer-reads
+use Rattle.short_histories.proofs.walk.+extend.{statement}
+use Rattle.short_histories.proofs.walk.+extend.Tie.{close}
+
+abbrev μ-extend : Measures 1 extend-kinds.ps ℕ
+μ-extend κs a = a .1 .1 .0
+
+abbrev extend-at : ℕ → In 1 extend-kinds.ps
+extend-at t = and 1 extend-kinds.ps (is 1 extend-kinds.ps μ-extend t) extend.Pre
+
+abbrev extend-below : ℕ → In 1 extend-kinds.ps
+extend-below t = and 1 extend-kinds.ps (falls 1 extend-kinds.ps _<_ μ-extend t) extend.Pre
+
+abbrev extend-Inv-loop : extend-lts.InvT-loop
+extend-Inv-loop machine history more at out₀ end₀ k₀ out end k =
+    Parts (partOf more (take (history .len) (history .bytes)) (machine .state .arrays) (machine .cells) (machine .tags)) listed at out₀ k end out
+
+abbrev extend-μ-loop : extend-lts.MeasureT-loop
+extend-μ-loop machine history more at out₀ end₀ k₀ out end k = 40 - k
+
+extend-array-share-prefix-bytes : (t : ℕ) → extend-lts.Need-array-share-prefix-bytes (
+  put-line-reads.Asked,
+  put-line-reads.Learnt,
+  command-reads.Asked,
+  command-reads.Learnt,
+  attempt-reads.Asked,
+  attempt-reads.Learnt,
+  longer-reads.Asked,
+  longer-reads.Learnt,
+  extend-below t,
+  extend.Post,
+) (extend-at t) extend.Post extend-Inv-loop extend-μ-loop
+extend-array-share-prefix-bytes t c = let g = c .before .before .before .good .1 .0 in let e : length (c .before .before .before .args .history .bytes) ≡ 18 = search (length-under, g) in omega (arith, e, c .before .before .before .pre .1 .0)
+
+extend-slice-aggregate-put-line : (t : ℕ) → extend-lts.Need-slice-aggregate-put-line (
+  put-line-reads.Asked,
+  put-line-reads.Learnt,
+  command-reads.Asked,
+  command-reads.Learnt,
+  attempt-reads.Asked,
+  attempt-reads.Learnt,
+  longer-reads.Asked,
+  longer-reads.Learnt,
+  extend-below t,
+  extend.Post,
+) (extend-at t) extend.Post extend-Inv-loop extend-μ-loop
+extend-slice-aggregate-put-line t c = let g = c .before .before .before .before .good .1 .0 in let e : length (c .before .before .before .before .args .history .bytes) ≡ 18 = search (length-under, g) in sym (length-take-le (c .before .before .before .before .args .history .len) (c .before .before .before .before .args .history .bytes) (omega (arith, e, c .before .before .before .before .pre .1 .0)))
+
+extend-put-line-requires : (t : ℕ) → extend-lts.Need-put-line-requires (
+  put-line-reads.Asked,
+  put-line-reads.Learnt,
+  command-reads.Asked,
+  command-reads.Learnt,
+  attempt-reads.Asked,
+  attempt-reads.Learnt,
+  longer-reads.Asked,
+  longer-reads.Learnt,
+  extend-below t,
+  extend.Post,
+) (extend-at t) extend.Post extend-Inv-loop extend-μ-loop
+extend-put-line-requires t c κs = subst (λ (l : List ℕ). c .before .before .before .before .before .args .at + length l ≤ length (c .before .before .before .before .before .args .out .now)) (lines-none (c .before .before .before .before .before .args .more) (take (c .before .before .before .before .before .args .history .len) (c .before .before .before .before .before .args .history .bytes)) (c .before .before .before .before .before .args .machine .state .arrays) (c .before .before .before .before .before .args .machine .cells) (c .before .before .before .before .before .args .machine .tags) (c .before .before .before .if1 .taken)) (c .before .before .before .before .before .pre .1 .1)
+
+extend-same-length : (t : ℕ) → extend-lts.Need-same-length (
+  put-line-reads.Asked,
+  put-line-reads.Learnt,
+  command-reads.Asked,
+  command-reads.Learnt,
+  attempt-reads.Asked,
+  attempt-reads.Learnt,
+  longer-reads.Asked,
+  longer-reads.Learnt,
+  extend-below t,
+  extend.Post,
+) (extend-at t) extend.Post extend-Inv-loop extend-μ-loop
+extend-same-length t c = c .before .before .put-line .ensures .size
+
+extend-returns : (t : ℕ) → extend-lts.Need-returns (
+  put-line-reads.Asked,
+  put-line-reads.Learnt,
+  command-reads.Asked,
+  command-reads.Learnt,
+  attempt-reads.Asked,
+  attempt-reads.Learnt,
+  longer-reads.Asked,
+  longer-reads.Learnt,
+  extend-below t,
+  extend.Post,
+) (extend-at t) extend.Post extend-Inv-loop extend-μ-loop
+extend-returns t c = subst (λ (l : List ℕ). Laid l (c .before .before .before .before .before .before .before .before .args .at) (c .before .before .before .before .before .before .before .before .args .out .now) (c .before .before .put-line .result) (c .before .before .put-line .last .1 .1 .0)) (sym (lines-none (c .before .before .before .before .before .before .before .before .args .more) (take (c .before .before .before .before .before .before .before .before .args .history .len) (c .before .before .before .before .before .before .before .before .args .history .bytes)) (c .before .before .before .before .before .before .before .before .args .machine .state .arrays) (c .before .before .before .before .before .before .before .before .args .machine .cells) (c .before .before .before .before .before .before .before .before .args .machine .tags) (c .before .before .before .before .before .before .if1 .taken))) (c .before .before .put-line .ensures)
+
+extend-loop-holds : (t : ℕ) → extend-lts.Need-loop-holds (
+  put-line-reads.Asked,
+  put-line-reads.Learnt,
+  command-reads.Asked,
+  command-reads.Learnt,
+  attempt-reads.Asked,
+  attempt-reads.Learnt,
+  longer-reads.Asked,
+  longer-reads.Learnt,
+  extend-below t,
+  extend.Post,
+) (extend-at t) extend.Post extend-Inv-loop extend-μ-loop
+extend-loop-holds t c = parts-none (partOf (c .before .before .args .more) (take (c .before .before .args .history .len) (c .before .before .args .history .bytes)) (c .before .before .args .machine .state .arrays) (c .before .before .args .machine .cells) (c .before .before .args .machine .tags)) listed (Collect 0) (c .before .before .args .at) (c .before .before .args .out .now)
+
+extend-command-requires : (t : ℕ) → extend-lts.Need-command-requires (
+  put-line-reads.Asked,
+  put-line-reads.Learnt,
+  command-reads.Asked,
+  command-reads.Learnt,
+  attempt-reads.Asked,
+  attempt-reads.Learnt,
+  longer-reads.Asked,
+  longer-reads.Learnt,
+  extend-below t,
+  extend.Post,
+) (extend-at t) extend.Post extend-Inv-loop extend-μ-loop
+extend-command-requires t c κs = c .loop-test .taken
+
+extend-attempt-requires : (t : ℕ) → extend-lts.Need-attempt-requires (
+  put-line-reads.Asked,
+  put-line-reads.Learnt,
+  command-reads.Asked,
+  command-reads.Learnt,
+  attempt-reads.Asked,
+  attempt-reads.Learnt,
+  longer-reads.Asked,
+  longer-reads.Learnt,
+  extend-below t,
+  extend.Post,
+) (extend-at t) extend.Post extend-Inv-loop extend-μ-loop
+extend-attempt-requires t c κs = tt
+
+extend-longer-requires : (t : ℕ) → extend-lts.Need-longer-requires (
+  put-line-reads.Asked,
+  put-line-reads.Learnt,
+  command-reads.Asked,
+  command-reads.Learnt,
+  attempt-reads.Asked,
+  attempt-reads.Learnt,
+  longer-reads.Asked,
+  longer-reads.Learnt,
+  extend-below t,
+  extend.Post,
+) (extend-at t) extend.Post extend-Inv-loop extend-μ-loop
+extend-longer-requires t c κs = let s : length (bytesOf (c .before .before .before .command .result)) ≤ 6 = subst (λ (x : Call). length (bytesOf x) ≤ 6) (sym (c .before .before .before .command .ensures)) (listed-short (c .before .before .before .before .before .loop .k) (c .before .before .before .before .loop-test .taken)) in omega (arith, s, c .before .before .before .before .before .before .before .before .pre .1 .0, c .before .before .before .before .before .before .if1 .left)
+
+extend-sub-extend : (t : ℕ) → extend-lts.Need-sub-extend (
+  put-line-reads.Asked,
+  put-line-reads.Learnt,
+  command-reads.Asked,
+  command-reads.Learnt,
+  attempt-reads.Asked,
+  attempt-reads.Learnt,
+  longer-reads.Asked,
+  longer-reads.Learnt,
+  extend-below t,
+  extend.Post,
+) (extend-at t) extend.Post extend-Inv-loop extend-μ-loop
+extend-sub-extend t c = omega (arith, c .before .before .before .before .before .before .before .if1 .left)
+
+extend-extend-requires : (t : ℕ) → extend-lts.Need-extend-requires (
+  put-line-reads.Asked,
+  put-line-reads.Learnt,
+  command-reads.Asked,
+  command-reads.Learnt,
+  attempt-reads.Asked,
+  attempt-reads.Learnt,
+  longer-reads.Asked,
+  longer-reads.Learnt,
+  extend-below t,
+  extend.Post,
+) (extend-at t) extend.Post extend-Inv-loop extend-μ-loop
+extend-extend-requires t c κs =
+    let s : length (bytesOf (c .before .before .before .before .before .command .result)) ≤ 6 = subst (λ (x : Call). length (bytesOf x) ≤ 6) (sym (c .before .before .before .before .before .command .ensures)) (listed-short (c .before .before .before .before .before .before .before .loop .k) (c .before .before .before .before .before .before .loop-test .taken)) in (
+      subst (λ (j : ℕ). c .before .before .before .before .before .before .before .before .before .before .args .more - 1 < j) (c .before .before .before .before .before .before .before .before .before .before .pre .0) (omega (arith, c .before .before .before .before .before .before .before .before .if1 .left)),
+      (
+        omega (arith, s, c .before .longer .ensures .1, c .before .before .before .before .before .before .before .before .before .before .pre .1 .0, c .before .before .before .before .before .before .before .before .if1 .left),
+        subst (λ (l : List ℕ). c .before .before .before .before .before .before .before .loop .end + length l ≤ length (c .before .before .before .before .before .before .before .loop .out))
+            (sym (part-granted (c .before .before .before .before .before .before .before .before .before .before .args .more) (take (c .before .before .before .before .before .before .before .before .before .before .args .history .len) (c .before .before .before .before .before .before .before .before .before .before .args .history .bytes)) (c .before .before .before .before .before .before .before .before .before .before .args .machine .state .arrays) (c .before .before .before .before .before .before .before .before .before .before .args .machine .cells) (c .before .before .before .before .before .before .before .before .before .before .args .machine .tags) (c .before .before .before .before .before .before .before .loop .k) (c .before .before .before .before .before .command .result) (c .before .before .before .before .before .command .ensures) (c .before .before .before .before .attempt .result .granted) (c .before .before .before .before .attempt .result .machine .state .arrays) (c .before .before .before .before .attempt .result .machine .cells) (c .before .before .before .before .attempt .result .machine .tags) (c .before .before .before .before .attempt .ensures) (c .before .before .before .if2 .taken) (take (c .before .longer .result .len) (c .before .longer .result .bytes)) (c .before .longer .ensures .0)))
+            (parts-room (partOf (c .before .before .before .before .before .before .before .before .before .before .args .more) (take (c .before .before .before .before .before .before .before .before .before .before .args .history .len) (c .before .before .before .before .before .before .before .before .before .before .args .history .bytes)) (c .before .before .before .before .before .before .before .before .before .before .args .machine .state .arrays) (c .before .before .before .before .before .before .before .before .before .before .args .machine .cells) (c .before .before .before .before .before .before .before .before .before .before .args .machine .tags)) listed (Collect 0) (c .before .before .before .before .before .before .before .before .before .before .args .at) (c .before .before .before .before .before .before .before .before .before .before .args .out .now) (c .before .before .before .before .before .before .before .loop .k) (c .before .before .before .before .before .before .before .loop .end) (c .before .before .before .before .before .before .before .loop .out) (c .before .before .before .before .before .before .before .loop .inv) (rw listed-length (c .before .before .before .before .before .before .loop-test .taken)) (subst (λ (l : List ℕ). c .before .before .before .before .before .before .before .before .before .before .args .at + length l ≤ length (c .before .before .before .before .before .before .before .before .before .before .args .out .now)) (lines-parts (c .before .before .before .before .before .before .before .before .before .before .args .more) (take (c .before .before .before .before .before .before .before .before .before .before .args .history .len) (c .before .before .before .before .before .before .before .before .before .before .args .history .bytes)) (c .before .before .before .before .before .before .before .before .before .before .args .machine .state .arrays) (c .before .before .before .before .before .before .before .before .before .before .args .machine .cells) (c .before .before .before .before .before .before .before .before .before .before .args .machine .tags) (c .before .before .before .before .before .before .before .before .if1 .left)) (c .before .before .before .before .before .before .before .before .before .before .pre .1 .1))),
+      ),
+    )
+
+extend-add-k : (t : ℕ) → extend-lts.Need-add-k (
+  put-line-reads.Asked,
+  put-line-reads.Learnt,
+  command-reads.Asked,
+  command-reads.Learnt,
+  attempt-reads.Asked,
+  attempt-reads.Learnt,
+  longer-reads.Asked,
+  longer-reads.Learnt,
+  extend-below t,
+  extend.Post,
+) (extend-at t) extend.Post extend-Inv-loop extend-μ-loop
+extend-add-k t c = omega (arith, c .before .before .before .loop-test .taken)
+
+extend-loop-less : (t : ℕ) → extend-lts.Need-loop-less (
+  put-line-reads.Asked,
+  put-line-reads.Learnt,
+  command-reads.Asked,
+  command-reads.Learnt,
+  attempt-reads.Asked,
+  attempt-reads.Learnt,
+  longer-reads.Asked,
+  longer-reads.Learnt,
+  extend-below t,
+  extend.Post,
+) (extend-at t) extend.Post extend-Inv-loop extend-μ-loop
+extend-loop-less t c = omega (arith, c .before .before .before .loop-test .taken)
+
+extend-loop-again : (t : ℕ) → extend-lts.Need-loop-again (
+  put-line-reads.Asked,
+  put-line-reads.Learnt,
+  command-reads.Asked,
+  command-reads.Learnt,
+  attempt-reads.Asked,
+  attempt-reads.Learnt,
+  longer-reads.Asked,
+  longer-reads.Learnt,
+  extend-below t,
+  extend.Post,
+) (extend-at t) extend.Post extend-Inv-loop extend-μ-loop
+extend-loop-again t c =
+    ⊎-elim
+    (λ w.
+    rw (w .7, w .8)
+    (parts-next (partOf (c .before .before .before .before .before .before .before .args .more) (take (c .before .before .before .before .before .before .before .args .history .len) (c .before .before .before .before .before .before .before .args .history .bytes)) (c .before .before .before .before .before .before .before .args .machine .state .arrays) (c .before .before .before .before .before .before .before .args .machine .cells) (c .before .before .before .before .before .before .before .args .machine .tags)) listed (Collect 0) (c .before .before .before .before .before .before .before .args .at) (c .before .before .before .before .before .before .before .args .out .now) (c .before .before .before .before .loop .k) (c .before .before .before .before .loop .end) (c .before .before .before .before .loop .out) (c .before .before .before .before .loop .inv) (rw listed-length (c .before .before .before .loop-test .taken)) (w .4 .result) (w .4 .last .1 .1 .1 .1 .0)
+    (subst (λ (l : List ℕ). Laid l (c .before .before .before .before .loop .end) (c .before .before .before .before .loop .out) (w .4 .result) (w .4 .last .1 .1 .1 .1 .0))
+    (part-granted (c .before .before .before .before .before .before .before .args .more) (take (c .before .before .before .before .before .before .before .args .history .len) (c .before .before .before .before .before .before .before .args .history .bytes)) (c .before .before .before .before .before .before .before .args .machine .state .arrays) (c .before .before .before .before .before .before .before .args .machine .cells) (c .before .before .before .before .before .before .before .args .machine .tags) (c .before .before .before .before .loop .k) (c .before .before .command .result) (c .before .before .command .ensures) (c .before .attempt .result .granted) (c .before .attempt .result .machine .state .arrays) (c .before .attempt .result .machine .cells) (c .before .attempt .result .machine .tags) (c .before .attempt .ensures) (w .0 .taken) (take (w .2 .result .len) (w .2 .result .bytes)) (w .2 .ensures .0))
+    (w .4 .ensures))))
+    (λ w.
+    rw (w .1, w .2)
+    (parts-next (partOf (c .before .before .before .before .before .before .before .args .more) (take (c .before .before .before .before .before .before .before .args .history .len) (c .before .before .before .before .before .before .before .args .history .bytes)) (c .before .before .before .before .before .before .before .args .machine .state .arrays) (c .before .before .before .before .before .before .before .args .machine .cells) (c .before .before .before .before .before .before .before .args .machine .tags)) listed (Collect 0) (c .before .before .before .before .before .before .before .args .at) (c .before .before .before .before .before .before .before .args .out .now) (c .before .before .before .before .loop .k) (c .before .before .before .before .loop .end) (c .before .before .before .before .loop .out) (c .before .before .before .before .loop .inv) (rw listed-length (c .before .before .before .loop-test .taken)) (c .before .before .before .before .loop .end) (c .before .before .before .before .loop .out)
+    (subst (λ (l : List ℕ). Laid l (c .before .before .before .before .loop .end) (c .before .before .before .before .loop .out) (c .before .before .before .before .loop .end) (c .before .before .before .before .loop .out)) (part-refused (c .before .before .before .before .before .before .before .args .more) (take (c .before .before .before .before .before .before .before .args .history .len) (c .before .before .before .before .before .before .before .args .history .bytes)) (c .before .before .before .before .before .before .before .args .machine .state .arrays) (c .before .before .before .before .before .before .before .args .machine .cells) (c .before .before .before .before .before .before .before .args .machine .tags) (c .before .before .before .before .loop .k) (c .before .before .command .result) (c .before .before .command .ensures) (c .before .attempt .result .granted) (c .before .attempt .result .machine .state .arrays) (c .before .attempt .result .machine .cells) (c .before .attempt .result .machine .tags) (c .before .attempt .ensures) (w .0 .left)) (laid-none (c .before .before .before .before .loop .end) (c .before .before .before .before .loop .out)))))
+    (c .if2 .came)
+
+extend-same-length-2 : (t : ℕ) → extend-lts.Need-same-length-2 (
+  put-line-reads.Asked,
+  put-line-reads.Learnt,
+  command-reads.Asked,
+  command-reads.Learnt,
+  attempt-reads.Asked,
+  attempt-reads.Learnt,
+  longer-reads.Asked,
+  longer-reads.Learnt,
+  extend-below t,
+  extend.Post,
+) (extend-at t) extend.Post extend-Inv-loop extend-μ-loop
+extend-same-length-2 t c = c .before .loop .inv .laid .size
+
+extend-returns-2 : (t : ℕ) → extend-lts.Need-returns-2 (
+  put-line-reads.Asked,
+  put-line-reads.Learnt,
+  command-reads.Asked,
+  command-reads.Learnt,
+  attempt-reads.Asked,
+  attempt-reads.Learnt,
+  longer-reads.Asked,
+  longer-reads.Learnt,
+  extend-below t,
+  extend.Post,
+) (extend-at t) extend.Post extend-Inv-loop extend-μ-loop
+extend-returns-2 t c = subst (λ (l : List ℕ). Laid l (c .before .before .before .before .args .at) (c .before .before .before .before .args .out .now) (c .before .loop .end) (c .before .loop .out)) (sym (lines-parts (c .before .before .before .before .args .more) (take (c .before .before .before .before .args .history .len) (c .before .before .before .before .args .history .bytes)) (c .before .before .before .before .args .machine .state .arrays) (c .before .before .before .before .args .machine .cells) (c .before .before .before .before .args .machine .tags) (c .before .before .if1 .left))) (parts-all (partOf (c .before .before .before .before .args .more) (take (c .before .before .before .before .args .history .len) (c .before .before .before .before .args .history .bytes)) (c .before .before .before .before .args .machine .state .arrays) (c .before .before .before .before .args .machine .cells) (c .before .before .before .before .args .machine .tags)) listed (Collect 0) (c .before .before .before .before .args .at) (c .before .before .before .before .args .out .now) (c .before .loop .k) (c .before .loop .end) (c .before .loop .out) (c .before .loop .inv) (rw listed-length (c .loop-test .left)))
+
+pub +extend-spec : {M : Type 1} → statement M
++extend-spec = close μ-extend λ t. extend-lts.spec (
+  put-line-reads.Asked,
+  put-line-reads.Learnt,
+  command-reads.Asked,
+  command-reads.Learnt,
+  attempt-reads.Asked,
+  attempt-reads.Learnt,
+  longer-reads.Asked,
+  longer-reads.Learnt,
+  extend-below t,
+  extend.Post,
+)
+    (extend-at t)
+    extend.Post
+    extend-Inv-loop
+    extend-μ-loop
+    (extend-array-share-prefix-bytes t)
+    (extend-slice-aggregate-put-line t)
+    (extend-put-line-requires t)
+    (extend-same-length t)
+    (extend-returns t)
+    (extend-loop-holds t)
+    (extend-command-requires t)
+    (extend-attempt-requires t)
+    (extend-longer-requires t)
+    (extend-sub-extend t)
+    (extend-extend-requires t)
+    (extend-add-k t)
+    (extend-loop-less t)
+    (extend-loop-again t)
+    (extend-same-length-2 t)
+    (extend-returns-2 t)

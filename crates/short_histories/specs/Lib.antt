@@ -1,0 +1,6 @@
+-- Document 02, 2026-10: every short history, once, as lines of text.
+pub mod Listed
+pub mod Text
+pub mod Histories
+pub mod Promises
+pub mod Walk
