@@ -1,8 +1,9 @@
 -- Laws of lists put together, filtered and mapped. Assumes nothing.
 use mathlib.Core.Bool.{Bool, true, false}
+use mathlib.Core.Logic.{inl, inr}
 use mathlib.Core.List.{List, [], _∷_, _++_, map, map-append, flatten, append-assoc}
 use mathlib.Core.Path.{_≡_, refl, sym, _∙_, ap}
-use Rattle.capabilities.specs.Lists.{pick, filter}
+use Rattle.capabilities.specs.Lists.{pick, In, filter}
 
 module _ {A : Type 0} where
   pub flatten-append : (ls ms : List (List A)) → flatten (ls ++ ms) ≡ flatten ls ++ flatten ms
@@ -29,10 +30,11 @@ module _ {A : Type 0} where
   filter-none P [] h = refl
   filter-none P (x ∷ l) h = ap (λ b. pick b (x ∷ filter P l) (filter P l)) (h x) ∙ filter-none P l h
 
-  pub filter-same : (P Q : A → Bool) (l : List A) → ((x : A) → P x ≡ Q x) → filter P l ≡ filter Q l
+  -- Tests that agree on what stands there.
+  pub filter-agrees : (P Q : A → Bool) (l : List A) → ((x : A) → In x l → P x ≡ Q x) → filter P l ≡ filter Q l
   unfolding filter
-  filter-same P Q [] h = refl
-  filter-same P Q (x ∷ l) h = λ i. pick (h x i) (x ∷ filter-same P Q l h i) (filter-same P Q l h i)
+  filter-agrees P Q [] h = refl
+  filter-agrees P Q (x ∷ l) h = λ i. let rest = filter-agrees P Q l (λ y j. h y (inr j)) in pick (h x (inl refl) i) (x ∷ rest i) (rest i)
 
 module _ {A B : Type 0} where
   pub map-flatten : (f : A → B) (ls : List (List A)) → map f (flatten ls) ≡ flatten (map (map f) ls)

@@ -17,16 +17,13 @@ use Rattle.histories.specs.Runs.{begun}
 use Rattle.short_histories.specs.Listed.{choices, operands, listed}
 use Rattle.short_histories.specs.Text.{bytesIn, digit, digits, hexLine, lineOf}
 use Rattle.short_histories.specs.Histories.{freshOne, grantsAll, sequences, counts, histories, text}
-use Rattle.short_histories.proofs.Continuing.{continuedBy, byRules, continued-all, continued-ruled, histories-continued, fresh-standing}
+use Rattle.short_histories.specs.Found.{byRules, foundBy, found}
+use Rattle.short_histories.proofs.Continuing.{continued-all, continued-ruled, histories-continued, fresh-standing}
 
 -- What the histories compute with, named once.
 unfoldable pub computingHistories : ℕ
-unfolding continuedBy byRules freshOne choices operands listed bytesIn digit digits hexLine lineOf begun flatten computing
+unfolding foundBy byRules found freshOne choices operands listed bytesIn digit digits hexLine lineOf begun flatten computing
 computingHistories = 0
-
--- The histories of n commands, as they are computed.
-unfoldable pub found : ℕ → List (List Call)
-found n = continuedBy byRules n freshOne
 
 pub found-all : (n : ℕ) → filter (grantsAll freshOne) (sequences n) ≡ found n
 unfolding found
@@ -38,14 +35,14 @@ histories-found = histories-continued ∙ ap flatten (map-same _ found counts (�
 
 -- So many of 0, 1, 2 and 3 commands.
 found-counts : map (λ n. length (found n)) counts ≡ 1 ∷ 6 ∷ 30 ∷ 150 ∷ []
-unfolding found computingHistories
+unfolding computingHistories
 found-counts = refl
 
 pub history-counts : map (λ n. length (filter (grantsAll freshOne) (sequences n))) counts ≡ 1 ∷ 6 ∷ 30 ∷ 150 ∷ []
 history-counts = map-same _ _ counts (λ n. ap length (found-all n)) ∙ found-counts
 
 found-length : length (flatten (map lineOf (flatten (map found counts)))) ≡ 5043
-unfolding found computingHistories
+unfolding computingHistories
 found-length = refl
 
 pub text-length : length text ≡ 5043

@@ -10,26 +10,17 @@ use Rattle.capabilities.proofs.Flatten.{filter-flatten, filter-map, filter-none
 use Rattle.calls.specs.declared.Call.{Call}
 use Rattle.machine.specs.Formed.{startOf}
 use Rattle.session_rules.specs.Session.{zeroed}
-use Rattle.machine.specs.Step.{Outcome, ruled}
+use Rattle.machine.specs.Step.{Outcome}
 use Rattle.histories.specs.Runs.{Machine, machine, outcome, next}
 use Rattle.histories.specs.Forming.{Standing}
 use Rattle.histories.proofs.Forming.{standing-next, standing-ruled, standing-begun}
 use Rattle.short_histories.specs.Listed.{choices, listed}
 use Rattle.short_histories.specs.Histories.{freshOne, grants, grantsAll, sequences, counts, histories}
+use Rattle.short_histories.specs.Found.{byRules, foundBy, isGranted}
 
--- Those of n listed commands from a state on, by what each call leaves.
-unfoldable pub continuedBy : (Machine → Call → Outcome) → ℕ → Machine → List (List Call)
-continuedBy by zero m = [] ∷ []
-continuedBy by (suc n) m =
-    flatten
-    (map
-    (λ c.
-    let o = by m c in
-    pick (eqb (o .answer .code) 0) (map (λ h. c ∷ h) (continuedBy by n (machine (o .answer .state) (o .cells) (o .tags)))) [])
-    listed)
-
+-- Those of n listed commands from a state on.
 abbrev pub continued : ℕ → Machine → List (List Call)
-continued = continuedBy outcome
+continued = foundBy listed outcome isGranted
 
 module _ (n : ℕ) (m : Machine) (c : Call) (ih : continued n (next m c) ≡ filter (grantsAll (next m c)) (sequences n)) where
   begins : pick (grants m c) (map (λ h. c ∷ h) (continued n (next m c))) [] ≡ filter (grantsAll m) (map (λ h. c ∷ h) (sequences n))
@@ -41,7 +32,7 @@ module _ (n : ℕ) (m : Machine) (c : Call) (ih : continued n (next m c) ≡ fil
       go false = ap (map (λ h. c ∷ h)) (sym (filter-none (λ h. false) (sequences n) (λ h. refl)))
 
 pub continued-all : (n : ℕ) (m : Machine) → continued n m ≡ filter (grantsAll m) (sequences n)
-unfolding continuedBy sequences choices filter grantsAll next
+unfolding foundBy sequences choices filter grantsAll next
 continued-all zero m = refl
 continued-all (suc n) m =
     ap flatten
@@ -60,12 +51,8 @@ histories-continued =
     ∙ map-same (λ n. filter (grantsAll freshOne) (sequences n)) (λ n. continued n freshOne) counts (λ n. sym (continued-all n freshOne)))
 
 -- ---- The same by the rules alone
--- In a state that a start leads to, refusals 1 and 2 do not come up, so their tests need not be made.
-unfoldable pub byRules : Machine → Call → Outcome
-byRules m c = ruled (m .state) c (m .cells) (m .tags)
-
-pub continued-ruled : (n : ℕ) (m : Machine) (v f : ℕ) → Standing m v f → continued n m ≡ continuedBy byRules n m
-unfolding continuedBy byRules next
+pub continued-ruled : (n : ℕ) (m : Machine) (v f : ℕ) → Standing m v f → continued n m ≡ foundBy listed byRules isGranted n m
+unfolding foundBy byRules next
 continued-ruled zero m v f s = refl
 continued-ruled (suc n) m v f s =
     ap flatten
@@ -73,7 +60,7 @@ continued-ruled (suc n) m v f s =
     (λ c.
     ap (λ hs. pick (grants m c) (map (λ h. c ∷ h) hs) []) (continued-ruled n (next m c) v f (standing-next m v f c s))
     ∙ ap
-    (λ (o : Outcome). pick (eqb (o .answer .code) 0) (map (λ h. c ∷ h) (continuedBy byRules n (machine (o .answer .state) (o .cells) (o .tags)))) [])
+    (λ (o : Outcome). pick (eqb (o .answer .code) 0) (map (λ h. c ∷ h) (foundBy listed byRules isGranted n (machine (o .answer .state) (o .cells) (o .tags)))) [])
     (standing-ruled m v f c s)))
 
 pub fresh-standing : Standing freshOne 1 1

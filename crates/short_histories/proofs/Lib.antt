@@ -6,5 +6,7 @@ pub mod Numbered
 pub mod Putting
 pub mod Writing
 pub mod Extending
+pub mod Unseen
 pub mod Computed
+pub mod WrongTexts
 pub mod Walking

@@ -53,7 +53,7 @@ module _ {A : Type 0} where
 
 -- ---- Bytes
 -- The lower one has the lower byte at a place that both have.
-unfoldable before : List ℕ → List ℕ → Bool
+unfoldable pub before : List ℕ → List ℕ → Bool
 before [] ys = false
 before (x ∷ xs) [] = false
 before (x ∷ xs) (y ∷ ys) = ltb x y || (eqb x y && before xs ys)
@@ -85,14 +85,14 @@ lower-itself [] = refl
 lower-itself (x ∷ xs) = rw (le-ltb x x (omega arith), eq-eqb x x refl) (lower-itself xs)
 
 -- The listed commands stand in rising byte order.
-abbrev Before : Call → Call → Type 0
+abbrev pub Before : Call → Call → Type 0
 Before c d = before (bytesOf c) (bytesOf d) ≡ true
 
 listed-rises : orderedBy (λ c d. before (bytesOf c) (bytesOf d)) listed ≡ true
 unfolding orderedBy all before listed choices operands flatten mapEach
 listed-rises = refl
 
-listed-ordered : Ordered Before listed
+pub listed-ordered : Ordered Before listed
 listed-ordered = ordered-by (λ c d. before (bytesOf c) (bytesOf d)) listed listed-rises
 
 -- ---- The histories
@@ -139,9 +139,9 @@ unfolding histories
 in-order = ordered-filter Precedes (grantsAll freshOne) (flatten (map sequences counts)) (shorter-first counts counts-rise)
 
 -- ---- Lines
-digit-one : (m n : ℕ) → digit m ≡ digit n → m ≡ n
+same-digit : (m n : ℕ) → digit m ≡ digit n → m ≡ n
 unfolding digit
-digit-one m n e = go (ltb m 10) refl (ltb n 10) refl e
+same-digit m n e = go (ltb m 10) refl (ltb n 10) refl e
   where
     go : (a : Bool) → ltb m 10 ≡ a → (b : Bool) → ltb n 10 ≡ b → pick a (48 + m) (55 + m) ≡ pick b (48 + n) (55 + n) → m ≡ n
     go true p true q e = omega arith
@@ -150,16 +150,16 @@ digit-one m n e = go (ltb m 10) refl (ltb n 10) refl e
     go false p false q e = omega arith
 
 -- A line gives its bytes back.
-line-one : (xs ys : List ℕ) → hexLine xs ≡ hexLine ys → xs ≡ ys
+pub same-bytes : (xs ys : List ℕ) → hexLine xs ≡ hexLine ys → xs ≡ ys
 unfolding hexLine digits
-line-one [] [] e = refl
-line-one [] (y ∷ ys) e = let z : 1 ≡ suc (suc (length (hexLine ys))) = ap length e in let w : ⊥ = omega arith in absurd w
-line-one (x ∷ xs) [] e = let z : suc (suc (length (hexLine xs))) ≡ 1 = ap length e in let w : ⊥ = omega arith in absurd w
-line-one (x ∷ xs) (y ∷ ys) e =
-    let high : x / 16 ≡ y / 16 = digit-one (x / 16) (y / 16) (ap (λ l. getD l 0 0) e) in
-    let low : x % 16 ≡ y % 16 = digit-one (x % 16) (y % 16) (ap (λ l. getD l 1 0) e) in
+same-bytes [] [] e = refl
+same-bytes [] (y ∷ ys) e = let z : 1 ≡ suc (suc (length (hexLine ys))) = ap length e in let w : ⊥ = omega arith in absurd w
+same-bytes (x ∷ xs) [] e = let z : suc (suc (length (hexLine xs))) ≡ 1 = ap length e in let w : ⊥ = omega arith in absurd w
+same-bytes (x ∷ xs) (y ∷ ys) e =
+    let high : x / 16 ≡ y / 16 = same-digit (x / 16) (y / 16) (ap (λ l. getD l 0 0) e) in
+    let low : x % 16 ≡ y % 16 = same-digit (x % 16) (y % 16) (ap (λ l. getD l 1 0) e) in
     let same : x ≡ y = omega arith in
-    let rest : xs ≡ ys = line-one xs ys (ap (drop 2) e) in
+    let rest : xs ≡ ys = same-bytes xs ys (ap (drop 2) e) in
     λ i. same i ∷ rest i
 
 -- Bytes of listed commands give the commands back.
@@ -173,13 +173,13 @@ none-some : (d : Call) (y : List Call) → bytesIn [] ≡ bytesIn (d ∷ y) → 
 unfolding bytesIn flatten
 none-some d y e = cons-ne-nil _ _ (sym e)
 
-bytes-one : (x y : List Call) → OfListed x → OfListed y → bytesIn x ≡ bytesIn y → x ≡ y
+same-calls : (x y : List Call) → OfListed x → OfListed y → bytesIn x ≡ bytesIn y → x ≡ y
 unfolding Every
-bytes-one [] [] p q e = refl
-bytes-one [] (d ∷ y) p q e = absurd (none-some d y e)
-bytes-one (c ∷ x) [] p q e = absurd (none-some c x (sym e))
-bytes-one (c ∷ x) (d ∷ y) p q e =
-    go (three Before listed listed-ordered c d (p .0) (q .0)) (bytes-one x y (p .1) (q .1))
+same-calls [] [] p q e = refl
+same-calls [] (d ∷ y) p q e = absurd (none-some d y e)
+same-calls (c ∷ x) [] p q e = absurd (none-some c x (sym e))
+same-calls (c ∷ x) (d ∷ y) p q e =
+    go (three Before listed listed-ordered c d (p .0) (q .0)) (same-calls x y (p .1) (q .1))
   where
     go : (c ≡ d) ⊎ (Before c d ⊎ Before d c) → (bytesIn x ≡ bytesIn y → x ≡ y) → (c ∷ x) ≡ (d ∷ y)
     go (inl s) ih = let r = ih (cancel s) in λ i. s i ∷ r i
@@ -198,5 +198,5 @@ nothing-twice = ordered-weaker Precedes (λ x y. lineOf x ≡ lineOf y → ⊥) 
 
     differ : (x y : List Call) → In x histories → In y histories → Precedes x y → lineOf x ≡ lineOf y → ⊥
     differ x y i j r e =
-        let same = bytes-one x y (nothing-else x i .of-listed) (nothing-else y j .of-listed) (unfold lineOf in line-one (bytesIn x) (bytesIn y) e) in
+        let same = same-calls x y (nothing-else x i .of-listed) (nothing-else y j .of-listed) (unfold lineOf in same-bytes (bytesIn x) (bytesIn y) e) in
         never x (subst (Precedes x) (sym same) r)

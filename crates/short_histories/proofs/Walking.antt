@@ -27,8 +27,9 @@ use Rattle.step.specs.Entries.{judgedOn, stepOn, beginning, startOn}
 use Rattle.short_histories.specs.Listed.{listed}
 use Rattle.short_histories.specs.Text.{bytesIn, hexLine, lineOf}
 use Rattle.short_histories.specs.Histories.{freshOne, grants, counts, histories, text}
+use Rattle.short_histories.specs.Found.{foundBy}
 use Rattle.short_histories.specs.Walk.{Led, leading, ledBy, onward, linesOn}
-use Rattle.short_histories.proofs.Continuing.{continuedBy, continued, histories-continued, fresh-standing}
+use Rattle.short_histories.proofs.Continuing.{continued, histories-continued, fresh-standing}
 
 -- Lines of lists put together.
 lines-of : {A B C : Type 0} (line : B → List C) (g : A → List B) (l : List A)
@@ -61,7 +62,7 @@ one-more bytes c hs =
 
 pub lines-on : (n : ℕ) (bytes : List ℕ) (m : Machine) (v f : ℕ) → Standing m v f
     → linesOn n bytes (arraysOf (m .state)) (m .cells) (m .tags) ≡ behind bytes (continued n m)
-unfolding linesOn behind continuedBy onward next
+unfolding linesOn behind foundBy onward next
 lines-on zero bytes m v f s = unfold bytesIn flatten in ap hexLine (sym (append-nil bytes)) ∙ sym (append-nil (hexLine (bytes ++ [])))
 lines-on (suc n) bytes m v f s =
     ap flatten

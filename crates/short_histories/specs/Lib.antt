@@ -4,3 +4,5 @@ pub mod Text
 pub mod Histories
 pub mod Promises
 pub mod Walk
+pub mod Found
+pub mod WrongTexts

@@ -3,15 +3,15 @@
 use Prim.Native.Nat.{ℕ, _<_, _≤_}
 use mathlib.Core.Bool.{true}
 use mathlib.Core.Logic.{_⊎_}
-use mathlib.Core.List.{List, [], _∷_}
+use mathlib.Core.List.{List, [], _∷_, map, flatten}
 use mathlib.Core.Path.{_≡_}
 use lib.ListN.{length}
-use Rattle.capabilities.specs.Lists.{In, Every, Ordered}
+use Rattle.capabilities.specs.Lists.{In, Every, Ordered, filter}
 use Rattle.calls.specs.declared.Call.{Call}
-use Rattle.histories.specs.Runs.{Machine, next, Granted}
+use Rattle.histories.specs.Runs.{Machine, next, Granted, begun}
 use Rattle.short_histories.specs.Listed.{listed}
 use Rattle.short_histories.specs.Text.{bytesIn, lower, lineOf}
-use Rattle.short_histories.specs.Histories.{freshOne, histories}
+use Rattle.short_histories.specs.Histories.{freshOne, grantsAll, sequences, counts, histories}
 
 -- "Each granted in its turn".
 unfoldable pub GrantedInTurn : Machine → List Call → Type 0
@@ -42,3 +42,8 @@ InOrder = Ordered Precedes histories
 -- "Nothing comes twice": no line is equal to a later one.
 abbrev pub NothingTwice : Type 0
 NothingTwice = Ordered (λ x y. lineOf x ≡ lineOf y → ⊥) histories
+
+-- Whatever lent memory holds at the start, the histories are these: no listed command reads it.
+abbrev pub MemoryUnseen : Type 0
+MemoryUnseen = (cells tags : List ℕ) → length cells ≡ 16 → length tags ≡ 16
+    → filter (grantsAll (begun 1 1 cells tags)) (flatten (map sequences counts)) ≡ histories

@@ -15,7 +15,9 @@ abbrev μ-loop : tie.MeasureT-loop
 μ-loop bytes at out₀ end₀ i₀ out end i = length bytes - i
 
 loop-holds : tie.Need-loop-holds Inv-loop μ-loop
-loop-holds c = spelt-none (c .before .before .args .bytes .now) (c .before .before .args .at) (c .before .before .args .out .now)
+loop-holds c =
+    let a = c .before .before .args in
+    spelt-none (a .bytes .now) (a .at) (a .out .now)
 
 shared-slice-read-byte : tie.Need-shared-slice-read-byte Inv-loop μ-loop
 shared-slice-read-byte c = c .before .loop-test .taken
@@ -24,19 +26,39 @@ high-requires : tie.Need-high-requires Inv-loop μ-loop
 high-requires c κs = search needs
 
 slice-write-out : tie.Need-slice-write-out Inv-loop μ-loop
-slice-write-out c = let room = spelt-room (c .before .before .before .before .before .before .args .bytes .now) (c .before .before .before .before .before .before .args .at) (c .before .before .before .before .before .before .args .out .now) (c .before .before .before .before .before .before .pre) (c .before .before .before .loop .i) (c .before .before .before .loop .end) (c .before .before .before .loop .out) (c .before .before .before .loop .inv) (c .before .before .loop-test .taken) in omega (arith, room)
+slice-write-out c =
+    let a = c .before .before .before .before .before .before .args in
+    let pre = c .before .before .before .before .before .before .pre in
+    let loop = c .before .before .before .loop in
+    let room = spelt-room (a .bytes .now) (a .at) (a .out .now) pre (loop .i) (loop .end) (loop .out) (loop .inv) (c .before .before .loop-test .taken) in
+    omega (arith, room)
 
 low-requires : tie.Need-low-requires Inv-loop μ-loop
 low-requires c κs = search needs
 
 add-out : tie.Need-add-out Inv-loop μ-loop
-add-out c = let room = spelt-room (c .before .before .before .before .before .before .before .args .bytes .now) (c .before .before .before .before .before .before .before .args .at) (c .before .before .before .before .before .before .before .args .out .now) (c .before .before .before .before .before .before .before .pre) (c .before .before .before .before .loop .i) (c .before .before .before .before .loop .end) (c .before .before .before .before .loop .out) (c .before .before .before .before .loop .inv) (c .before .before .before .loop-test .taken) in omega (arith, room)
+add-out c =
+    let a = c .before .before .before .before .before .before .before .args in
+    let pre = c .before .before .before .before .before .before .before .pre in
+    let loop = c .before .before .before .before .loop in
+    let room = spelt-room (a .bytes .now) (a .at) (a .out .now) pre (loop .i) (loop .end) (loop .out) (loop .inv) (c .before .before .before .loop-test .taken) in
+    omega (arith, room)
 
 slice-write-out-2 : tie.Need-slice-write-out-2 Inv-loop μ-loop
-slice-write-out-2 c = let room = spelt-room (c .before .before .before .before .before .before .before .args .bytes .now) (c .before .before .before .before .before .before .before .args .at) (c .before .before .before .before .before .before .before .args .out .now) (c .before .before .before .before .before .before .before .pre) (c .before .before .before .before .loop .i) (c .before .before .before .before .loop .end) (c .before .before .before .before .loop .out) (c .before .before .before .before .loop .inv) (c .before .before .before .loop-test .taken) in rw length-set (omega (arith, room))
+slice-write-out-2 c =
+    let a = c .before .before .before .before .before .before .before .args in
+    let pre = c .before .before .before .before .before .before .before .pre in
+    let loop = c .before .before .before .before .loop in
+    let room = spelt-room (a .bytes .now) (a .at) (a .out .now) pre (loop .i) (loop .end) (loop .out) (loop .inv) (c .before .before .before .loop-test .taken) in
+    rw length-set (omega (arith, room))
 
 add-end : tie.Need-add-end Inv-loop μ-loop
-add-end c = let room = spelt-room (c .before .before .before .before .before .before .before .args .bytes .now) (c .before .before .before .before .before .before .before .args .at) (c .before .before .before .before .before .before .before .args .out .now) (c .before .before .before .before .before .before .before .pre) (c .before .before .before .before .loop .i) (c .before .before .before .before .loop .end) (c .before .before .before .before .loop .out) (c .before .before .before .before .loop .inv) (c .before .before .before .loop-test .taken) in omega (arith, room)
+add-end c =
+    let a = c .before .before .before .before .before .before .before .args in
+    let pre = c .before .before .before .before .before .before .before .pre in
+    let loop = c .before .before .before .before .loop in
+    let room = spelt-room (a .bytes .now) (a .at) (a .out .now) pre (loop .i) (loop .end) (loop .out) (loop .inv) (c .before .before .before .loop-test .taken) in
+    omega (arith, room)
 
 add-i : tie.Need-add-i Inv-loop μ-loop
 add-i c = omega (arith, c .before .before .before .loop-test .taken)
@@ -45,19 +67,39 @@ loop-less : tie.Need-loop-less Inv-loop μ-loop
 loop-less c = omega (arith, c .before .before .before .loop-test .taken)
 
 loop-again : tie.Need-loop-again Inv-loop μ-loop
-loop-again c = spelt-two (c .before .before .before .before .before .before .before .args .bytes .now) (c .before .before .before .before .before .before .before .args .at) (c .before .before .before .before .before .before .before .args .out .now) (c .before .before .before .before .before .before .before .pre) (c .before .before .before .before .loop .i) (c .before .before .before .before .loop .end) (c .before .before .before .before .loop .out) (c .before .before .before .before .loop .inv) (c .before .high .result) (c .low .result) (c .before .before .before .loop-test .taken) (c .before .high .ensures) (c .low .ensures)
+loop-again c =
+    let a = c .before .before .before .before .before .before .before .args in
+    let pre = c .before .before .before .before .before .before .before .pre in
+    let loop = c .before .before .before .before .loop in
+    spelt-two (a .bytes .now) (a .at) (a .out .now) pre (loop .i) (loop .end) (loop .out) (loop .inv) (c .before .high .result) (c .low .result) (c .before .before .before .loop-test .taken) (c .before .high .ensures) (c .low .ensures)
 
 slice-write-out-3 : tie.Need-slice-write-out-3 Inv-loop μ-loop
-slice-write-out-3 c = let room = line-room (c .before .before .before .before .args .bytes .now) (c .before .before .before .before .args .at) (c .before .before .before .before .args .out .now) (c .before .before .before .before .pre) (c .before .loop .i) (c .before .loop .end) (c .before .loop .out) (c .before .loop .inv) in omega (arith, room)
+slice-write-out-3 c =
+    let a = c .before .before .before .before .args in
+    let pre = c .before .before .before .before .pre in
+    let loop = c .before .loop in
+    let room = line-room (a .bytes .now) (a .at) (a .out .now) pre (loop .i) (loop .end) (loop .out) (loop .inv) in
+    omega (arith, room)
 
 add-result : tie.Need-add-result Inv-loop μ-loop
-add-result c = let room = line-room (c .before .before .before .before .args .bytes .now) (c .before .before .before .before .args .at) (c .before .before .before .before .args .out .now) (c .before .before .before .before .pre) (c .before .loop .i) (c .before .loop .end) (c .before .loop .out) (c .before .loop .inv) in omega (arith, room)
+add-result c =
+    let a = c .before .before .before .before .args in
+    let pre = c .before .before .before .before .pre in
+    let loop = c .before .loop in
+    let room = line-room (a .bytes .now) (a .at) (a .out .now) pre (loop .i) (loop .end) (loop .out) (loop .inv) in
+    omega (arith, room)
 
 same-length : tie.Need-same-length Inv-loop μ-loop
-same-length c = length-set (c .before .loop .out) (c .before .loop .end) 10 ∙ c .before .loop .inv .laid .size
+same-length c =
+    let loop = c .before .loop in
+    length-set (loop .out) (loop .end) 10 ∙ loop .inv .laid .size
 
 returns : tie.Need-returns Inv-loop μ-loop
-returns c = spelt-line (c .before .before .before .before .args .bytes .now) (c .before .before .before .before .args .at) (c .before .before .before .before .args .out .now) (c .before .before .before .before .pre) (c .before .loop .i) (c .before .loop .end) (c .before .loop .out) (c .before .loop .inv) (c .loop-test .left)
+returns c =
+    let a = c .before .before .before .before .args in
+    let pre = c .before .before .before .before .pre in
+    let loop = c .before .loop in
+    spelt-line (a .bytes .now) (a .at) (a .out .now) pre (loop .i) (loop .end) (loop .out) (loop .inv) (c .loop-test .left)
 
 pub put-line-spec : {M : Type 1} → statement M
 put-line-spec =

@@ -16,7 +16,11 @@ part-bytes-start : tie.Need-part-bytes-start
 part-bytes-start c = search needs
 
 part-bytes-end : tie.Need-part-bytes-end
-part-bytes-end c = let g = c .before .good .0 in let e : length (c .before .args .history .bytes) ≡ 18 = search (length-under, g) in omega (arith, e)
+part-bytes-end c =
+    let a = c .before .args in
+    let g = c .before .good .0 in
+    let e : length (a .history .bytes) ≡ 18 = search (length-under, g) in
+    omega (arith, e)
 
 write-call-requires : tie.Need-write-call-requires
 write-call-requires c κs = search needs
@@ -25,19 +29,34 @@ enum-known-len : tie.Need-enum-known-len
 enum-known-len c = search needs
 
 add-t14 : tie.Need-add-t14
-add-t14 c = let n = wrote-length (c .before .before .before .before .before .before .before .args .history .bytes) (c .before .before .before .before .before .before .before .args .history .len) (c .before .before .before .before .before .before .before .args .call) (c .before .before .before .before .write-call .last .1 .0) (c .before .before .before .before .write-call .result) (let g = c .before .before .before .before .before .before .before .good .0 in search (length-under, g)) (c .before .before .before .before .before .before .before .pre) (c .before .before .before .before .write-call .ensures) (c .before .len .given .0 .0) (c .before .len .given .1) in let h = c .before .before .before .before .before .before .before .pre in omega (arith, n, h)
+add-t14 c =
+    let a = c .before .before .before .before .before .before .before .args in
+    let g = c .before .before .before .before .before .before .before .good .0 in
+    let pre = c .before .before .before .before .before .before .before .pre in
+    let wrote = c .before .before .before .before .write-call in
+    let len = c .before .len .given in
+    let n = wrote-length (a .history .bytes) (a .history .len) (a .call) (wrote .last .1 .0) (wrote .result) (search (length-under, g)) pre (wrote .ensures) (len .0 .0) (len .1) in
+    omega (arith, n, pre)
 
 enum-told : tie.Need-enum-told
 enum-told c = search needs
 
 returns : tie.Need-returns
-returns c = (
-  wrote-longer (c .before .before .before .before .before .before .before .args .history .bytes) (c .before .before .before .before .before .before .before .args .history .len) (c .before .before .before .before .before .before .before .args .call) (c .before .before .before .before .write-call .last .1 .0) (c .before .before .before .before .write-call .result) (let g = c .before .before .before .before .before .before .before .good .0 in search (length-under, g)) (c .before .before .before .before .before .before .before .pre) (c .before .before .before .before .write-call .ensures) (c .before .len .given .0 .0) (c .before .len .given .1),
-  ap (λ n. c .before .before .before .before .before .before .before .args .history .len + n) (wrote-length (c .before .before .before .before .before .before .before .args .history .bytes) (c .before .before .before .before .before .before .before .args .history .len) (c .before .before .before .before .before .before .before .args .call) (c .before .before .before .before .write-call .last .1 .0) (c .before .before .before .before .write-call .result) (let g = c .before .before .before .before .before .before .before .good .0 in search (length-under, g)) (c .before .before .before .before .before .before .before .pre) (c .before .before .before .before .write-call .ensures) (c .before .len .given .0 .0) (c .before .len .given .1)),
-)
+returns c =
+    let a = c .before .before .before .before .before .before .before .args in
+    let g = c .before .before .before .before .before .before .before .good .0 in
+    let pre = c .before .before .before .before .before .before .before .pre in
+    let wrote = c .before .before .before .before .write-call in
+    let len = c .before .len .given in
+    (wrote-longer (a .history .bytes) (a .history .len) (a .call) (wrote .last .1 .0) (wrote .result) (search (length-under, g)) pre (wrote .ensures) (len .0 .0) (len .1), ap (λ n. a .history .len + n) (wrote-length (a .history .bytes) (a .history .len) (a .call) (wrote .last .1 .0) (wrote .result) (search (length-under, g)) pre (wrote .ensures) (len .0 .0) (len .1)))
 
 returns-2 : tie.Need-returns-2
-returns-2 c = absurd (not-short (c .before .before .before .before .before .before .args .history .bytes) (c .before .before .before .before .before .before .args .history .len) (c .before .before .before .before .before .before .args .call) (c .before .before .before .write-call .last .1 .0) (c .before .before .before .write-call .result) (let g = c .before .before .before .before .before .before .good .0 in search (length-under, g)) (c .before .before .before .before .before .before .pre) (c .before .before .before .write-call .ensures) (c .enum-told .given .1))
+returns-2 c =
+    let a = c .before .before .before .before .before .before .args in
+    let g = c .before .before .before .before .before .before .good .0 in
+    let pre = c .before .before .before .before .before .before .pre in
+    let wrote = c .before .before .before .write-call in
+    absurd (not-short (a .history .bytes) (a .history .len) (a .call) (wrote .last .1 .0) (wrote .result) (search (length-under, g)) pre (wrote .ensures) (c .enum-told .given .1))
 
 pub longer-spec : {M : Type 1} → statement M
 longer-spec =

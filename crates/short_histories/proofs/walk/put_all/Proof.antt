@@ -24,11 +24,15 @@ loop-holds : tie.Need-loop-holds Inv-loop μ-loop
 loop-holds c = parts-none fromStart counts 0 0 (c .before .before .before .args .out .now)
 
 extend-requires : tie.Need-extend-requires Inv-loop μ-loop
-extend-requires c κs = (
-  omega (arith, c .before .loop-test .taken),
-  subst (λ (l : List ℕ). c .before .before .loop .end + length l ≤ length (c .before .before .loop .out)) (sym (starts-so (c .before .before .before .before .start .result .answer) (c .before .before .before .before .start .result .state .arrays) (c .before .before .before .before .start .ensures) (c .before .before .loop .count) (c .before .loop-test .taken)))
-      (parts-room fromStart counts 0 0 (c .before .before .before .before .before .before .args .out .now) (c .before .before .loop .count) (c .before .before .loop .end) (c .before .before .loop .out) (c .before .before .loop .inv) (omega (arith, c .before .loop-test .taken)) (subst (λ (l : List ℕ). 0 + length l ≤ length (c .before .before .before .before .before .before .args .out .now)) text-walked (omega (arith, c .before .before .before .before .before .before .pre)))),
-)
+extend-requires c κs =
+    let a = c .before .before .before .before .before .before .args in
+    let start = c .before .before .before .before .start in
+    let loop = c .before .before .loop in
+    let least = c .before .loop-test .taken in (
+      omega (arith, least),
+      subst (λ (l : List ℕ). loop .end + length l ≤ length (loop .out)) (sym (starts-so (start .result .answer) (start .result .state .arrays) (start .ensures) (loop .count) (least)))
+          (parts-room fromStart counts 0 0 (a .out .now) (loop .count) (loop .end) (loop .out) (loop .inv) (omega (arith, least)) (subst (λ (l : List ℕ). 0 + length l ≤ length (a .out .now)) text-walked (omega (arith, c .before .before .before .before .before .before .pre)))),
+    )
 
 add-count : tie.Need-add-count Inv-loop μ-loop
 add-count c = omega (arith, c .before .before .before .before .loop-test .taken)
@@ -38,15 +42,22 @@ loop-less c = omega (arith, c .before .before .before .before .loop-test .taken)
 
 loop-again : tie.Need-loop-again Inv-loop μ-loop
 loop-again c =
-    parts-next fromStart counts 0 0 (c .before .before .before .before .before .before .before .before .before .args .out .now) (c .before .before .before .before .before .loop .count) (c .before .before .before .before .before .loop .end) (c .before .before .before .before .before .loop .out) (c .before .before .before .before .before .loop .inv) (omega (arith, c .before .before .before .before .loop-test .taken)) (c .before .before .extend .result) (c .before .before .extend .last .1 .1 .1 .1 .0)
-    (subst (λ (l : List ℕ). Laid l (c .before .before .before .before .before .loop .end) (c .before .before .before .before .before .loop .out) (c .before .before .extend .result) (c .before .before .extend .last .1 .1 .1 .1 .0)) (starts-so (c .before .before .before .before .before .before .before .start .result .answer) (c .before .before .before .before .before .before .before .start .result .state .arrays) (c .before .before .before .before .before .before .before .start .ensures) (c .before .before .before .before .before .loop .count) (c .before .before .before .before .loop-test .taken)) (c .before .before .extend .ensures))
+    let a = c .before .before .before .before .before .before .before .before .before .args in
+    let start = c .before .before .before .before .before .before .before .start in
+    let loop = c .before .before .before .before .before .loop in
+    let least = c .before .before .before .before .loop-test .taken in
+    let put = c .before .before .extend in
+    parts-next fromStart counts 0 0 (a .out .now) (loop .count) (loop .end) (loop .out) (loop .inv) (omega (arith, least)) (put .result) (put .last .1 .1 .1 .1 .0)
+    (subst (λ (l : List ℕ). Laid l (loop .end) (loop .out) (put .result) (put .last .1 .1 .1 .1 .0)) (starts-so (start .result .answer) (start .result .state .arrays) (start .ensures) (loop .count) (least)) (put .ensures))
 
 same-length : tie.Need-same-length Inv-loop μ-loop
 same-length c = c .before .loop .inv .laid .size
 
 returns : tie.Need-returns Inv-loop μ-loop
 returns c =
-    subst (λ (l : List ℕ). Laid l 0 (c .before .before .before .before .before .args .out .now) (c .before .loop .end) (c .before .loop .out)) (sym text-walked) (parts-all fromStart counts 0 0 (c .before .before .before .before .before .args .out .now) (c .before .loop .count) (c .before .loop .end) (c .before .loop .out) (c .before .loop .inv) (omega (arith, c .loop-test .left)))
+    let a = c .before .before .before .before .before .args in
+    let loop = c .before .loop in
+    subst (λ (l : List ℕ). Laid l 0 (a .out .now) (loop .end) (loop .out)) (sym text-walked) (parts-all fromStart counts 0 0 (a .out .now) (loop .count) (loop .end) (loop .out) (loop .inv) (omega (arith, c .loop-test .left)))
 
 pub put-all-spec : {M : Type 1} → statement M
 put-all-spec =
