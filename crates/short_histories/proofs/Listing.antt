@@ -51,7 +51,7 @@ pub nothing-missing : NothingMissing
 unfolding histories sequences
 nothing-missing calls a =
     in-filter (grantsAll freshOne) (flatten (map sequences counts)) calls
-    (in-flatten (map sequences counts) (sequences (length calls)) calls (in-map sequences counts (length calls) (in-counts (length calls) (a .short)))
+    (in-flatten (map sequences counts) (sequences (length calls)) calls (in-map sequences counts (length calls) (in-counts (length calls) (omega (arith, a .short))))
     (in-choices listed calls (a .of-listed)))
     (passes freshOne calls (a .granted))
 
@@ -62,4 +62,4 @@ nothing-else calls i =
     let (block, (k, p)) = from-flatten (map sequences counts) calls j in
     let (n, (q, is)) = from-map sequences counts block k in
     let (len, all) = from-choices listed n calls (subst (In calls) (sym is) p) in
-    record { short = subst (λ (m : ℕ). m ≤ 3) (sym len) (from-counts n q); of-listed = all; granted = granted freshOne calls e }
+    record { short = omega (arith, len, from-counts n q); of-listed = all; granted = granted freshOne calls e }

@@ -1,7 +1,7 @@
 -- `short_histories::list` meets its contract: the text is as long as the code's constant says, so it fits where that does.
 use native.Mathlib.Omega.{arith}
 use borrow.Author.Needs.{needs}
-use mathlib.Core.Path.{sym}
+use lib.ListN.{length}
 use Rattle.session_rules.proofs.Sessions.{print-fits, print-not}
 use Rattle.short_histories.specs.Histories.{text}
 use Rattle.short_histories.proofs.Computed.{text-length}
@@ -9,7 +9,7 @@ use Rattle.short_histories.proofs.list.Statement.{statement}
 use Rattle.short_histories.proofs.list.Tie as tie
 
 returns : tie.Need-returns
-returns c = print-not text (c .before .before .args .out .now) 5043 (omega (arith, text-length)) (c .if1 .taken)
+returns c = print-not text (c .before .before .args .out .now) (length text) (omega arith) (omega (arith, text-length, c .if1 .taken))
 
 put-all-requires : tie.Need-put-all-requires
 put-all-requires c κs = omega (arith, text-length, c .before .if1 .left)

@@ -94,7 +94,7 @@ extend-loop-holds t c =
     parts-none (partOf (a .more) (take (a .history .len) (a .history .bytes)) (a .machine .state .arrays) (a .machine .cells) (a .machine .tags)) listed (Collect 0) (a .at) (a .out .now)
 
 extend-command-requires : (t : ℕ) → extend-lts.Need-command-requires (known t) (extend-at t) extend.Post extend-Inv-loop extend-μ-loop
-extend-command-requires t c κs = c .loop-test .taken
+extend-command-requires t c κs = omega (arith, c .loop-test .taken)
 
 extend-attempt-requires : (t : ℕ) → extend-lts.Need-attempt-requires (known t) (extend-at t) extend.Post extend-Inv-loop extend-μ-loop
 extend-attempt-requires t c κs = tt
@@ -103,7 +103,7 @@ extend-longer-requires : (t : ℕ) → extend-lts.Need-longer-requires (known t)
 extend-longer-requires t c κs =
     let command = c .before .before .before .command in
     let loop = c .before .before .before .before .before .loop in
-    let s : length (bytesOf (command .result)) ≤ 6 = subst (λ (x : Call). length (bytesOf x) ≤ 6) (sym (command .ensures)) (listed-short (loop .k) (c .before .before .before .before .loop-test .taken)) in
+    let s : length (bytesOf (command .result)) ≤ 6 = subst (λ (x : Call). length (bytesOf x) ≤ 6) (sym (command .ensures)) (listed-short (loop .k) (omega (arith, c .before .before .before .before .loop-test .taken))) in
     omega (arith, s, c .before .before .before .before .before .before .before .before .pre .1 .0, c .before .before .before .before .before .before .if1 .left)
 
 extend-sub-extend : (t : ℕ) → extend-lts.Need-sub-extend (known t) (extend-at t) extend.Post extend-Inv-loop extend-μ-loop
@@ -116,7 +116,7 @@ extend-extend-requires t c κs =
     let if1 = c .before .before .before .before .before .before .before .before .if1 in
     let command = c .before .before .before .before .before .command in
     let loop = c .before .before .before .before .before .before .before .loop in
-    let s : length (bytesOf (command .result)) ≤ 6 = subst (λ (x : Call). length (bytesOf x) ≤ 6) (sym (command .ensures)) (listed-short (loop .k) (c .before .before .before .before .before .before .loop-test .taken)) in
+    let s : length (bytesOf (command .result)) ≤ 6 = subst (λ (x : Call). length (bytesOf x) ≤ 6) (sym (command .ensures)) (listed-short (loop .k) (omega (arith, c .before .before .before .before .before .before .loop-test .taken))) in
     let led = c .before .before .before .before .attempt in
     let longer = c .before .longer in (
       subst (λ (j : ℕ). a .more - 1 < j) (pre .0) (omega (arith, if1 .left)),
@@ -124,7 +124,7 @@ extend-extend-requires t c κs =
         omega (arith, s, longer .ensures .1, pre .1 .0, if1 .left),
         subst (λ (l : List ℕ). loop .end + length l ≤ length (loop .out))
             (sym (part-granted (a .more) (take (a .history .len) (a .history .bytes)) (a .machine .state .arrays) (a .machine .cells) (a .machine .tags) (loop .k) (command .result) (command .ensures) (led .result .granted) (led .result .machine .state .arrays) (led .result .machine .cells) (led .result .machine .tags) (led .ensures) (c .before .before .before .if2 .taken) (take (longer .result .len) (longer .result .bytes)) (longer .ensures .0)))
-            (parts-room (partOf (a .more) (take (a .history .len) (a .history .bytes)) (a .machine .state .arrays) (a .machine .cells) (a .machine .tags)) listed (Collect 0) (a .at) (a .out .now) (loop .k) (loop .end) (loop .out) (loop .inv) (rw listed-length (c .before .before .before .before .before .before .loop-test .taken)) (subst (λ (l : List ℕ). a .at + length l ≤ length (a .out .now)) (lines-parts (a .more) (take (a .history .len) (a .history .bytes)) (a .machine .state .arrays) (a .machine .cells) (a .machine .tags) (if1 .left)) (pre .1 .1))),
+            (parts-room (partOf (a .more) (take (a .history .len) (a .history .bytes)) (a .machine .state .arrays) (a .machine .cells) (a .machine .tags)) listed (Collect 0) (a .at) (a .out .now) (loop .k) (loop .end) (loop .out) (loop .inv) (omega (arith, listed-length, c .before .before .before .before .before .before .loop-test .taken)) (subst (λ (l : List ℕ). a .at + length l ≤ length (a .out .now)) (lines-parts (a .more) (take (a .history .len) (a .history .bytes)) (a .machine .state .arrays) (a .machine .cells) (a .machine .tags) (if1 .left)) (pre .1 .1))),
       ),
     )
 
@@ -140,7 +140,7 @@ extend-loop-again t c =
     let loop = c .before .before .before .before .loop in
     let command = c .before .before .command in
     let led = c .before .attempt in
-    let more : loop .k < length listed = rw listed-length (c .before .before .before .loop-test .taken) in
+    let more : loop .k < length listed = omega (arith, listed-length, c .before .before .before .loop-test .taken) in
     ⊎-elim
     (λ w.
     let next = w .4 .last .1 .1 .1 .1 .0 in
@@ -163,7 +163,7 @@ extend-returns-2 t c =
     let a = c .before .before .before .before .args in
     let loop = c .before .loop in
     subst (λ (l : List ℕ). Laid l (a .at) (a .out .now) (loop .end) (loop .out)) (sym (lines-parts (a .more) (take (a .history .len) (a .history .bytes)) (a .machine .state .arrays) (a .machine .cells) (a .machine .tags) (c .before .before .if1 .left)))
-    (parts-all (partOf (a .more) (take (a .history .len) (a .history .bytes)) (a .machine .state .arrays) (a .machine .cells) (a .machine .tags)) listed (Collect 0) (a .at) (a .out .now) (loop .k) (loop .end) (loop .out) (loop .inv) (rw listed-length (c .loop-test .left)))
+    (parts-all (partOf (a .more) (take (a .history .len) (a .history .bytes)) (a .machine .state .arrays) (a .machine .cells) (a .machine .tags)) listed (Collect 0) (a .at) (a .out .now) (loop .k) (loop .end) (loop .out) (loop .inv) (omega (arith, listed-length, c .loop-test .left)))
 
 pub +extend-spec : {M : Type 1} → statement M
 +extend-spec = close μ-extend λ t. extend-lts.spec (known t)

@@ -28,10 +28,10 @@ extend-requires c κs =
     let a = c .before .before .before .before .before .before .args in
     let start = c .before .before .before .before .start in
     let loop = c .before .before .loop in
-    let least = c .before .loop-test .taken in (
-      omega (arith, least),
-      subst (λ (l : List ℕ). loop .end + length l ≤ length (loop .out)) (sym (starts-so (start .result .answer) (start .result .state .arrays) (start .ensures) (loop .count) (least)))
-          (parts-room fromStart counts 0 0 (a .out .now) (loop .count) (loop .end) (loop .out) (loop .inv) (omega (arith, least)) (subst (λ (l : List ℕ). 0 + length l ≤ length (a .out .now)) text-walked (omega (arith, c .before .before .before .before .before .before .pre)))),
+    let few = c .before .loop-test .taken in (
+      omega (arith, few),
+      subst (λ (l : List ℕ). loop .end + length l ≤ length (loop .out)) (sym (starts-so (start .result .answer) (start .result .state .arrays) (start .ensures) (loop .count) (omega (arith, few))))
+          (parts-room fromStart counts 0 0 (a .out .now) (loop .count) (loop .end) (loop .out) (loop .inv) (omega (arith, few)) (subst (λ (l : List ℕ). 0 + length l ≤ length (a .out .now)) text-walked (omega (arith, c .before .before .before .before .before .before .pre)))),
     )
 
 add-count : tie.Need-add-count Inv-loop μ-loop
@@ -45,10 +45,10 @@ loop-again c =
     let a = c .before .before .before .before .before .before .before .before .before .args in
     let start = c .before .before .before .before .before .before .before .start in
     let loop = c .before .before .before .before .before .loop in
-    let least = c .before .before .before .before .loop-test .taken in
+    let few = c .before .before .before .before .loop-test .taken in
     let put = c .before .before .extend in
-    parts-next fromStart counts 0 0 (a .out .now) (loop .count) (loop .end) (loop .out) (loop .inv) (omega (arith, least)) (put .result) (put .last .1 .1 .1 .1 .0)
-    (subst (λ (l : List ℕ). Laid l (loop .end) (loop .out) (put .result) (put .last .1 .1 .1 .1 .0)) (starts-so (start .result .answer) (start .result .state .arrays) (start .ensures) (loop .count) (least)) (put .ensures))
+    parts-next fromStart counts 0 0 (a .out .now) (loop .count) (loop .end) (loop .out) (loop .inv) (omega (arith, few)) (put .result) (put .last .1 .1 .1 .1 .0)
+    (subst (λ (l : List ℕ). Laid l (loop .end) (loop .out) (put .result) (put .last .1 .1 .1 .1 .0)) (starts-so (start .result .answer) (start .result .state .arrays) (start .ensures) (loop .count) (omega (arith, few))) (put .ensures))
 
 same-length : tie.Need-same-length Inv-loop μ-loop
 same-length c = c .before .loop .inv .laid .size
