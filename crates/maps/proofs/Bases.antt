@@ -2,7 +2,7 @@
 use Prim.Native.Nat.{ℕ, _+_, _<_}
 use mathlib.Core.Bool.{Bool, true, false, true≢false}
 use mathlib.Core.List.{List, [], _∷_, map}
-use mathlib.Core.Path.{_≡_, refl, sym, _∙_, ap, subst}
+use mathlib.Core.Path.{_≡_, sym, _∙_, ap, subst}
 use Rattle.capabilities.specs.Lists.{pick, In, Ordered, filter}
 use Rattle.capabilities.proofs.Members.{in-map, from-map, in-filter, from-filter}
 use Rattle.table.specs.declared.Reservation.{Reservation}

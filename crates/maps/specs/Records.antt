@@ -4,7 +4,6 @@ use mathlib.Core.Bool.{Bool, true, not, _&&_, _||_}
 use mathlib.Core.List.{List, [], _∷_}
 use lib.ListN.{length}
 use lib.Dec.{ltb, eqb}
-use Rattle.capabilities.specs.Lists.{pick}
 use Rattle.table.specs.declared.Reservation.{Reservation}
 
 -- Each begins where the one before it ends, and has a cell.

@@ -1,12 +1,9 @@
 -- What stands among the choices of n entries of a list, and in which order. Assumes nothing.
 use Prim.Native.Nat.{ℕ, zero, suc}
-use native.Mathlib.Omega.{arith}
-use mathlib.Core.Bool.{Bool, true, false, _&&_, _||_, true≢false}
-use mathlib.Core.Logic.{_⊎_, inl, inr, ⊎-elim}
-use mathlib.Core.List.{List, [], _∷_, _++_, map, flatten}
+use mathlib.Core.Logic.{inl, inr}
+use mathlib.Core.List.{List, [], _∷_, map, flatten}
 use mathlib.Core.Path.{_≡_, refl, sym, _∙_, ap, subst}
 use lib.ListN.{length, replicate}
-use lib.Dec.{eqb, ltb}
 use Rattle.capabilities.specs.Lists.{Every, In, Ordered}
 use Rattle.capabilities.proofs.Members.{in-map, from-map, in-flatten, from-flatten, ordered-parts, ordered-map}
 use Rattle.short_histories.specs.Listed.{choices}

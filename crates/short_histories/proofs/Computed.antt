@@ -10,7 +10,6 @@ use lib.Dec.{leb}
 use borrow.Author.Tests.{le-leb}
 use Rattle.capabilities.specs.Lists.{pick, filter}
 use Rattle.capabilities.proofs.Flatten.{map-same}
-use Rattle.calls.specs.declared.Call.{Call}
 use Rattle.machine.proofs.Computing.{computing}
 use Rattle.session_rules.specs.Session.{printed, printOf}
 use Rattle.histories.specs.Runs.{begun}

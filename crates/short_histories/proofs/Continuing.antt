@@ -3,7 +3,6 @@ use Prim.Native.Nat.{ℕ, zero, suc}
 use mathlib.Core.Bool.{Bool, true, false, _&&_}
 use mathlib.Core.List.{List, [], _∷_, map, map-map, flatten}
 use mathlib.Core.Path.{_≡_, refl, sym, _∙_, ap}
-use lib.ListN.{replicate}
 use lib.Dec.{eqb}
 use Rattle.capabilities.specs.Lists.{pick, filter}
 use Rattle.capabilities.proofs.Flatten.{filter-flatten, filter-map, filter-none, map-same}

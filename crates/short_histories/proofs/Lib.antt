@@ -1,6 +1,7 @@
 pub mod Choosing
 pub mod Listing
 pub mod Order
+pub mod Reading
 pub mod Continuing
 pub mod Numbered
 pub mod Putting

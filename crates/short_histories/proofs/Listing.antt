@@ -1,14 +1,14 @@
 -- Every short history that the request asks for stands in the list, and nothing else. Assumes nothing.
 use Prim.Native.Nat.{ℕ, zero, suc, _≤_}
 use native.Mathlib.Omega.{arith}
-use mathlib.Core.Bool.{Bool, true, false, _&&_}
-use mathlib.Core.Logic.{_⊎_, inl, inr}
+use mathlib.Core.Bool.{true}
+use mathlib.Core.Logic.{inl, inr}
 use mathlib.Core.List.{List, [], _∷_, map, flatten}
-use mathlib.Core.Path.{_≡_, refl, sym, _∙_, ap, subst}
-use lib.ListN.{length, replicate}
+use mathlib.Core.Path.{_≡_, refl, sym, subst}
+use lib.ListN.{length}
 use lib.Dec.{eqb}
 use borrow.Author.Tests.{eqb-true, eq-eqb}
-use Rattle.capabilities.specs.Lists.{Every, In}
+use Rattle.capabilities.specs.Lists.{In}
 use Rattle.capabilities.proofs.Choice.{and-left, and-right, both}
 use Rattle.capabilities.proofs.Members.{in-map, from-map, in-filter, from-filter, in-flatten, from-flatten}
 use Rattle.calls.specs.declared.Call.{Call}

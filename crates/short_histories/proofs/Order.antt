@@ -3,16 +3,16 @@
 use Prim.Native.Nat.{ℕ, suc, _+_, _/_, _%_, _<_}
 use native.Mathlib.Omega.{arith}
 use mathlib.Core.Bool.{Bool, true, false, _&&_, _||_, true≢false}
-use mathlib.Core.Logic.{_⊎_, inl, inr, ⊎-elim}
+use mathlib.Core.Logic.{_⊎_, inl, inr}
 use mathlib.Core.List.{List, [], _∷_, _++_, map, flatten, append-cancel-left, cons-ne-nil}
 use mathlib.Core.Path.{_≡_, refl, sym, _∙_, ap, subst}
-use lib.ListN.{length, getD, drop, replicate}
+use lib.ListN.{length, getD, drop}
 use lib.Dec.{eqb, ltb}
 use borrow.Author.Tests.{eq-eqb, le-ltb, ltb-true, ltb-false}
 use Rattle.capabilities.specs.Lists.{pick, mapEach, all, Every, In, Ordered}
 use Rattle.capabilities.proofs.Choice.{and-left, and-right}
 use Rattle.capabilities.proofs.Lists.{every}
-use Rattle.capabilities.proofs.Members.{of-every, from-map, from-flatten, from-filter, ordered-parts, ordered-filter}
+use Rattle.capabilities.proofs.Members.{of-every, from-map, from-flatten, ordered-parts, ordered-filter}
 use Rattle.calls.specs.Commands.{bytesOf}
 use Rattle.calls.specs.declared.Call.{Call}
 use Rattle.short_histories.specs.Listed.{choices, operands, listed}

@@ -26,9 +26,9 @@ use Rattle.formed.proofs.Tested.{passing}
 use Rattle.step.specs.Entries.{judgedOn, stepOn, beginning, startOn}
 use Rattle.short_histories.specs.Listed.{listed}
 use Rattle.short_histories.specs.Text.{bytesIn, hexLine, lineOf}
-use Rattle.short_histories.specs.Histories.{freshOne, grants, counts, histories, text}
+use Rattle.short_histories.specs.Histories.{freshOne, grants, counts, text}
 use Rattle.short_histories.specs.Found.{foundBy}
-use Rattle.short_histories.specs.Walk.{Led, leading, ledBy, onward, linesOn}
+use Rattle.short_histories.specs.Walk.{leading, ledBy, onward, linesOn}
 use Rattle.short_histories.proofs.Continuing.{continued, histories-continued, fresh-standing}
 
 -- Lines of lists put together.

@@ -2,15 +2,14 @@
 use Prim.Native.Nat.{ℕ, _+_, _-_, _≤_}
 use native.Mathlib.Omega.{arith}
 use mathlib.Core.List.{List, _++_, append-assoc}
-use mathlib.Core.Path.{_≡_, refl, sym, _∙_, ap, subst}
+use mathlib.Core.Path.{_≡_, sym, _∙_, ap}
 use lib.ListN.{length, take, drop, length-append, length-drop}
-use lib.Dec.{leb}
 use lib.Seq.{take-at, length-take-le}
 use borrow.Rule.Slice.PartMut.{midOf, postOf, putMid}
 use borrow.Author.Tests.{le-leb}
 use Rattle.capabilities.specs.Lists.{pick}
 use Rattle.calls.specs.Commands.{bytesOf}
-use Rattle.calls.specs.Writer.{Outcome, outcome, left, writeOf}
+use Rattle.calls.specs.Writer.{outcome, left, writeOf}
 use Rattle.calls.specs.declared.Call.{Call}
 use Rattle.calls.specs.declared.Written.{Written}
 use Rattle.calls.specs.declared.Written.the-variants.{Wrote, TooShort}

@@ -10,8 +10,8 @@ use Rattle.capabilities.specs.Lists.{In, Every, Ordered, filter}
 use Rattle.calls.specs.declared.Call.{Call}
 use Rattle.histories.specs.Runs.{Machine, next, Granted, begun}
 use Rattle.short_histories.specs.Listed.{listed}
-use Rattle.short_histories.specs.Text.{bytesIn, lower, lineOf}
-use Rattle.short_histories.specs.Histories.{freshOne, grantsAll, sequences, counts, histories}
+use Rattle.short_histories.specs.Text.{bytesIn, lower, digits, linesIn, lineOf}
+use Rattle.short_histories.specs.Histories.{freshOne, grantsAll, sequences, counts, histories, text}
 
 -- "Each granted in its turn".
 unfoldable pub GrantedInTurn : Machine → List Call → Type 0
@@ -42,6 +42,10 @@ InOrder = Ordered Precedes histories
 -- "Nothing comes twice": no line is equal to a later one.
 abbrev pub NothingTwice : Type 0
 NothingTwice = Ordered (λ x y. lineOf x ≡ lineOf y → ⊥) histories
+
+-- The text has a line for each history, in their order, and no other.
+abbrev pub LineByLine : Type 0
+LineByLine = linesIn [] text ≡ map (λ calls. digits (bytesIn calls)) histories
 
 -- Whatever lent memory holds at the start, the histories are these: no listed command reads it.
 abbrev pub MemoryUnseen : Type 0

@@ -31,5 +31,11 @@ digits (b ∷ bytes) = digit (b / 16) ∷ digit (b % 16) ∷ digits bytes
 unfoldable pub hexLine : List ℕ → List ℕ
 hexLine bytes = digits bytes ++ (10 ∷ [])
 
+-- The lines of a text: what stands before each newline, behind what has begun.
+unfoldable pub linesIn : List ℕ → List ℕ → List (List ℕ)
+linesIn begun [] = []
+linesIn begun (x ∷ rest) = pick (eqb x 10) (begun ∷ linesIn [] rest) (linesIn (begun ++ (x ∷ [])) rest)
+
+-- A history's line.
 unfoldable pub lineOf : List Call → List ℕ
 lineOf calls = hexLine (bytesIn calls)

@@ -8,7 +8,7 @@ use calls::Written;
 use calls::write_call;
 use step::State;
 ghost use mathlib.Core.Path.{_≡_};
-ghost use mathlib.Core.List.{[], _++_};
+ghost use mathlib.Core.List.{_++_};
 ghost use Prim.Native.Nat.{_+_, _*_, _≤_};
 ghost use lib.ListN.{length, take};
 ghost use Rattle.calls.specs.Commands.{bytesOf};
@@ -17,9 +17,10 @@ ghost use Rattle.step.specs.Entries.{stepOn};
 ghost use Rattle.short_histories.specs.Histories.{text};
 ghost use Rattle.short_histories.specs.Walk.{leading, ledBy, linesOn};
 
-// The most commands of a history, and the most bytes: six a command.
+// The most commands of a history.
 const MOST: u8 = 3;
 
+// The most bytes of one, six a command.
 const LONGEST: usize = 18;
 
 // A state and the memory that it is lent.
@@ -41,6 +42,7 @@ struct History {
     len: usize,
 }
 
+// A call on a copy of the state and its memory.
 fn attempt(machine: Machine, call: Call) -> Led
     ensures { λ r. ⌜ leading (r .granted) (r .machine .state .arrays) (r .machine .cells) (r .machine .tags) ≡ ledBy (stepOn (machine .state .arrays) call (machine .cells) (machine .tags)) ⌝ }
 {

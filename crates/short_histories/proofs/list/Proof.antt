@@ -1,6 +1,5 @@
 -- `short_histories::list` meets its contract: the text is as long as the code's constant says, so it fits where that does.
 use native.Mathlib.Omega.{arith}
-use borrow.Author.Needs.{needs}
 use lib.ListN.{length}
 use Rattle.session_rules.proofs.Sessions.{print-fits, print-not}
 use Rattle.short_histories.specs.Histories.{text}
