@@ -47,7 +47,7 @@ upTo (suc n) = upTo n ++ (suc n ∷ [])
 unfoldable pub byLength : List (List Call) → List (List Call)
 byLength hs = flatten (map (λ n. filter (λ h. eqb (length (bytesIn h)) n) hs) (upTo 18))
 
--- In lower case; the low digit first; with spaces; with no line for the empty one; with a newline between lines alone.
+-- A line by what each byte and its end are; one that is left out for the empty history.
 unfoldable pub lineBy : (ℕ → List ℕ) → List ℕ → List Call → List ℕ
 lineBy byte end h = flatten (map byte (bytesIn h)) ++ end
 
@@ -90,7 +90,7 @@ wrongTexts =
     -- It orders by the length of the line, or from the last to the first.
     ∷ byArrangement byLength
     ∷ byArrangement reverse
-    -- Its lines are others.
+    -- Its lines are in lower case, or have the low digit first, spaces, no end, two bytes as an end, none for the empty one.
     ∷ byLine (lineBy (λ b. lowerCase (b / 16) ∷ lowerCase (b % 16) ∷ []) (10 ∷ []))
     ∷ byLine (lineBy (λ b. digit (b % 16) ∷ digit (b / 16) ∷ []) (10 ∷ []))
     ∷ byLine (lineBy (λ b. digit (b / 16) ∷ digit (b % 16) ∷ 32 ∷ []) (10 ∷ []))
