@@ -4,7 +4,7 @@ use native.Mathlib.Nat.{zero-add}
 use native.Mathlib.Omega.{arith}
 use mathlib.Core.List.{flatten}
 use mathlib.Core.Path.{_≡_, refl, sym, _∙_, ap}
-use lib.ListN.{length, getD}
+use lib.ListN.{length, getD, List·getD-eq-default}
 use lib.Dec.{ltb}
 use borrow.Author.Tests.{lt-ltb, le-ltb}
 use Rattle.capabilities.specs.Lists.{pick, mapEach}
@@ -82,3 +82,6 @@ module _ (k : ℕ) where
   pub zero-at : 38 ≤ k → k < 40 → Zero (k - 38) (frame 0) ≡ getD listed k (Collect 0)
   unfolding numbered
   zero-at l h = rw (le-ltb k 4 (omega arith), le-ltb k 12 (omega arith), le-ltb k 16 (omega arith), le-ltb k 24 (omega arith), le-ltb k 28 (omega arith), le-ltb k 32 (omega arith), le-ltb k 34 (omega arith), le-ltb k 36 (omega arith), le-ltb k 38 l) at (listed-at k h)
+
+  pub past-at : 40 ≤ k → Collect 0 ≡ getD listed k (Collect 0)
+  past-at h = sym (List·getD-eq-default listed (Collect 0) (rw listed-length h))

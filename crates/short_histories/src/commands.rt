@@ -112,9 +112,8 @@ fn zero(n: u8) -> Call
     }
 }
 
-// The listed command of a number.
+// The listed command of a number; of a number past the last, collect by party 0.
 pub(crate) fn command(k: u8) -> Call
-    requires { ⌜ k < 40 ⌝ }
     ensures { λ r. ⌜ r ≡ getD listed k (Call.Collect 0) ⌝ }
 {
     if k < 4 {
@@ -144,5 +143,8 @@ pub(crate) fn command(k: u8) -> Call
     if k < 38 {
         return unmap(k - 36);
     }
-    zero(k - 38)
+    if k < COUNT {
+        return zero(k - 38);
+    }
+    Call::Collect { party: 0 }
 }

@@ -1,8 +1,10 @@
 // The walk over all short histories. From a state it tries each listed command, and goes on from where a granted one leads with one
 // command less to come; so it ends.
+use crate::LENGTH;
 use crate::commands::COUNT;
 use crate::commands::command;
-use crate::text::put_line;
+use crate::digits::high;
+use crate::digits::low;
 use calls::Call;
 use calls::Written;
 use calls::write_call;
@@ -14,7 +16,9 @@ ghost use lib.ListN.{length, take};
 ghost use Rattle.calls.specs.Commands.{bytesOf};
 ghost use Rattle.lines.specs.Laid.{Laid};
 ghost use Rattle.step.specs.Entries.{stepOn};
+ghost use Rattle.session_rules.specs.Session.{printed, printOf};
 ghost use Rattle.short_histories.specs.Histories.{text};
+ghost use Rattle.short_histories.specs.Text.{hexLine};
 ghost use Rattle.short_histories.specs.Walk.{leading, ledBy, linesOn};
 
 // The most commands of a history.
@@ -74,6 +78,24 @@ fn longer(history: History, call: Call) -> History
     }
 }
 
+// Puts bytes as a line at a place that has room for it, and answers where it ends.
+fn put_line(bytes: &[u8], at: usize, out: &mut [u8]) -> usize
+    requires { ⌜ at + length (hexLine (now bytes)) ≤ length (now out) ⌝ }
+    ensures { λ r. ⌜ Laid (hexLine (now (bytes .entry))) at (now (out .entry)) r (now (out .exit)) ⌝ }
+{
+    let mut end = at;
+    let mut i: usize = 0;
+    while i < bytes.len() {
+        let byte = bytes[i];
+        out[end] = high(byte);
+        out[end + 1] = low(byte);
+        end += 2;
+        i += 1;
+    }
+    out[end] = b'\n';
+    end + 1
+}
+
 // The lines of all histories that begin with one and have so many commands more, put at a place that has room for them; answers
 // where they end.
 fn extend(machine: Machine, history: History, more: u8, at: usize, out: &mut [u8]) -> usize
@@ -101,7 +123,7 @@ fn extend(machine: Machine, history: History, more: u8, at: usize, out: &mut [u8
 }
 
 // The lines of all short histories, shorter ones first, put first in a buffer that has room for them; answers how long they are.
-pub(crate) fn put_all(out: &mut [u8]) -> usize
+fn put_all(out: &mut [u8]) -> usize
     requires { ⌜ length text ≤ length (now out) ⌝ }
     ensures { λ r. ⌜ Laid text 0 (now (out .entry)) r (now (out .exit)) ⌝ }
 {
@@ -123,4 +145,14 @@ pub(crate) fn put_all(out: &mut [u8]) -> usize
         count += 1;
     }
     end
+}
+
+// Puts the lines first in a lent buffer and answers how long they are. If they do not fit, the answer is 0 and the buffer is as it was.
+pub fn list(out: &mut [u8]) -> usize
+    ensures { λ r. ⌜ printed r (now (out .exit)) ≡ printOf text (now (out .entry)) ⌝ }
+{
+    if out.len() < LENGTH {
+        return 0;
+    }
+    put_all(out)
 }

@@ -1,7 +1,7 @@
 -- `short_histories::commands::command` meets its contract: each arm is its kind's part of the list.
 use borrow.Author.Needs.{needs}
 use mathlib.Core.Path.{_∙_}
-use Rattle.short_histories.proofs.Numbered.{take-at, split-at, merge-at, give-at, revoke-at, sweep-at, collect-at, map-at, unmap-at, zero-at}
+use Rattle.short_histories.proofs.Numbered.{take-at, split-at, merge-at, give-at, revoke-at, sweep-at, collect-at, map-at, unmap-at, zero-at, past-at}
 use Rattle.short_histories.proofs.commands.command.Statement.{statement}
 use Rattle.short_histories.proofs.commands.command.Tie as tie
 
@@ -60,7 +60,10 @@ zero-requires : tie.Need-zero-requires
 zero-requires c κs = search needs
 
 returns-10 : tie.Need-returns-10
-returns-10 c = c .zero .ensures ∙ zero-at (c .before .before .before .before .before .before .before .before .before .before .args .k) (c .before .if9 .left) (c .before .before .before .before .before .before .before .before .before .before .pre)
+returns-10 c = c .zero .ensures ∙ zero-at (c .before .before .before .before .before .before .before .before .before .before .before .args .k) (c .before .before .if9 .left) (c .before .if10 .taken)
+
+returns-11 : tie.Need-returns-11
+returns-11 c = past-at (c .before .before .before .before .before .before .before .before .before .before .args .k) (c .if10 .left)
 
 pub command-spec : {M : Type 1} → statement M
 command-spec =
@@ -84,4 +87,5 @@ command-spec =
     unmap-requires
     returns-9
     zero-requires
-    returns-10)
+    returns-10
+    returns-11)

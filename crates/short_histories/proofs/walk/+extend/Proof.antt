@@ -22,7 +22,7 @@ use Rattle.short_histories.proofs.walk.extend.Reads as extend
 use Rattle.short_histories.proofs.walk.extend.Kinds as extend-kinds
 use Rattle.short_histories.proofs.walk.+extend.Lts-extend as extend-lts
 use Rattle.short_histories.proofs.commands.command.Reads as command-reads
-use Rattle.short_histories.proofs.text.put_line.Reads as put-line-reads
+use Rattle.short_histories.proofs.walk.put_line.Reads as put-line-reads
 use Rattle.short_histories.proofs.walk.attempt.Reads as attempt-reads
 use Rattle.short_histories.proofs.walk.longer.Reads as longer-reads
 use Rattle.short_histories.proofs.walk.+extend.{statement}
@@ -94,7 +94,7 @@ extend-loop-holds t c =
     parts-none (partOf (a .more) (take (a .history .len) (a .history .bytes)) (a .machine .state .arrays) (a .machine .cells) (a .machine .tags)) listed (Collect 0) (a .at) (a .out .now)
 
 extend-command-requires : (t : ℕ) → extend-lts.Need-command-requires (known t) (extend-at t) extend.Post extend-Inv-loop extend-μ-loop
-extend-command-requires t c κs = omega (arith, c .loop-test .taken)
+extend-command-requires t c κs = tt
 
 extend-attempt-requires : (t : ℕ) → extend-lts.Need-attempt-requires (known t) (extend-at t) extend.Post extend-Inv-loop extend-μ-loop
 extend-attempt-requires t c κs = tt

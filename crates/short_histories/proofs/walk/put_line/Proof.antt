@@ -1,12 +1,12 @@
--- `short_histories::text::put_line` meets its contract. After i turns the digits of the first i bytes stand there.
+-- `short_histories::walk::put_line` meets its contract. After i turns the digits of the first i bytes stand there.
 use Prim.Native.Nat.{_-_}
 use native.Mathlib.Omega.{arith}
 use borrow.Author.Needs.{needs}
 use mathlib.Core.Path.{_∙_}
 use lib.ListN.{length, length-set}
 use Rattle.short_histories.proofs.Putting.{Spelt, spelt-none, spelt-two, spelt-room, line-room, spelt-line}
-use Rattle.short_histories.proofs.text.put_line.Statement.{statement}
-use Rattle.short_histories.proofs.text.put_line.Tie as tie
+use Rattle.short_histories.proofs.walk.put_line.Statement.{statement}
+use Rattle.short_histories.proofs.walk.put_line.Tie as tie
 
 abbrev Inv-loop : tie.InvT-loop
 Inv-loop bytes at out₀ end₀ i₀ out end i = Spelt bytes at out₀ i end out

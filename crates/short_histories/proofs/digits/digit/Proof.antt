@@ -1,10 +1,10 @@
--- `short_histories::text::digit` meets its contract: the test of the code is the definition's.
+-- `short_histories::digits::digit` meets its contract: the test of the code is the definition's.
 use borrow.Author.Needs.{needs}
 use native.Mathlib.Omega.{arith}
 use borrow.Author.Tests.{lt-ltb, le-ltb}
 use Rattle.short_histories.specs.Text.{digit}
-use Rattle.short_histories.proofs.text.digit.Statement.{statement}
-use Rattle.short_histories.proofs.text.digit.Tie as tie
+use Rattle.short_histories.proofs.digits.digit.Statement.{statement}
+use Rattle.short_histories.proofs.digits.digit.Tie as tie
 
 add-result : tie.Need-add-result
 add-result c = search needs

@@ -1,11 +1,11 @@
--- `short_histories::list` meets its contract: the text is as long as the code's constant says, so it fits where that does.
+-- `short_histories::walk::list` meets its contract: the text is as long as the code's constant says, so it fits where that does.
 use native.Mathlib.Omega.{arith}
 use lib.ListN.{length}
 use Rattle.session_rules.proofs.Sessions.{print-fits, print-not}
 use Rattle.short_histories.specs.Histories.{text}
 use Rattle.short_histories.proofs.Computed.{text-length}
-use Rattle.short_histories.proofs.list.Statement.{statement}
-use Rattle.short_histories.proofs.list.Tie as tie
+use Rattle.short_histories.proofs.walk.list.Statement.{statement}
+use Rattle.short_histories.proofs.walk.list.Tie as tie
 
 returns : tie.Need-returns
 returns c = print-not text (c .before .before .args .out .now) (length text) (omega arith) (omega (arith, text-length, c .if1 .taken))
