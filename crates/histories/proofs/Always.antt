@@ -29,7 +29,7 @@ use Rattle.histories.proofs.Calls.{keep-deed}
 -- A step keeps the invariant, granted or refused.
 pub inv-step : (m : Machine) (c : Call) → Inv m → Inv (next m c)
 inv-step m c i =
-    ⊎-elim (λ w. subst Inv (sym (went-next m c w)) (keep-deed (m .state) (m .cells) (m .tags) i (went-core m c w) (went-cells m c w) (went-tags m c w) (deed (m .state) c (w .clear))))
+    ⊎-elim (λ w. subst Inv (sym (went-next m c w)) (keep-deed (m .state) (m .cells) (m .tags) i (went-core m c w) (went-cells m c w) (went-tags m c w) (deed (m .state) c (m .cells) (m .tags) (w .clear))))
     (λ n. subst Inv (sym (n .0)) i) (went-or-not m c)
 
 pub inv-run : (calls : List Call) (m : Machine) → Inv m → Inv (run m calls)

@@ -24,7 +24,7 @@ use Rattle.machine.specs.State.{State}
 use Rattle.machine.specs.Roles.{collects, Asked, asked, callerOf, IsCollect}
 use Rattle.machine.specs.Effects.{Effect}
 use Rattle.machine.specs.Step.{done, effectOn}
-use Rattle.machine.proofs.Deeds.{Recored, splits, merges, gives, revokes, maps, unmaps, reclaims, Deed, took, recored, swept, collectedAll, zeroed, filled, loaded, wrote, mailed, received, deed}
+use Rattle.machine.proofs.Deeds.{Recored, splits, merges, gives, revokes, maps, unmaps, reclaims, Deed, took, recored, swept, collectedAll, zeroed, filled, wrote, mailed, received, deed}
 use Rattle.histories.specs.Runs.{Machine, Granted, next, run}
 use Rattle.histories.specs.Inv.{rowAt}
 use Rattle.histories.specs.Lending.{lentRange, Ended, EndedBetween}
@@ -56,14 +56,13 @@ module _ (s : State) (ok : coreSound (s .core) ≡ true) where
   recored-carried k (unmaps page z) = carried-self t
   recored-carried k (reclaims x r) = carried-self t
 
-  pub deed-carried : {a : Asked} {e : Effect} → Deed s a e → Carried t (e .core .table) ⊎ (a .role ≡ collects)
+  pub deed-carried : {cells tags : List ℕ} {a : Asked} {e : Effect} → Deed s cells tags a e → Carried t (e .core .table) ⊎ (a .role ≡ collects)
   deed-carried (took p base reg permissions low-p low-reg few z) = inl (take-kept (s .core) ok p base (unfold takeOf in z))
   deed-carried (recored p k r) = inl (recored-carried k r)
   deed-carried (swept p n runs) = inl (carried-self t)
   deed-carried (collectedAll p z) = inr refl
   deed-carried (zeroed p frame z) = inl (carried-self t)
-  deed-carried (filled p d from w low g) = inl (carried-self t)
-  deed-carried (loaded p a off d low g) = inl (carried-self t)
+  deed-carried (filled p d from w answer low g) = inl (carried-self t)
   deed-carried (wrote p a off x low-p low-a g) = inl (carried-self t)
   deed-carried (mailed p x to q) = inl (carried-self t)
   deed-carried (received p d low) = inl (carried-self t)
@@ -80,7 +79,7 @@ pub record Ending (m : Machine) (c : Call) (r : Reservation) : Type 0 where
   pub from : revoked (m .state .core) .base ≤ r .base
   pub upto : r .base + r .length ≤ revoked (m .state .core) .base + revoked (m .state .core) .length
 
-pub done-table : (m : Machine) (c : Call) → Went m c → next m c .state .core .table ≡ effectOn (m .state) c .core .table
+pub done-table : (m : Machine) (c : Call) → Went m c → next m c .state .core .table ≡ effectOn (m .state) c (m .cells) (m .tags) .core .table
 unfolding done
 done-table m c w = ap (λ n. n .state .core .table) (went-next m c w)
 
@@ -127,9 +126,9 @@ step-lent m c r a =
     ⊎-elim
     (λ w.
     ⊎-elim
-    (λ k. inl (subst (λ u. Around u r) (sym (done-table m c w)) (around-further (m .state .core .table) (effectOn (m .state) c .core .table) r a (k .kept (a .row) (a .used) (a .lent)))))
+    (λ k. inl (subst (λ u. Around u r) (sym (done-table m c w)) (around-further (m .state .core .table) (effectOn (m .state) c (m .cells) (m .tags) .core .table) r a (k .kept (a .row) (a .used) (a .lent)))))
     (λ k. collect-lent m c (callerOf c) r (ap (asked (callerOf c)) k) w a)
-    (deed-carried (m .state) (went-core m c w) (deed (m .state) c (w .clear))))
+    (deed-carried (m .state) (went-core m c w) (deed (m .state) c (m .cells) (m .tags) (w .clear))))
     (λ n. inl (subst (λ x. Around (x .state .core .table) r) (sym (n .0)) a)) (went-or-not m c)
 
 pub went-granted : (m : Machine) (c : Call) → Went m c → Granted m c

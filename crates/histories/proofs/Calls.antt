@@ -43,9 +43,9 @@ use Rattle.claims.specs.Claims.{Claims}
 use Rattle.reservations.proofs.ClaimsApart.{dying-apart}
 use Rattle.machine.specs.State.{State}
 use Rattle.machine.specs.Roles.{Asked}
-use Rattle.machine.specs.Effects.{Effect, withTable, withPages, withClaims, sweptTo, taking, RegisterChange, keepRegisters, putRegister, fetchInto, MailboxChange, keepMailboxes, putMailbox, keepMemory, effectOf}
-use Rattle.machine.specs.Step.{done, registersAfter, mailboxesAfter, cellsAfter, tagsAfter}
-use Rattle.machine.proofs.Deeds.{coreAlone, sweeping, collecting, zeroing, loading, storing, Recored, splits, merges, gives, revokes, maps, unmaps, reclaims, aimedAt, Deed, took, recored, swept, collectedAll, zeroed, filled, loaded, wrote, mailed, received}
+use Rattle.machine.specs.Effects.{Effect, withTable, withPages, withClaims, sweptTo, taking, RegisterChange, keepRegisters, putRegister, MailboxChange, keepMailboxes, putMailbox, keepMemory, effectOf}
+use Rattle.machine.specs.Step.{done, registersAfter, mailboxesAfter, writtenCells, writtenTags, cellsAfter, tagsAfter}
+use Rattle.machine.proofs.Deeds.{coreAlone, sweeping, collecting, zeroing, storing, Recored, splits, merges, gives, revokes, maps, unmaps, reclaims, aimedAt, Deed, took, recored, swept, collectedAll, zeroed, filled, wrote, mailed, received}
 use Rattle.machine.proofs.Found.{Addressing}
 use Rattle.machine.proofs.PagesKept.{zero-clear}
 use Rattle.histories.specs.Runs.{Machine, machine}
@@ -56,7 +56,7 @@ use Rattle.histories.proofs.Carrying.{row-fits, split-kept, merge-kept,
 use Rattle.histories.proofs.Keep.{Blank, none-sound, carried-sound, place-sound, place-below, keep-table, keep-begun, keep-pages, keep-write, keep-clear, keep-sweep, collect-sound, keep-ended}
 use Rattle.histories.proofs.Granted.{handed}
 use Rattle.histories.proofs.Layer.{map-done, map-view, map-free, unmap-done, unmap-view, unmap-free, freed-shows, freed-free, released-shows, released-free, none-shown}
-use Rattle.histories.proofs.Held.{Narrows, Holds, InRegister, InMailbox, none, kept, of-register, of-mailbox, registers-hold, mailboxes-hold, filling-holds}
+use Rattle.histories.proofs.Held.{Narrows, Holds, OfLoad, InRegister, InMailbox, none, kept, of-register, of-mailbox, registers-hold, mailboxes-hold, filling-holds}
 use Rattle.histories.proofs.Findings.{Ends, ends, further, made-confined, narrowed-confined, revoke-parts, row-first, short-of, take-length}
 
 module _ (s : State) (cells tags : List ℕ) (inv : Inv (machine s cells tags)) where
@@ -163,24 +163,23 @@ module _ (s : State) (cells tags : List ℕ) (inv : Inv (machine s cells tags)) 
     confined : Holds (Confined t) s
     confined = record { registers = inv .registers; mailboxes = inv .mailboxes }
 
-    held-change : (x : RegisterChange) (b : MailboxChange) (w : Slot) → InRegister (Confined t) s confined cells tags x → InMailbox (Confined t) s confined cells tags b → Inv (after (effectOf c x b keepMemory w))
+    held-change : (x : RegisterChange) (b : MailboxChange) (w : Slot) → InRegister (Confined t) s confined x → InMailbox (Confined t) s confined b → Inv (after (effectOf c x b keepMemory w))
     unfolding done cellsAfter tagsAfter
     held-change x b w r m =
-        record { registers = registers-hold (Confined t) s confined cells tags x r; mailboxes = mailboxes-hold (Confined t) s confined cells tags b m; memory = inv .memory }
+        record { registers = registers-hold (Confined t) s confined x r; mailboxes = mailboxes-hold (Confined t) s confined b m; memory = inv .memory }
 
     narrower : Narrows (Confined t)
     narrower x off len mask some ends starts k = narrowed-confined t x off len mask k some ends starts
 
-    keep-load : (p a off d : ℕ) → Addressing c (registerOf (s .registers) p a) off → Inv (after (loading s p a off d))
-    keep-load p a off d g =
+    load-confined : OfLoad (Confined t) s cells tags
+    load-confined p a off g =
         let w = registerOf (s .registers) p a in
-        held-change (fetchInto p d (aimedAt s p a off) w) keepMailboxes empty
-        (kept (Confined t) (wordAt cells tags (aimedAt s p a off)) _ (place-sound c cells tags (inv .memory) (baseOf (w .cell) + off) (aimedAt s p a off) (g .place))) tt
+        kept (Confined t) (wordAt cells tags (aimedAt s p a off)) _ (place-sound c cells tags (inv .memory) (baseOf (w .cell) + off) (aimedAt s p a off) (g .place))
 
     -- 0C store.
     keep-store : (p a off r : ℕ) → Addressing c (registerOf (s .registers) p a) off
         → Inv (after (storing s p a off r))
-    unfolding done registersAfter mailboxesAfter cellsAfter tagsAfter
+    unfolding done registersAfter mailboxesAfter writtenCells writtenTags cellsAfter tagsAfter
     keep-store p a off r g =
         let w = registerOf (s .registers) p a in
         let x = registerOf (s .registers) p r in
@@ -320,14 +319,14 @@ module _ (s : State) (cells tags : List ℕ) (inv : Inv (machine s cells tags)) 
     keep-recored k (reclaims x r) = keep-claims x
 
     -- Whatever a granted call does keeps the invariant.
-    pub keep-deed : {a : Asked} {e : Effect} → Deed s a e → Inv (after e)
+    pub keep-deed : {a : Asked} {e : Effect} → Deed s cells tags a e → Inv (after e)
     keep-deed (took p base reg permissions low-p low-reg few z) = keep-take p base reg permissions few z
     keep-deed (recored p k r) = keep-recored k r
     keep-deed (swept p n runs) = keep-swept n
     keep-deed (collectedAll p z) = keep-collect z
     keep-deed (zeroed p frame z) = keep-zero frame z
-    keep-deed (filled p d from w low g) = held-change (putRegister p d w) keepMailboxes empty (filling-holds (Confined t) s confined cells tags narrower p g) tt
-    keep-deed (loaded p a off d low g) = keep-load p a off d g
+    keep-deed (filled p d from w answer low g) =
+        held-change (putRegister p d w) keepMailboxes answer (filling-holds (Confined t) s confined cells tags narrower load-confined p g) tt
     keep-deed (wrote p a off x low-p low-a g) = keep-store p a off x g
     keep-deed (mailed p x to e) = held-change keepRegisters (putMailbox to (registerOf (s .registers) p x)) empty tt (of-register (Confined t) s confined p x)
     keep-deed (received p d low) = held-change (putRegister p d (mailboxOf (s .mailboxes) p)) (putMailbox p empty) (mailboxOf (s .mailboxes) p) (of-mailbox (Confined t) s confined p) (none (Confined t) empty refl)

@@ -93,7 +93,7 @@ step-freed n low m c is =
     (λ w.
     ⊎-elim (λ k. inl (done-pages m c w n ∙ k))
     (λ k. collect-freed m c (callerOf c) n (ap (asked (callerOf c)) k) w low is)
-    (fate-freed (m .state .core) (effectOn (m .state) c .core) n (roleOf c) is (deed-page (m .state) (went-core m c w) n low (deed (m .state) c (w .clear)))))
+    (fate-freed (m .state .core) (effectOn (m .state) c (m .cells) (m .tags) .core) n (roleOf c) is (deed-page (m .state) (went-core m c w) n low (deed (m .state) c (m .cells) (m .tags) (w .clear)))))
     (λ k. inl (ap (λ x. pageAt (x .state .core .pages) n) (k .0) ∙ is)) (went-or-not m c)
 
 module _ (m : Machine) (p : ℕ) (page : VirtualPage) (w : Went m (Unmap p page)) where

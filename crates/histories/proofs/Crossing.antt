@@ -32,7 +32,7 @@ pub free-is-zero : FreeIsZero
 free-is-zero m r k i e b = let z = inv-reached m r .memory .free k i e b in record { cell = z .0; tag = z .1 }
 
 done-is-zero : (m : Machine) → Reached m → (p : ℕ) (page : VirtualPage) (frame : Frame) → Went m (Map p page frame) → (i : ℕ) → i < 16
-    → ShowsZero (handed (done (m .state) (effectOn (m .state) (Map p page frame)) (m .cells) (m .tags))) (16 * page .0 + i)
+    → ShowsZero (handed (done (m .state) (effectOn (m .state) (Map p page frame) (m .cells) (m .tags)) (m .cells) (m .tags))) (16 * page .0 + i)
 unfolding effect done registersAfter mailboxesAfter cellsAfter tagsAfter
 done-is-zero m r p page frame w i b =
     let pages = m .state .core .pages in

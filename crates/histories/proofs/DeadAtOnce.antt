@@ -5,6 +5,7 @@ use Prim.Native.Nat.{ℕ, _+_, _≤_, _<_}
 use native.Mathlib.Omega.{arith}
 use mathlib.Core.Bool.{Bool, true, false, not, _&&_, true≢false}
 use mathlib.Core.Logic.{_⊎_, inl, inr, ⊎-elim}
+use mathlib.Core.List.{List}
 use mathlib.Core.Path.{_≡_, refl, sym, ap, subst, _∙_}
 use borrow.Author.Tests.{not-true}
 use lib.ListN.{length}
@@ -29,7 +30,7 @@ use Rattle.words.specs.Words.{registerOf, wordAt}
 use Rattle.machine.specs.State.{State}
 use Rattle.machine.specs.Roles.{collects, Asked, asked, roleOf, callerOf}
 use Rattle.machine.specs.Effects.{Effect}
-use Rattle.machine.proofs.Deeds.{Recored, splits, merges, gives, revokes, maps, unmaps, reclaims, aimedAt, Deed, took, recored, swept, collectedAll, zeroed, filled, loaded, wrote, mailed, received, deed}
+use Rattle.machine.proofs.Deeds.{Recored, splits, merges, gives, revokes, maps, unmaps, reclaims, aimedAt, Deed, took, recored, swept, collectedAll, zeroed, filled, wrote, mailed, received, deed}
 use Rattle.histories.specs.Runs.{Machine, next, run}
 use Rattle.histories.specs.Live.{Spot, register, mailbox, virtual, wordIn, Live, Into}
 use Rattle.histories.specs.Inv.{Inv, rowAt, Confined}
@@ -78,14 +79,13 @@ module _ (s : State) (ok : coreSound (s .core) ≡ true) (run : running (s .core
   recored-still k (unmaps page z) = refl
   recored-still k (reclaims x r) = refl
 
-  deed-still : {a : Asked} {e : Effect} → Deed s a e → Still (e .core) ⊎ (a .role ≡ collects)
+  deed-still : {cells tags : List ℕ} {a : Asked} {e : Effect} → Deed s cells tags a e → Still (e .core) ⊎ (a .role ≡ collects)
   deed-still (took p base reg permissions low-p low-reg few z) = inl (take-still _ (s .core .table) (core-facts (s .core) ok .rows) p base)
   deed-still (recored p k r) = inl (recored-still k r)
   deed-still (swept p n runs) = inl refl
   deed-still (collectedAll p z) = inr refl
   deed-still (zeroed p frame z) = inl refl
-  deed-still (filled p d from w low g) = inl refl
-  deed-still (loaded p a off d low g) = inl refl
+  deed-still (filled p d from w answer low g) = inl refl
   deed-still (wrote p a off x low-p low-a g) = inl refl
   deed-still (mailed p x to t) = inl refl
   deed-still (received p d low) = inl refl
@@ -127,7 +127,7 @@ module _ (r : Range) (m : Machine) (q : Quiet r m) where
       ⊎-elim
       (λ w.
       let n = next m call in
-      let d = deed (m .state) call (w .clear) in
+      let d = deed (m .state) call (m .cells) (m .tags) (w .clear) in
       ⊎-elim
       (λ still.
       let same : dyings (live (n .state .core .table)) ≡ dyings (live (c .table)) = ap (λ t. dyings (live t)) (done-table m call w) ∙ still in

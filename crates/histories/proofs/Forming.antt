@@ -92,10 +92,10 @@ pub standing-ruled : (m : Machine) (v f : ℕ) (c : Call) → Standing m v f →
 unfolding outcome stepOf judged
 standing-ruled m v f c k = rw (k .formed, standing-serves m v f k)
 
-pub standing-code : (m : Machine) (v f : ℕ) (c : Call) → Standing m v f → outcome m c .answer .code ≡ first (reasonsOn (m .state) c)
+pub standing-code : (m : Machine) (v f : ℕ) (c : Call) → Standing m v f → outcome m c .answer .code ≡ first (reasonsOn (m .state) c (m .cells) (m .tags))
 standing-code m v f c k = ap (λ o. o .answer .code) (standing-ruled m v f c k) ∙ ruled-code (m .state) c (m .cells) (m .tags)
 
 pub never-unformed : NeverUnformed
 never-unformed m r c =
     let e = standing-code m (r .v) (r .f) c (always-formed m r) in
-    ⊎-elim (λ z. inl (e ∙ z)) (λ z. inr (subst (λ n. 3 < n) (sym e) (z .0))) (first-within 3 lastRefusal (reasonsOn (m .state) c) (reasons-rise (m .state) c) .1)
+    ⊎-elim (λ z. inl (e ∙ z)) (λ z. inr (subst (λ n. 3 < n) (sym e) (z .0))) (first-within 3 lastRefusal (reasonsOn (m .state) c (m .cells) (m .tags)) (reasons-rise (m .state) c (m .cells) (m .tags)) .1)

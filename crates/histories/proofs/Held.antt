@@ -15,9 +15,9 @@ use Rattle.words.specs.declared.Slot.{Slot}
 use Rattle.words.specs.Words.{slot, empty, named, registerOf, mailboxOf, keepTag, collectedMailbox}
 use Rattle.machine.specs.State.{State}
 use Rattle.machine.specs.Roles.{Sources, takes, Asked, asked}
-use Rattle.machine.specs.Effects.{RegisterChange, keepRegisters, putRegister, fetchInto, collectRegisters, MailboxChange, keepMailboxes, putMailbox, collectMailboxes, Effect}
-use Rattle.machine.specs.Step.{fetched, done, registersAfter, mailboxesAfter}
-use Rattle.machine.proofs.Deeds.{Filling, narrows, numbers, aimedAt, Deed, took, recored, swept, collectedAll, zeroed, filled, loaded, wrote, mailed, received}
+use Rattle.machine.specs.Effects.{RegisterChange, keepRegisters, putRegister, collectRegisters, MailboxChange, keepMailboxes, putMailbox, collectMailboxes, Effect}
+use Rattle.machine.specs.Step.{done, registersAfter, mailboxesAfter}
+use Rattle.machine.proofs.Deeds.{loadedBy, Filling, loads, narrows, numbers, Deed, took, recored, swept, collectedAll, zeroed, filled, wrote, mailed, received}
 use Rattle.machine.proofs.Found.{Addressing}
 use Rattle.histories.proofs.View.{put-each, collected-registers, collected-mailboxes}
 
@@ -41,7 +41,7 @@ OfTake Q s a = (p base reg permissions : ℕ) → a ≡ asked p (takes base reg 
 abbrev pub OfLoad : (ℕ → Type 0) → State → List ℕ → List ℕ → Type 0
 OfLoad Q s cells tags =
     (p a off : ℕ) → Addressing (s .core) (registerOf (s .registers) p a) off
-    → Tagged Q (fetched (s .core) cells tags (aimedAt s p a off) (registerOf (s .registers) p a))
+    → Tagged Q (loadedBy s cells tags p a off)
 
 module _ (Q : ℕ → Type 0) where
   pub none : (w : Slot) → w .tag ≡ false → Tagged Q w
@@ -70,53 +70,51 @@ module _ (Q : ℕ → Type 0) where
     unfolding mailboxOf
     of-mailbox p = old .mailboxes p
 
+    -- What is put into a register, and into a mailbox, has it.
+    abbrev pub InRegister : RegisterChange → Type 0
+    InRegister keepRegisters = Unit {0}
+    InRegister (putRegister p r w) = Tagged Q w
+    InRegister collectRegisters = Unit {0}
+
+    abbrev pub InMailbox : MailboxChange → Type 0
+    InMailbox keepMailboxes = Unit {0}
+    InMailbox (putMailbox p w) = Tagged Q w
+    InMailbox collectMailboxes = Unit {0}
+
+    pub registers-hold : (x : RegisterChange) → InRegister x → (i : ℕ) → Tagged Q (getD (registersAfter x s) i empty)
+    unfolding registersAfter
+    registers-hold keepRegisters new i = old .registers i
+    registers-hold (putRegister p r w) new i = put-each (Tagged Q) (s .registers) (8 * p + r) w new (old .registers) i
+    registers-hold collectRegisters new i =
+        subst (Tagged Q) (sym (collected-registers (s .core) (s .registers) i)) (kept (getD (s .registers) i empty) _ (old .registers i))
+
+    pub mailboxes-hold : (x : MailboxChange) → InMailbox x → (p : ℕ) → Tagged Q (getD (mailboxesAfter x s) p empty)
+    unfolding mailboxesAfter
+    mailboxes-hold keepMailboxes new p = old .mailboxes p
+    mailboxes-hold (putMailbox q w) new p = put-each (Tagged Q) (s .mailboxes) q w new (old .mailboxes) p
+    mailboxes-hold collectMailboxes new p =
+        subst (Tagged Q) (sym (collected-mailboxes (s .core) (s .mailboxes) p)) (gone (s .core) (getD (s .mailboxes) p empty) (old .mailboxes p))
+
     module _ (cells tags : List ℕ) where
-      -- What is put into a register, and into a mailbox, has it.
-      abbrev pub InRegister : RegisterChange → Type 0
-      InRegister keepRegisters = Unit {0}
-      InRegister (putRegister p r w) = Tagged Q w
-      InRegister (fetchInto p r at a) = Tagged Q (fetched (s .core) cells tags at a)
-      InRegister collectRegisters = Unit {0}
-
-      abbrev pub InMailbox : MailboxChange → Type 0
-      InMailbox keepMailboxes = Unit {0}
-      InMailbox (putMailbox p w) = Tagged Q w
-      InMailbox collectMailboxes = Unit {0}
-
-      pub registers-hold : (x : RegisterChange) → InRegister x → (i : ℕ) → Tagged Q (getD (registersAfter x s cells tags) i empty)
-      unfolding registersAfter
-      registers-hold keepRegisters new i = old .registers i
-      registers-hold (putRegister p r w) new i = put-each (Tagged Q) (s .registers) (8 * p + r) w new (old .registers) i
-      registers-hold (fetchInto p r at a) new i = put-each (Tagged Q) (s .registers) (8 * p + r) (fetched (s .core) cells tags at a) new (old .registers) i
-      registers-hold collectRegisters new i =
-          subst (Tagged Q) (sym (collected-registers (s .core) (s .registers) i)) (kept (getD (s .registers) i empty) _ (old .registers i))
-
-      pub mailboxes-hold : (x : MailboxChange) → InMailbox x → (p : ℕ) → Tagged Q (getD (mailboxesAfter x s) p empty)
-      unfolding mailboxesAfter
-      mailboxes-hold keepMailboxes new p = old .mailboxes p
-      mailboxes-hold (putMailbox q w) new p = put-each (Tagged Q) (s .mailboxes) q w new (old .mailboxes) p
-      mailboxes-hold collectMailboxes new p =
-          subst (Tagged Q) (sym (collected-mailboxes (s .core) (s .mailboxes) p)) (gone (s .core) (getD (s .mailboxes) p empty) (old .mailboxes p))
-
-      pub filling-holds : Narrows Q → (p : ℕ) {from : Sources} {w : Slot} → Filling s p from w → Tagged Q w
-      filling-holds narrower p (narrows x off len mask g) =
+      pub filling-holds : Narrows Q → OfLoad Q s cells tags → (p : ℕ) {from : Sources} {w answer : Slot} → Filling s cells tags p from w answer → Tagged Q w
+      filling-holds narrower load p (loads a off g) = load p a off g
+      filling-holds narrower load p (narrows x off len mask g) =
           λ e. narrower (registerOf (s .registers) p x .cell) off len mask (g .some) (g .ends) (g .starts) (of-register p x (g .tagged))
-      filling-holds narrower p (numbers value) = none (slot value false) refl
+      filling-holds narrower load p (numbers value) = none (slot value false) refl
 
-      puts-held : Narrows Q → {a : Asked} {e : Effect} → Deed s a e → OfTake Q s a → OfLoad Q s cells tags → InRegister (e .registers) × InMailbox (e .mailboxes)
+      puts-held : Narrows Q → {a : Asked} {e : Effect} → Deed s cells tags a e → OfTake Q s a → OfLoad Q s cells tags → InRegister (e .registers) × InMailbox (e .mailboxes)
       puts-held narrower (took p base reg permissions low-p low-reg few z) new load = (λ x. new p base reg permissions refl, tt)
       puts-held narrower (recored p k r) new load = (tt, tt)
       puts-held narrower (swept p n runs) new load = (tt, tt)
       puts-held narrower (collectedAll p z) new load = (tt, tt)
       puts-held narrower (zeroed p frame z) new load = (tt, tt)
-      puts-held narrower (filled p d from w low g) new load = (filling-holds narrower p g, tt)
-      puts-held narrower (loaded p a off d low g) new load = (load p a off g, tt)
+      puts-held narrower (filled p d from w answer low g) new load = (filling-holds narrower load p g, tt)
       puts-held narrower (wrote p a off x low-p low-a g) new load = (tt, tt)
       puts-held narrower (mailed p x to t) new load = (tt, of-register p x)
       puts-held narrower (received p d low) new load = (of-mailbox p, none empty refl)
 
       -- Whatever a granted call does.
-      pub deed-holds : Narrows Q → {a : Asked} {e : Effect} → Deed s a e → OfTake Q s a → OfLoad Q s cells tags → Holds Q (done s e cells tags .answer .state)
+      pub deed-holds : Narrows Q → {a : Asked} {e : Effect} → Deed s cells tags a e → OfTake Q s a → OfLoad Q s cells tags → Holds Q (done s e cells tags .answer .state)
       unfolding done
       deed-holds narrower {a} {e} d new load =
           let (r, b) = puts-held narrower d new load in

@@ -24,7 +24,7 @@ use Rattle.words.specs.declared.Slot.{Slot}
 use Rattle.words.specs.Words.{slot, empty}
 use Rattle.machine.specs.Roles.{IsTake}
 use Rattle.machine.specs.Effects.{taking}
-use Rattle.machine.specs.Step.{done, effectOn, wordAfter, registersAfter, mailboxesAfter, cellsAfter, tagsAfter}
+use Rattle.machine.specs.Step.{done, effectOn, registersAfter, mailboxesAfter, cellsAfter, tagsAfter}
 use Rattle.machine.proofs.Deeds.{Taken, taken-by}
 use Rattle.machine.proofs.Keeps.{facts}
 use Rattle.histories.specs.Runs.{Machine, outcome, next}
@@ -55,8 +55,8 @@ module _ (m : Machine) (take : Call) (p base reg permissions : ℕ) (is : IsTake
   abbrev lentWord : Slot
   lentWord = slot (capability base (takeOf t p base .length) permissions) true
 
-  taken : Taken (m .state) p base reg permissions (effectOn (m .state) take)
-  taken = taken-by (m .state) take p base reg permissions is (w .clear)
+  taken : Taken (m .state) p base reg permissions (effectOn (m .state) take (m .cells) (m .tags))
+  taken = taken-by (m .state) take (m .cells) (m .tags) p base reg permissions is (w .clear)
 
   -- What it leaves, and its answer.
   took-now : outcome m take ≡ done (m .state) (taking (m .state .core) p base reg permissions) (m .cells) (m .tags)
@@ -75,7 +75,7 @@ module _ (m : Machine) (take : Call) (p base reg permissions : ℕ) (is : IsTake
   take-table = ap (λ x. x .state .core .table) took-next
 
   pub take-number : outcome m take .answer .number ≡ takeOf t p base .length
-  unfolding done wordAfter
+  unfolding done
   take-number = ap (λ o. o .answer .number) took-now
 
   pub lends : Lends m take p base

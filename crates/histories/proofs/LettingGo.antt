@@ -45,34 +45,34 @@ pub data Touches (s : State) : Call → Claims → Type 0 where
 after-page : (a b : Bool) (rest : List Reason) → first (reason 4 a ∷ reason 12 b ∷ rest) ≡ 0 → (b ≡ false) × (first rest ≡ 0)
 after-page a b rest z = first-clear 12 b rest (λ x. omega arith) (first-clear 4 a (reason 12 b ∷ rest) (λ x. omega arith) z .1)
 
-pub touches : (s : State) (c : Call) → first (reasonsOn s c) ≡ 0 → Touches s c (effectOn s c .core .claims)
+pub touches : (s : State) (c : Call) (cells tags : List ℕ) → first (reasonsOn s c cells tags) ≡ 0 → Touches s c (effectOn s c cells tags .core .claims)
 unfolding reasons effect
-touches s (Take p base reg) z = kept
-touches s (Split p base len) z = kept
-touches s (Merge p base) z = kept
-touches s (Give p base to) z = kept
-touches s (Revoke p base) z = subst (Touches s (Revoke p base)) (sym (revoke-claims (s .core) p base)) kept
-touches s (Sweep p n) z = kept
-touches s (Collect p) z = subst (Touches s (Collect p)) (sym (collect-claims (s .core))) kept
-touches s (Map p page frame) z = kept
-touches s (Unmap p page) z = kept
-touches s (Zero p frame) z = kept
-touches s (Load p a off d) z = kept
-touches s (Store p a off x) z = kept
-touches s (Narrow p x off len mask d) z = kept
-touches s (Number p d value) z = kept
-touches s (Grant p x to) z = kept
-touches s (Receive p d) z = kept
-touches s (TakeMasked p base reg mask) z = kept
-touches s (Create p parent child limit holder) z =
+touches s (Take p base reg) cells tags z = kept
+touches s (Split p base len) cells tags z = kept
+touches s (Merge p base) cells tags z = kept
+touches s (Give p base to) cells tags z = kept
+touches s (Revoke p base) cells tags z = subst (Touches s (Revoke p base)) (sym (revoke-claims (s .core) p base)) kept
+touches s (Sweep p n) cells tags z = kept
+touches s (Collect p) cells tags z = subst (Touches s (Collect p)) (sym (collect-claims (s .core))) kept
+touches s (Map p page frame) cells tags z = kept
+touches s (Unmap p page) cells tags z = kept
+touches s (Zero p frame) cells tags z = kept
+touches s (Load p a off d) cells tags z = kept
+touches s (Store p a off x) cells tags z = kept
+touches s (Narrow p x off len mask d) cells tags z = kept
+touches s (Number p d value) cells tags z = kept
+touches s (Grant p x to) cells tags z = kept
+touches s (Receive p d) cells tags z = kept
+touches s (TakeMasked p base reg mask) cells tags z = kept
+touches s (Create p parent child limit holder) cells tags z =
     let rest = createReasons (s .core .claims) p parent child limit in
     created p parent child limit holder (first-clear 4 (unnamed p || unnamed holder) rest (λ x. omega arith) z .1)
-touches s (Claim p q page) z =
+touches s (Claim p q page) cells tags z =
     let (low, clear) = after-page (unnamed p) (noPage (s .core .pages) page) (claimReasons (s .core .claims) p q (page .0)) z in
     counted p q page (leb-false (s .core .pages .v) (page .0) low) clear
-touches s (Release p q page) z =
+touches s (Release p q page) cells tags z =
     released p q page (after-page (unnamed p) (noPage (s .core .pages) page) (releaseReasons (s .core .claims) p q (page .0)) z .1)
-touches s (Destroy p q) z = destroyed p q (first-clear 4 (unnamed p) (destroyReasons (s .core .claims) p q) (λ x. omega arith) z .1)
+touches s (Destroy p q) cells tags z = destroyed p q (first-clear 4 (unnamed p) (destroyReasons (s .core .claims) p q) (λ x. omega arith) z .1)
 
 -- One principal's count of one page, or another one.
 same-place : (q p k n : ℕ) (P : Type 0) → (q ≡ p → k ≡ n → P) → (((q ≡ p) × (k ≡ n) → ⊥) → P) → P

@@ -88,7 +88,7 @@ module _ (m : Machine) (s : ReservationState) (p v f : ℕ) (like : alike s s �
   named : unnamed p ≡ false
   named = sym (ap (λ n. unnamed n) (a .holder 0 (omega arith))) ∙ holder-named (16 * m .state .core .pages .v) t rows 0 (omega arith)
 
-  no-reason : first (reasonsOn (m .state) (Merge p 0)) ≡ 0
+  no-reason : first (reasonsOn (m .state) (Merge p 0) (m .cells) (m .tags)) ≡ 0
   unfolding reasons first mergeReasons mergeReasonsAt
   no-reason = rw (named, found, joins)
 

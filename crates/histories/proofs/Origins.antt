@@ -23,8 +23,8 @@ use Rattle.words.specs.Words.{slot, empty, registerOf, wordAt, stored}
 use Rattle.machine.specs.State.{State}
 use Rattle.machine.specs.Roles.{Asked, roleOf}
 use Rattle.machine.specs.Effects.{keepMemory, Effect, sweptTo}
-use Rattle.machine.specs.Step.{done, cellsAfter, tagsAfter}
-use Rattle.machine.proofs.Deeds.{coreAlone, sweeping, collecting, zeroing, storing, Recored, aimedAt, Deed, took, recored, swept, collectedAll, zeroed, filled, loaded, wrote, mailed, received, deed}
+use Rattle.machine.specs.Step.{done, writtenCells, writtenTags, cellsAfter, tagsAfter}
+use Rattle.machine.proofs.Deeds.{coreAlone, sweeping, collecting, zeroing, storing, Recored, aimedAt, Deed, took, recored, swept, collectedAll, zeroed, filled, wrote, mailed, received, deed}
 use Rattle.machine.proofs.Found.{Addressing}
 use Rattle.machine.proofs.PagesKept.{zero-clear}
 use Rattle.histories.specs.Runs.{Machine, machine, next}
@@ -107,7 +107,7 @@ module _ (Q : ℕ → Type 0) where
           subst (Tagged Q) (sym (clear-word c cells tags (inv .memory) layer of-cells of-tags frame low dirty v at q)) (place v at q))
 
       came-store : (p a off r : ℕ) → Addressing c (registerOf (s .registers) p a) off → Shows (storing s p a off r)
-      unfolding cellsAfter tagsAfter
+      unfolding writtenCells writtenTags cellsAfter tagsAfter
       came-store p a off r g v =
           let v₀ = baseOf (registerOf (s .registers) p a .cell) + off in
           let x = registerOf (s .registers) p r in
@@ -121,20 +121,19 @@ module _ (Q : ℕ → Type 0) where
       unfolding cellsAfter tagsAfter
       same-shown v = old (virtual v)
 
-      shows-after : {a : Asked} {e : Effect} → Deed s a e → Shows e
+      shows-after : {a : Asked} {e : Effect} → Deed s cells tags a e → Shows e
       shows-after (took p base reg permissions low-p low-reg few z) = same-shown
       shows-after (recored p k r) = came-recored k r
       shows-after (swept p n runs) = came-sweep n
       shows-after (collectedAll p z) = came-collect z
       shows-after (zeroed p frame z) = came-zero frame z
-      shows-after (filled p d from w low g) = same-shown
-      shows-after (loaded p a off d low g) = same-shown
+      shows-after (filled p d from w answer low g) = same-shown
       shows-after (wrote p a off x low-p low-a g) = came-store p a off x g
       shows-after (mailed p x to t) = same-shown
       shows-after (received p d low) = same-shown
 
       -- Whatever a granted call does.
-      pub deed-came : Narrows Q → {a : Asked} {e : Effect} → Deed s a e → OfTake Q s a → All Q (handed (done s e cells tags))
+      pub deed-came : Narrows Q → {a : Asked} {e : Effect} → Deed s cells tags a e → OfTake Q s a → All Q (handed (done s e cells tags))
       deed-came narrower d new = spots _ (deed-holds Q s held cells tags narrower d new of-load) (unfold done in shows-after d)
 
 -- A step, granted or refused: what holds of every live capability, and of each narrower one, holds after it, if it holds of the one that
@@ -142,5 +141,5 @@ module _ (Q : ℕ → Type 0) where
 pub step-came : (Q : ℕ → Type 0) → Narrows Q → (m : Machine) (c : Call) → Inv m → All Q m → (Went m c → OfTake Q (m .state) (roleOf c)) → All Q (next m c)
 step-came Q narrower m c inv old new =
     ⊎-elim
-    (λ w. subst (All Q) (sym (went-next m c w)) (deed-came Q (m .state) (m .cells) (m .tags) inv old (went-core m c w) (went-cells m c w) (went-tags m c w) narrower (deed (m .state) c (w .clear)) (new w)))
+    (λ w. subst (All Q) (sym (went-next m c w)) (deed-came Q (m .state) (m .cells) (m .tags) inv old (went-core m c w) (went-cells m c w) (went-tags m c w) narrower (deed (m .state) c (m .cells) (m .tags) (w .clear)) (new w)))
     (λ n. subst (All Q) (sym (n .0)) old) (went-or-not m c)

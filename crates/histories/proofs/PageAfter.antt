@@ -3,7 +3,7 @@
 use Prim.Native.Nat.{ℕ, _<_}
 use native.Mathlib.Omega.{arith}
 use mathlib.Core.Bool.{Bool, true, false, not, _&&_, false≢true, and-false}
-use mathlib.Core.List.{[]}
+use mathlib.Core.List.{List, []}
 use mathlib.Core.Path.{_≡_, refl, sym, ap, _∙_}
 use borrow.Author.Tests.{eqb-true, eqb-false}
 use lib.Dec.{eqb}
@@ -36,7 +36,7 @@ use Rattle.machine.specs.State.{State}
 use Rattle.machine.specs.Roles.{collects, plain, Asked, asked}
 use Rattle.machine.specs.Effects.{Effect, withPages}
 use Rattle.machine.specs.Step.{done, effectOn}
-use Rattle.machine.proofs.Deeds.{Recored, splits, merges, gives, revokes, maps, unmaps, reclaims, Deed, took, recored, swept, collectedAll, zeroed, filled, loaded, wrote, mailed, received}
+use Rattle.machine.proofs.Deeds.{Recored, splits, merges, gives, revokes, maps, unmaps, reclaims, Deed, took, recored, swept, collectedAll, zeroed, filled, wrote, mailed, received}
 use Rattle.histories.specs.Runs.{Machine, next}
 use Rattle.histories.proofs.Findings.{Ends, ends, revoke-parts}
 use Rattle.histories.proofs.Granted.{Went, went-next}
@@ -132,19 +132,18 @@ module _ (s : State) (ok : coreSound (s .core) ≡ true) (n : ℕ) (low : n < 25
   recored-page a k (unmaps page z) = unmap-fate a page z
   recored-page a k (reclaims x r) = stays refl
 
-  pub deed-page : {a : Asked} {e : Effect} → Deed s a e → PageFate c n a (e .core)
+  pub deed-page : {cells tags : List ℕ} {a : Asked} {e : Effect} → Deed s cells tags a e → PageFate c n a (e .core)
   deed-page (took p base reg permissions low-p low-reg few z) = stays refl
   deed-page (recored p k r) = recored-page (asked p plain) k r
   deed-page (swept p x runs) = stays refl
   deed-page (collectedAll p z) = collect-fate (asked p collects) refl (unfold collectOf in z)
   deed-page (zeroed p frame z) = stays (page-of-frame pages (frame .0) n _)
-  deed-page (filled p d from w low-d g) = stays refl
-  deed-page (loaded p a off d low-d g) = stays refl
+  deed-page (filled p d from w answer low-d g) = stays refl
   deed-page (wrote p a off x low-p low-a g) = stays refl
   deed-page (mailed p x to t) = stays refl
   deed-page (received p d low-d) = stays refl
 
 -- The page after a granted call.
-pub done-pages : (m : Machine) (c : Call) → Went m c → (n : ℕ) → pageAt (next m c .state .core .pages) n ≡ pageAt (effectOn (m .state) c .core .pages) n
+pub done-pages : (m : Machine) (c : Call) → Went m c → (n : ℕ) → pageAt (next m c .state .core .pages) n ≡ pageAt (effectOn (m .state) c (m .cells) (m .tags) .core .pages) n
 unfolding done
 done-pages m c w n = ap (λ x. pageAt (x .state .core .pages) n) (went-next m c w)

@@ -3,6 +3,7 @@
 use Prim.Native.Nat.{ℕ, zero, suc, _<_, _≤_}
 use native.Mathlib.Omega.{arith}
 use mathlib.Core.Bool.{Bool, true, false}
+use mathlib.Core.List.{List}
 use mathlib.Core.Path.{_≡_, refl, sym, ap, subst, _∙_}
 use borrow.Author.Tests.{eqb-true, eqb-false, ltb-true, ltb-false, lt-leb}
 use lib.Dec.{eqb, ltb}
@@ -32,7 +33,7 @@ use Rattle.histories.proofs.SoleClaims.{top-low, top-clear, top-gone, t
 
 -- A call against which there is no reason, and which changes the claims alone.
 module _ (m : Machine) (v f : ℕ) (k : Standing m v f) (call : Call) (x : Claims)
-    (clear : first (reasonsOn (m .state) call) ≡ 0) (is : effectOn (m .state) call ≡ claimsChange (m .state .core) x) where
+    (clear : first (reasonsOn (m .state) call (m .cells) (m .tags)) ≡ 0) (is : effectOn (m .state) call (m .cells) (m .tags) ≡ claimsChange (m .state .core) x) where
   reclaim-goes : Granted m call
   reclaim-goes = standing-code m v f call k ∙ clear
 
@@ -41,20 +42,20 @@ module _ (m : Machine) (v f : ℕ) (k : Standing m v f) (call : Call) (x : Claim
   reclaim-core = ap (λ n. n .state .core) (went-next m call (went m call reclaim-goes)) ∙ ap (λ e. e .core) is
 
 -- A destroy by party 0, and a release of a page below V.
-module _ (s : State) where
-  destroy-clear : (p : ℕ) → first (destroyReasons (s .core .claims) 0 p) ≡ 0 → first (reasonsOn s (Destroy 0 p)) ≡ 0
+module _ (s : State) (cells tags : List ℕ) where
+  destroy-clear : (p : ℕ) → first (destroyReasons (s .core .claims) 0 p) ≡ 0 → first (reasonsOn s (Destroy 0 p) cells tags) ≡ 0
   unfolding reasons first
   destroy-clear p clear = clear
 
-  destroy-effect : (p : ℕ) → effectOn s (Destroy 0 p) ≡ claimsChange (s .core) (destroyOf (s .core .claims) p)
+  destroy-effect : (p : ℕ) → effectOn s (Destroy 0 p) cells tags ≡ claimsChange (s .core) (destroyOf (s .core .claims) p)
   unfolding effect
   destroy-effect p = refl
 
-  release-clear : (p : ℕ) → p < s .core .pages .v → first (releaseReasons (s .core .claims) 0 0 p) ≡ 0 → first (reasonsOn s (Release 0 0 (page p))) ≡ 0
+  release-clear : (p : ℕ) → p < s .core .pages .v → first (releaseReasons (s .core .claims) 0 0 p) ≡ 0 → first (reasonsOn s (Release 0 0 (page p)) cells tags) ≡ 0
   unfolding reasons first
   release-clear p h clear = rw (lt-leb (s .core .pages .v) p h) clear
 
-  release-effect : (p : ℕ) → effectOn s (Release 0 0 (page p)) ≡ claimsChange (s .core) (releaseOf (s .core .claims) 0 p)
+  release-effect : (p : ℕ) → effectOn s (Release 0 0 (page p)) cells tags ≡ claimsChange (s .core) (releaseOf (s .core .claims) 0 p)
   unfolding effect
   release-effect p = refl
 
@@ -82,7 +83,7 @@ module _ (c₀ : Claims) (v f n : ℕ) (m : Machine) (q : DestroyedFrom c₀ v f
 
   destroyed : topAt c₀ n ≡ true → Granted m (Destroy 0 n) × DestroyedFrom c₀ v f n (next m (Destroy 0 n))
   destroyed e = (
-    reclaim-goes m v f (q .standing) (Destroy 0 n) after clear (destroy-effect (m .state) n),
+    reclaim-goes m v f (q .standing) (Destroy 0 n) after clear (destroy-effect (m .state) (m .cells) (m .tags) n),
     record {
       standing = standing-next m v f (Destroy 0 n) (q .standing);
       one = subst (WholeTable v Taken 0) (sym (ap (λ k. k .table) now)) (q .one);
@@ -100,11 +101,11 @@ module _ (c₀ : Claims) (v f n : ℕ) (m : Machine) (q : DestroyedFrom c₀ v f
       after : Claims
       after = destroyOf c n
 
-      clear : first (reasonsOn (m .state) (Destroy 0 n)) ≡ 0
-      clear = destroy-clear (m .state) n (top-clear v c ok n shown)
+      clear : first (reasonsOn (m .state) (Destroy 0 n) (m .cells) (m .tags)) ≡ 0
+      clear = destroy-clear (m .state) (m .cells) (m .tags) n (top-clear v c ok n shown)
 
       now : next m (Destroy 0 n) .state .core ≡ withClaims (m .state .core) after
-      now = reclaim-core m v f (q .standing) (Destroy 0 n) after clear (destroy-effect (m .state) n)
+      now = reclaim-core m v f (q .standing) (Destroy 0 n) after clear (destroy-effect (m .state) (m .cells) (m .tags) n)
 
       go : (p : ℕ) → n ≤ p → (b : Bool) → eqb p n ≡ b → topAt after p ≡ false
       go p a true z = ap (λ j. topAt after j) (eqb-true p n z) ∙ top-gone v c ok n shown
@@ -142,9 +143,9 @@ release-once : (v f : ℕ) (c : Claims) (p : ℕ) → p < v → first (releaseRe
 release-once v f c p h clear m q =
     let call = Release 0 0 (page p) in
     let x = releaseOf (m .state .core .claims) 0 p in
-    let free = release-clear (m .state) p (omega (arith, h, q .standing .of-v)) (subst (λ y. first (releaseReasons y 0 0 p) ≡ 0) (sym (q .is)) clear) in
-    let now = reclaim-core m v f (q .standing) call x free (release-effect (m .state) p) in (
-      reclaim-goes m v f (q .standing) call x free (release-effect (m .state) p),
+    let free = release-clear (m .state) (m .cells) (m .tags) p (omega (arith, h, q .standing .of-v)) (subst (λ y. first (releaseReasons y 0 0 p) ≡ 0) (sym (q .is)) clear) in
+    let now = reclaim-core m v f (q .standing) call x free (release-effect (m .state) (m .cells) (m .tags) p) in (
+      reclaim-goes m v f (q .standing) call x free (release-effect (m .state) (m .cells) (m .tags) p),
       record {
         standing = standing-next m v f call (q .standing);
         one = subst (WholeTable v Taken 0) (sym (ap (λ k. k .table) now)) (q .one);

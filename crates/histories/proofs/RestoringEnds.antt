@@ -105,8 +105,8 @@ module _ (m : Machine) (v f : ℕ) (k : Standing m v f) (e : running (m .state .
   collect-goes : Granted n₁ (Collect 0)
   collect-goes =
       standing-code n₁ v f (Collect 0) (standing-next m v f (Sweep 0 cells) k)
-      ∙ ap (λ d. first (reasons d (n₁ .state .mailboxes) (reading empty empty) (Collect 0))) swept-core
-      ∙ collect-free c₁ (n₁ .state .mailboxes) (reading empty empty) (same-running c (16 * c .pages .f) ∙ e) (omega arith)
+      ∙ ap (λ d. first (reasons d (n₁ .state .mailboxes) (reading empty empty []) (Collect 0))) swept-core
+      ∙ collect-free c₁ (n₁ .state .mailboxes) (reading empty empty []) (same-running c (16 * c .pages .f) ∙ e) (omega arith)
 
   finished : Finished c (next n₁ (Collect 0))
   finished =
@@ -206,7 +206,7 @@ module _ (m : Machine) (v f : ℕ) (k : Standing m v f) (bare : Bare v m) where
   unfolding first revokeReasons revokeReasonsAt
   revoke-clear = rw (found, row-found, whole-pages, at-rest, none-mapped)
 
-  revoke-free : first (reasonsOn (m .state) (Revoke 0 0)) ≡ 0
+  revoke-free : first (reasonsOn (m .state) (Revoke 0 0) (m .cells) (m .tags)) ≡ 0
   unfolding reasons first
   revoke-free = revoke-clear
 

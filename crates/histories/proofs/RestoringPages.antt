@@ -43,7 +43,7 @@ module _ (m : Machine) (v f : ℕ) (k : Standing m v f) (free : m .state .core .
   unclaimed-here : claimed (c .claims) p ≡ false
   unclaimed-here = ap (λ x. claimed x p) free ∙ fresh-unclaimed p
 
-  no-reason : first (reasonsOn (m .state) (Unmap 0 (page p))) ≡ 0
+  no-reason : first (reasonsOn (m .state) (Unmap 0 (page p)) (m .cells) (m .tags)) ≡ 0
   unfolding reasons first unmapReasons
   no-reason = rw (lt-leb (c .pages .v) p (omega (arith, k .of-v)), shown, unclaimed-here)
 

@@ -80,7 +80,7 @@ module _ (m : Machine) (v f : ℕ) (k : Standing m v f) (i : ℕ) (h : i < lengt
   found : findOf t (r .holder) (r .base) ≡ At i
   found = find-row (sizeOf m) t (standing-facts m v f k .rows) i h
 
-  no-reason : first (reasonsOn (m .state) (Take (r .holder) (r .base) 0)) ≡ 0
+  no-reason : first (reasonsOn (m .state) (Take (r .holder) (r .base) 0) (m .cells) (m .tags)) ≡ 0
   unfolding reasons first takeReasons openReasons
   no-reason = let isopen = ap (λ x. isOpen (x .state)) (row-live t i h) ∙ o in rw (holder-named (sizeOf m) t (standing-facts m v f k .rows) i h, found, isopen)
 

@@ -60,8 +60,8 @@ step-keeps m v f st c k x claim is =
     let low = claimed-low v (claimsIn m) (standing-claims m v f st) k claim in
     ⊎-elim
     (λ w.
-    let fate = deed-page (m .state) (went-core m c w) k low (deed (m .state) c (w .clear)) in
-    done-pages m c w k ∙ fate-keeps (m .state .core) (effectOn (m .state) c .core) k (roleOf c) x is claim fate)
+    let fate = deed-page (m .state) (went-core m c w) k low (deed (m .state) c (m .cells) (m .tags) (w .clear)) in
+    done-pages m c w k ∙ fate-keeps (m .state .core) (effectOn (m .state) c (m .cells) (m .tags) .core) k (roleOf c) x is claim fate)
     (λ n. ap (λ y. pageAt (y .state .core .pages) k) (n .0) ∙ is) (went-or-not m c)
 
 run-keeps : (calls : List Call) (m : Machine) (v f : ℕ) → Standing m v f → (k : ℕ) (x : Frame) → Shows m k x
@@ -82,7 +82,7 @@ pub kept-while-counted : KeptWhileCounted
 kept-while-counted m r q k x is calls b = kept-while-claimed m r k x is calls (each-claimed q k calls m b)
 
 -- The claims after a granted call.
-done-claims : (m : Machine) (c : Call) → Went m c → claimsIn (next m c) ≡ effectOn (m .state) c .core .claims
+done-claims : (m : Machine) (c : Call) → Went m c → claimsIn (next m c) ≡ effectOn (m .state) c (m .cells) (m .tags) .core .claims
 unfolding done
 done-claims m c w = ap claimsIn (went-next m c w)
 
@@ -95,20 +95,20 @@ module _ (m : Machine) (v f : ℕ) (st : Standing m v f) (c : Call) (q k : ℕ) 
   sound = standing-claims m v f st
 
   -- A refused call changes no count.
-  count-by : (P : ℕ → Type 0) → (Went m c → P (countOf (effectOn (m .state) c .core .claims) q k)) → P (counts m q k) → P (counts (next m c) q k)
+  count-by : (P : ℕ → Type 0) → (Went m c → P (countOf (effectOn (m .state) c (m .cells) (m .tags) .core .claims) q k)) → P (counts m q k) → P (counts (next m c) q k)
   count-by P goes same =
       ⊎-elim (λ w. subst (λ x. P (countOf x q k)) (sym (done-claims m c w)) (goes w)) (λ n. subst (λ x. P (counts x q k)) (sym (n .0)) same) (went-or-not m c)
 
   count-falls : counts (next m c) q k < counts m q k → LetsGo (claimsIn m) q k c
   count-falls =
-      count-by (λ n. n < counts m q k → LetsGo (claimsIn m) q k c) (λ w. falls (m .state) v few sound q k (touches (m .state) c (w .clear)))
+      count-by (λ n. n < counts m q k → LetsGo (claimsIn m) q k c) (λ w. falls (m .state) v few sound q k (touches (m .state) c (m .cells) (m .tags) (w .clear)))
       (λ l. let z : ⊥ = omega (arith, l) in absurd z)
 
   count-stays : OtherLetsGo (claimsIn m) q c → counts (next m c) q k ≡ counts m q k
-  count-stays o = count-by (λ n. n ≡ counts m q k) (λ w. other-stays (m .state) v few sound q k (touches (m .state) c (w .clear)) o) refl
+  count-stays o = count-by (λ n. n ≡ counts m q k) (λ w. other-stays (m .state) v few sound q k (touches (m .state) c (m .cells) (m .tags) (w .clear)) o) refl
 
   count-fits : counts m q k ≤ 65535 → counts (next m c) q k ≤ 65535
-  count-fits l = count-by (λ n. n ≤ 65535) (λ w. fits (m .state) v few sound q k (touches (m .state) c (w .clear)) l) l
+  count-fits l = count-by (λ n. n ≤ 65535) (λ w. fits (m .state) v few sound q k (touches (m .state) c (m .cells) (m .tags) (w .clear)) l) l
 
 pub only-let-go : OnlyLetGo
 only-let-go m r c q k l = count-falls m (r .v) (r .f) (always-formed m r) c q k l

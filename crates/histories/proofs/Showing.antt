@@ -4,6 +4,7 @@ use Prim.Native.Nat.{ℕ, _+_, _*_, _%_, _<_}
 use native.Mathlib.Omega.{arith}
 use mathlib.Core.Bool.{true}
 use mathlib.Core.Logic.{⊎-elim}
+use mathlib.Core.List.{List}
 use mathlib.Core.Path.{_≡_, refl, sym, subst, _∙_}
 use Rattle.pages.specs.declared.FrameState.the-variants.{Free}
 use Rattle.pages.specs.declared.Place.the-variants.{At}
@@ -20,7 +21,7 @@ use Rattle.reservations.proofs.CoreKept.{core-facts}
 use Rattle.machine.specs.State.{State}
 use Rattle.machine.specs.Roles.{Asked}
 use Rattle.machine.specs.Effects.{MemoryChange, keepMemory, Effect}
-use Rattle.machine.proofs.Deeds.{Recored, splits, merges, gives, revokes, maps, unmaps, reclaims, Deed, took, recored, swept, collectedAll, zeroed, filled, loaded, wrote, mailed, received}
+use Rattle.machine.proofs.Deeds.{Recored, splits, merges, gives, revokes, maps, unmaps, reclaims, Deed, took, recored, swept, collectedAll, zeroed, filled, wrote, mailed, received}
 use Rattle.histories.proofs.Keep.{frame-lookup}
 use Rattle.histories.proofs.Layer.{map-done, map-view, unmap-done, unmap-view, freed-shows, released-shows}
 use Rattle.histories.proofs.Findings.{ends, revoke-parts}
@@ -48,7 +49,7 @@ module _ (c : Core) (ok : coreSound c ≡ true) where
       shownBefore (unmap-view (c .pages) layer page (unmappable (c .pages) page _ z) v at (subst (λ x. lookupOf x v ≡ At at) (unmap-done (c .pages) page _ z) e))
   recored-came k (reclaims x r) v at e = shownBefore e
 
-pub came : (s : State) → coreSound (s .core) ≡ true → {a : Asked} {e : Effect} → Deed s a e → (v at : ℕ)
+pub came : (s : State) → coreSound (s .core) ≡ true → {cells tags : List ℕ} {a : Asked} {e : Effect} → Deed s cells tags a e → (v at : ℕ)
     → lookupOf (e .core .pages) v ≡ At at → Came (s .core .pages) (e .memory) v at
 came s ok (took p base reg permissions low-p low-reg few z) v at q = shownBefore q
 came s ok (recored p k r) v at q = recored-came (s .core) ok k r v at q
@@ -57,8 +58,7 @@ came s ok (collectedAll p z) v at q =
     let c = s .core in
     shownBefore (released-shows (c .pages) (layer c ok) (revoked c) v at (subst (λ x. lookupOf (x .pages) v ≡ At at) (ends c ok (unfold collectOf in z) .parts) q))
 came s ok (zeroed p frame z) v at q = shownBefore (sym (frame-lookup (s .core .pages) (frame .0) Free v) ∙ q)
-came s ok (filled p d from w low g) v at q = shownBefore q
-came s ok (loaded p a off d low g) v at q = shownBefore q
+came s ok (filled p d from w answer low g) v at q = shownBefore q
 came s ok (wrote p a off x low-p low-a g) v at q = shownBefore q
 came s ok (mailed p x to t) v at q = shownBefore q
 came s ok (received p d low) v at q = shownBefore q

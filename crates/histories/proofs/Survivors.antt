@@ -21,8 +21,8 @@ use Rattle.histories.proofs.Confining.{none-into-open}
 
 -- A granted collect.
 module _ (m : Machine) (c : Call) (p : ℕ) (is : IsCollect c p) (w : Went m c) where
-  collected : Collected (m .state) (effectOn (m .state) c)
-  collected = collected-as (m .state) (deed (m .state) c (w .clear)) (ap (λ a. a .role) is)
+  collected : Collected (m .state) (effectOn (m .state) c (m .cells) (m .tags))
+  collected = collected-as (m .state) (deed (m .state) c (m .cells) (m .tags) (w .clear)) (ap (λ a. a .role) is)
 
   pub collect-core : next m c .state .core ≡ collectOf (m .state .core) .core
   unfolding done

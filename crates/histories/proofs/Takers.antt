@@ -37,7 +37,7 @@ step-written m c took all =
     ⊎-elim
     (λ w.
     subst (λ t. AllWritten t (after (eqb (outcome m c .answer .code) 0))) (sym (done-table m c w))
-    (subst (λ n. AllWritten (effectOn (m .state) c .core .table) (after (eqb n 0))) (sym (went-granted m c w)) (deed-written m (w .formed) took all (deed (m .state) c (w .clear)))))
+    (subst (λ n. AllWritten (effectOn (m .state) c (m .cells) (m .tags) .core .table) (after (eqb n 0))) (sym (went-granted m c w)) (deed-written m (w .formed) took all (deed (m .state) c (m .cells) (m .tags) (w .clear)))))
     (λ n.
     subst (λ x. AllWritten (x .state .core .table) (after (eqb (outcome m c .answer .code) 0))) (sym (n .0))
     (subst (λ b. AllWritten (m .state .core .table) (after b)) (sym (ne-eqb (outcome m c .answer .code) 0 (n .1))) all))

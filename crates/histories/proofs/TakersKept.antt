@@ -33,7 +33,7 @@ use Rattle.reservations.proofs.CoreKept.{CoreFacts, core-facts}
 use Rattle.machine.specs.Formed.{wellFormed}
 use Rattle.machine.specs.Roles.{Asked}
 use Rattle.machine.specs.Effects.{Effect}
-use Rattle.machine.proofs.Deeds.{Recored, splits, merges, gives, revokes, maps, unmaps, reclaims, Deed, took as tookRow, recored, swept, collectedAll, zeroed, filled, loaded, wrote, mailed, received}
+use Rattle.machine.proofs.Deeds.{Recored, splits, merges, gives, revokes, maps, unmaps, reclaims, Deed, took as tookRow, recored, swept, collectedAll, zeroed, filled, wrote, mailed, received}
 use Rattle.machine.proofs.Keeps.{Facts, facts}
 use Rattle.histories.specs.Runs.{Machine}
 use Rattle.histories.specs.Inv.{rowAt}
@@ -305,14 +305,13 @@ module _ (m : Machine) (formed : wellFormed (m .state) ≡ true) (took : ℕ →
   recored-written k (unmaps page z) = all
   recored-written k (reclaims x r) = all
 
-  pub deed-written : {a : Asked} {e : Effect} → Deed (m .state) a e → AllWritten (e .core .table) (λ cell. takerBy m (a .caller) (a .role) cell (took cell))
+  pub deed-written : {a : Asked} {e : Effect} → Deed (m .state) (m .cells) (m .tags) a e → AllWritten (e .core .table) (λ cell. takerBy m (a .caller) (a .role) cell (took cell))
   deed-written (tookRow p base reg permissions low-p low-reg few z) = take-written p base low-p (unfold takeOf in z)
   deed-written (recored p k r) = recored-written k r
   deed-written (swept p n runs) = all
   deed-written (collectedAll p z) = collect-written (unfold collectOf in z)
   deed-written (zeroed p frame z) = all
-  deed-written (filled p d from w low g) = all
-  deed-written (loaded p a off d low g) = all
+  deed-written (filled p d from w answer low g) = all
   deed-written (wrote p a off x low-p low-a g) = all
   deed-written (mailed p x to q) = all
   deed-written (received p d low) = all

@@ -2,6 +2,7 @@
 use Prim.Native.Nat.{ℕ, _≤_}
 use native.Mathlib.Omega.{arith}
 use mathlib.Core.Bool.{Bool, true, false}
+use mathlib.Core.List.{List}
 use mathlib.Core.Path.{_≡_, refl, sym, subst}
 use lib.Dec.{eqb}
 use Rattle.capabilities.specs.Lists.{pick}
@@ -19,7 +20,7 @@ use Rattle.reservations.proofs.CoreKept.{core-facts}
 use Rattle.machine.specs.State.{State}
 use Rattle.machine.specs.Roles.{Asked}
 use Rattle.machine.specs.Effects.{Effect}
-use Rattle.machine.proofs.Deeds.{Reclaimed, creates, claims, releases, destroys, Recored, splits, merges, gives, revokes, maps, unmaps, reclaims, Deed, took, recored, swept, collectedAll, zeroed, filled, loaded, wrote, mailed, received}
+use Rattle.machine.proofs.Deeds.{Reclaimed, creates, claims, releases, destroys, Recored, splits, merges, gives, revokes, maps, unmaps, reclaims, Deed, took, recored, swept, collectedAll, zeroed, filled, wrote, mailed, received}
 use Rattle.machine.proofs.Sizes.{effect-same}
 
 -- A choice between cores with the same claims.
@@ -55,20 +56,19 @@ recored-sound v c k e few ok (maps page frame z) = ok
 recored-sound v c k e few ok (unmaps page z) = ok
 recored-sound v c k e few ok (reclaims x r) = reclaimed-sound v (c .claims) x few ok (subst (λ n. Reclaimed n (c .claims) x) (sym e) r)
 
-deed-sound : (s : State) → s .core .pages .v ≤ 256 → Sound (s .core .pages .v) (s .core) → {a : Asked} {e : Effect} → Deed s a e → Sound (s .core .pages .v) (e .core)
+deed-sound : (s : State) → s .core .pages .v ≤ 256 → Sound (s .core .pages .v) (s .core) → {cells tags : List ℕ} {a : Asked} {e : Effect} → Deed s cells tags a e → Sound (s .core .pages .v) (e .core)
 deed-sound s small ok (took p base reg permissions low-p low-reg few z) = ok
 deed-sound s small ok (recored p k r) = recored-sound (s .core .pages .v) (s .core) k refl small ok r
 deed-sound s small ok (swept p n runs) = ok
 deed-sound s small ok (collectedAll p z) = subst (λ x. claimsSound (s .core .pages .v) x ≡ true) (sym (collect-claims (s .core))) ok
 deed-sound s small ok (zeroed p frame z) = ok
-deed-sound s small ok (filled p d from w low g) = ok
-deed-sound s small ok (loaded p a off d low g) = ok
+deed-sound s small ok (filled p d from w answer low g) = ok
 deed-sound s small ok (wrote p a off x low-p low-a g) = ok
 deed-sound s small ok (mailed p x to t) = ok
 deed-sound s small ok (received p d low) = ok
 
 pub claims-kept : (s : State) → coreSound (s .core) ≡ true → claimsSound (s .core .pages .v) (s .core .claims) ≡ true
-    → {a : Asked} {e : Effect} → Deed s a e → claimsSound (e .core .pages .v) (e .core .claims) ≡ true
+    → {cells tags : List ℕ} {a : Asked} {e : Effect} → Deed s cells tags a e → claimsSound (e .core .pages .v) (e .core .claims) ≡ true
 claims-kept s core ok {e} d =
     let small : s .core .pages .v ≤ 256 = layer.sound (s .core .pages) (core-facts (s .core) core .layer) .v-most in
     subst (λ v. claimsSound v (e .core .claims) ≡ true) (sym (effect-same s d .of-v)) (deed-sound s small ok d)

@@ -19,10 +19,10 @@ use Rattle.claims.specs.Sound.{principalSound, countsSound, claimsSound, freshC
 use Rattle.reservations.specs.Revocation.{freshCore, running, revoked, dying, revokeReasonsAt, revokeReasons, revokeAt, revokeOf, collectReasons, collected, collectOf, revocationSound, coreSound}
 use Rattle.words.specs.Words.{registerOf, mailboxOf, wordAt}
 use Rattle.machine.specs.Formed.{mailboxesSound, formedBare, wellFormed, fresh, startOf}
-use Rattle.machine.specs.Reasons.{addressed, reasons}
+use Rattle.machine.specs.Reasons.{addressed, found, reasons}
 use Rattle.machine.specs.Effects.{effect}
-use Rattle.machine.specs.Step.{registersAfter, mailboxesAfter, cellsAfter, tagsAfter, wordAfter, done, ruled, judged, stepOf, withCore}
+use Rattle.machine.specs.Step.{registersAfter, mailboxesAfter, writtenCells, writtenTags, cellsAfter, tagsAfter, done, ruled, judged, stepOf, withCore}
 
 unfoldable pub computing : ℕ
-unfolding each mapEach inside first freedIn allFreed pageAt frameAt withPage withFrame freshOf mappings pageSound frameSound layerFormed mapReasons mapped mapOf unmapReasons soiled unmapped unmapOf dirtyReasons cleared lookupOf notMappedIn anyMapped freedEntry freedOf releasedEntry releasedOf passed sweptTag sweptTags sweepOf seek findOf nextOf revokingOf rowOf withRow openReasons takeReasons takeOf splitReasonsAt splitReasons splitAt splitOf mergeable mergeReasonsAt mergeReasons mergeAt mergeOf giveReasons giveOf live splice spread gather tiles allBlank revokings sized takersSound tableSound freshTable freshCore running revoked dying revokeReasonsAt revokeReasons revokeAt revokeOf collectReasons collected collectOf revocationSound coreSound principalAt countsOf above sum anyAbove withPrincipal withCounts leadsWithin createReasons createOf claimReasons claimOf releaseReasons releaseOf destroyReasons returned destroyOf principalSound countsSound claimsSound freshClaims registerOf mailboxOf wordAt mailboxesSound formedBare wellFormed fresh startOf addressed reasons effect registersAfter mailboxesAfter cellsAfter tagsAfter wordAfter done ruled judged stepOf withCore
+unfolding each mapEach inside first freedIn allFreed pageAt frameAt withPage withFrame freshOf mappings pageSound frameSound layerFormed mapReasons mapped mapOf unmapReasons soiled unmapped unmapOf dirtyReasons cleared lookupOf notMappedIn anyMapped freedEntry freedOf releasedEntry releasedOf passed sweptTag sweptTags sweepOf seek findOf nextOf revokingOf rowOf withRow openReasons takeReasons takeOf splitReasonsAt splitReasons splitAt splitOf mergeable mergeReasonsAt mergeReasons mergeAt mergeOf giveReasons giveOf live splice spread gather tiles allBlank revokings sized takersSound tableSound freshTable freshCore running revoked dying revokeReasonsAt revokeReasons revokeAt revokeOf collectReasons collected collectOf revocationSound coreSound principalAt countsOf above sum anyAbove withPrincipal withCounts leadsWithin createReasons createOf claimReasons claimOf releaseReasons releaseOf destroyReasons returned destroyOf principalSound countsSound claimsSound freshClaims registerOf mailboxOf wordAt mailboxesSound formedBare wellFormed fresh startOf addressed found reasons effect registersAfter mailboxesAfter writtenCells writtenTags cellsAfter tagsAfter done ruled judged stepOf withCore
 computing = 0

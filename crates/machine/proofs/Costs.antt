@@ -83,7 +83,7 @@ counted-once s cells tags party p n =
     Grown : ℕ → ℕ → Outcome → Type 0
     Grown p n o = o .answer .code ≡ 0 → claimantsOf (o .answer .state) n ≡ pick (eqb (countOf (s .core .claims) p n) 0) (claimantsOf s n + 1) (claimantsOf s n)
 
-    granted : Granted s (Claim party p (page n)) cells tags → Grown p n (done s (effectOn s (Claim party p (page n))) cells tags)
+    granted : Granted s (Claim party p (page n)) cells tags → Grown p n (done s (effectOn s (Claim party p (page n)) cells tags) cells tags)
     granted g z =
         let (below, clear) = paged-clear s party (page n) (claimReasons (s .core .claims) party p n) (g .clear) in
         claimants-claim (s .core .pages .v) (s .core .claims) (sound s (g .formed)) party p n (low s (g .formed) (page n) below) clear

@@ -5,7 +5,7 @@ use Prim.Native.Nat.{ℕ, _<_, _≤_}
 use native.Mathlib.Omega.{arith}
 use mathlib.Core.Bool.{true, false, not, _||_}
 use mathlib.Core.List.{List, [], _∷_}
-use mathlib.Core.Path.{_≡_, refl, subst}
+use mathlib.Core.Path.{_≡_, refl, sym, subst}
 use borrow.Author.Tests.{leb-false, not-false}
 use lib.Bits.{and-le-l}
 use Rattle.capabilities.specs.Capability.{narrowed, permitted}
@@ -26,11 +26,11 @@ use Rattle.calls.specs.declared.Call.{Call}
 use Rattle.calls.specs.declared.Call.the-variants.{Take, Split, Merge, Give, Revoke, Sweep, Collect, Map, Unmap, Zero, Load, Store, Narrow, Number, Grant, Receive, TakeMasked, Create, Claim, Release, Destroy}
 use Rattle.words.specs.declared.Slot.{Slot}
 use Rattle.words.specs.Words.{slot, empty, registerOf, mailboxOf, placeNumber, stored}
-use Rattle.words.specs.WordReasons.{unnamed, notManager, mayNotLoad, mayNotStore}
+use Rattle.words.specs.WordReasons.{unnamed, notManager, mayNotLoad, mayNotStore, cellReasons}
 use Rattle.machine.specs.State.{State}
-use Rattle.machine.specs.Roles.{Sources, fromNone, fromOne, Role, takes, collects, fills, stores, grants, plain, Asked, asked, plainPermissions, roleOf, IsTake}
-use Rattle.machine.specs.Reasons.{addressed, takingReasons, reasons}
-use Rattle.machine.specs.Effects.{keepRegisters, putRegister, fetchInto, collectRegisters, keepMailboxes, putMailbox, collectMailboxes, keepMemory, writeWord, clearFrame, sweepCells, Effect, effectOf, withTable, withPages, withClaims, sweptTo, taking, effect}
+use Rattle.machine.specs.Roles.{Sources, fromNone, fromOne, fromCell, Role, takes, collects, fills, stores, grants, plain, Asked, asked, plainPermissions, roleOf, IsTake}
+use Rattle.machine.specs.Reasons.{addressed, fetched, found, takingReasons, reasons}
+use Rattle.machine.specs.Effects.{keepRegisters, putRegister, collectRegisters, keepMailboxes, putMailbox, collectMailboxes, keepMemory, write, writeWords, clearFrame, sweepCells, Effect, effectOf, withTable, withPages, withClaims, sweptTo, taking, effect}
 use Rattle.machine.specs.Step.{reasonsOn, effectOn}
 use Rattle.machine.proofs.Found.{after-five, low-two, low-three, Addressing, addressing, Narrowing, narrowing}
 
@@ -50,20 +50,18 @@ collecting c = effectOf (collectOf c .core) collectRegisters collectMailboxes ke
 abbrev pub zeroing : Core → Frame → Effect
 zeroing c frame = effectOf (withPages c (withFrame (c .pages) (frame .0) Free)) keepRegisters keepMailboxes (clearFrame frame) empty
 
--- A word is put into register d of party p, and nothing else: 0D and 0E.
-abbrev pub putting : Core → ℕ → ℕ → Slot → Effect
-putting c p d w = effectOf c (putRegister p d w) keepMailboxes keepMemory empty
+-- A word is put into register d of party p, and nothing else changes: 0B, 0D and 0E.
+abbrev pub putting : Core → ℕ → ℕ → Slot → Slot → Effect
+putting c p d w answer = effectOf c (putRegister p d w) keepMailboxes keepMemory answer
 
 -- The place in lent memory of the cell at base + off of the capability in register a of party p.
 abbrev pub aimedAt : State → ℕ → ℕ → ℕ → ℕ
 aimedAt s p a off = placeNumber (addressed (s .core) (registerOf (s .registers) p a) off)
 
--- 0B, 0C, 0F, 10.
-abbrev pub loading : State → ℕ → ℕ → ℕ → ℕ → Effect
-loading s p a off d = effectOf (s .core) (fetchInto p d (aimedAt s p a off) (registerOf (s .registers) p a)) keepMailboxes keepMemory empty
-
+-- 0C, 0F, 10.
 abbrev pub storing : State → ℕ → ℕ → ℕ → ℕ → Effect
-storing s p a off x = effectOf (s .core) keepRegisters keepMailboxes (writeWord (aimedAt s p a off) (stored (s .core) (registerOf (s .registers) p x))) empty
+storing s p a off x =
+    effectOf (s .core) keepRegisters keepMailboxes (writeWords (write (aimedAt s p a off) (stored (s .core) (registerOf (s .registers) p x)) ∷ [])) empty
 
 abbrev pub granting : State → ℕ → ℕ → ℕ → Effect
 granting s p x to = effectOf (s .core) keepRegisters (putMailbox to (registerOf (s .registers) p x)) keepMemory empty
@@ -90,29 +88,36 @@ pub data Recored (c : Core) : Core → Type 0 where
       → Recored c (withPages c (unmapOf (c .pages) page (claimed (c .claims) (page .0)) .pages))
   reclaims : (x : Claims) → Reclaimed (c .pages .v) (c .claims) x → Recored c (withClaims c x)
 
--- What a call puts into a register of its caller p, where it changes nothing else: a narrower capability, or a number.
-pub data Filling (s : State) (p : ℕ) : Sources → Slot → Type 0 where
-  narrows : (x off len mask : ℕ) → Narrowing (registerOf (s .registers) p x) off len
-      → Filling s p (fromOne x) (slot (narrowed (registerOf (s .registers) p x .cell) off len mask) true)
-  numbers : (value : ℕ) → Filling s p fromNone (slot value false)
+-- The word that a load of party p through its register a puts into another, and answers.
+abbrev pub loadedBy : State → List ℕ → List ℕ → ℕ → ℕ → ℕ → Slot
+loadedBy s cells tags p a off = fetched (s .core) cells tags (registerOf (s .registers) p a) off
 
-pub data Deed (s : State) : Asked → Effect → Type 0 where
+-- What a call puts into a register of its caller p, where it changes nothing else, and what it answers: the word that it loads, which it
+-- answers; a narrower capability; or a number.
+pub data Filling (s : State) (cells tags : List ℕ) (p : ℕ) : Sources → Slot → Slot → Type 0 where
+  loads : (a off : ℕ) → Addressing (s .core) (registerOf (s .registers) p a) off
+      → Filling s cells tags p (fromCell a off) (loadedBy s cells tags p a off) (loadedBy s cells tags p a off)
+  narrows : (x off len mask : ℕ) → Narrowing (registerOf (s .registers) p x) off len
+      → Filling s cells tags p (fromOne x) (slot (narrowed (registerOf (s .registers) p x .cell) off len mask) true) empty
+  numbers : (value : ℕ) → Filling s cells tags p fromNone (slot value false) empty
+
+pub data Deed (s : State) (cells tags : List ℕ) : Asked → Effect → Type 0 where
   took : (p base reg permissions : ℕ) → p < 8 → reg < 8 → permissions ≤ 15 → first (takeReasons (s .core .table) p base) ≡ 0
-      → Deed s (asked p (takes base reg permissions)) (taking (s .core) p base reg permissions)
-  recored : (p : ℕ) (k : Core) → Recored (s .core) k → Deed s (asked p plain) (coreAlone k)
-  swept : (p n : ℕ) → running (s .core) ≡ true → Deed s (asked p plain) (sweeping (s .core) n)
-  collectedAll : (p : ℕ) → first (collectReasons (s .core)) ≡ 0 → Deed s (asked p collects) (collecting (s .core))
-  zeroed : (p : ℕ) (frame : Frame) → first (dirtyReasons (s .core .pages) frame) ≡ 0 → Deed s (asked p plain) (zeroing (s .core) frame)
-  filled : (p d : ℕ) (from : Sources) (w : Slot) → d < 8 → Filling s p from w → Deed s (asked p (fills from)) (putting (s .core) p d w)
-  loaded : (p a off d : ℕ) → d < 8 → Addressing (s .core) (registerOf (s .registers) p a) off → Deed s (asked p (fills (fromOne a))) (loading s p a off d)
-  wrote : (p a off x : ℕ) → p < 8 → a < 8 → Addressing (s .core) (registerOf (s .registers) p a) off → Deed s (asked p (stores a off x)) (storing s p a off x)
-  mailed : (p x to : ℕ) → registerOf (s .registers) p x .tag ≡ true → Deed s (asked p (grants x)) (granting s p x to)
-  received : (p d : ℕ) → d < 8 → Deed s (asked p plain) (receiving s p d)
+      → Deed s cells tags (asked p (takes base reg permissions)) (taking (s .core) p base reg permissions)
+  recored : (p : ℕ) (k : Core) → Recored (s .core) k → Deed s cells tags (asked p plain) (coreAlone k)
+  swept : (p n : ℕ) → running (s .core) ≡ true → Deed s cells tags (asked p plain) (sweeping (s .core) n)
+  collectedAll : (p : ℕ) → first (collectReasons (s .core)) ≡ 0 → Deed s cells tags (asked p collects) (collecting (s .core))
+  zeroed : (p : ℕ) (frame : Frame) → first (dirtyReasons (s .core .pages) frame) ≡ 0 → Deed s cells tags (asked p plain) (zeroing (s .core) frame)
+  filled : (p d : ℕ) (from : Sources) (w answer : Slot) → d < 8 → Filling s cells tags p from w answer
+      → Deed s cells tags (asked p (fills from)) (putting (s .core) p d w answer)
+  wrote : (p a off x : ℕ) → p < 8 → a < 8 → Addressing (s .core) (registerOf (s .registers) p a) off → Deed s cells tags (asked p (stores a off x)) (storing s p a off x)
+  mailed : (p x to : ℕ) → registerOf (s .registers) p x .tag ≡ true → Deed s cells tags (asked p (grants x)) (granting s p x to)
+  received : (p d : ℕ) → d < 8 → Deed s cells tags (asked p plain) (receiving s p d)
 
 -- A take, of either kind.
-taking-deed : (s : State) (p base reg permissions : ℕ) → permissions ≤ 15 → first (takingReasons (s .core) p base reg) ≡ 0
-    → Deed s (asked p (takes base reg permissions)) (taking (s .core) p base reg permissions)
-taking-deed s p base reg permissions few z =
+taking-deed : (s : State) (cells tags : List ℕ) (p base reg permissions : ℕ) → permissions ≤ 15 → first (takingReasons (s .core) p base reg) ≡ 0
+    → Deed s cells tags (asked p (takes base reg permissions)) (taking (s .core) p base reg permissions)
+taking-deed s cells tags p base reg permissions few z =
     let low = low-two p reg (takeReasons (s .core .table) p base) z in
     took p base reg permissions (low .0) (low .1) few (first-clear 4 (unnamed p || unnamed reg) _ (λ x. omega arith) z .1)
 
@@ -123,46 +128,55 @@ paged-clear s p page rest z =
     let (low, clear) = first-clear 12 (noPage (s .core .pages) page) rest (λ x. omega arith) (first-clear 4 (unnamed p) _ (λ x. omega arith) z .1) in
     (leb-false (s .core .pages .v) (page .0) low, clear)
 
+-- A load that nothing speaks against reads the word at its cell.
+pub found-fetched : (c : Core) (cells tags : List ℕ) (a : Slot) (off : ℕ) → first (cellReasons (mayNotLoad a) a off (addressed c a off)) ≡ 0
+    → found c cells tags a off ≡ fetched c cells tags a off
+unfolding found
+found-fetched c cells tags a off z = rw z
+
 -- Every granted call does one of these.
-pub deed : (s : State) (c : Call) → first (reasonsOn s c) ≡ 0 → Deed s (roleOf c) (effectOn s c)
+pub deed : (s : State) (c : Call) (cells tags : List ℕ) → first (reasonsOn s c cells tags) ≡ 0 → Deed s cells tags (roleOf c) (effectOn s c cells tags)
 unfolding reasons effect
-deed s (Take p base reg) z = taking-deed s p base reg plainPermissions (omega arith) z
-deed s (Split p base len) z = recored p _ (splits p base len (first-clear 4 (unnamed p) _ (λ x. omega arith) z .1))
-deed s (Merge p base) z = recored p _ (merges p base (first-clear 4 (unnamed p) _ (λ x. omega arith) z .1))
-deed s (Give p base to) z =
+deed s (Take p base reg) cells tags z = taking-deed s cells tags p base reg plainPermissions (omega arith) z
+deed s (Split p base len) cells tags z = recored p _ (splits p base len (first-clear 4 (unnamed p) _ (λ x. omega arith) z .1))
+deed s (Merge p base) cells tags z = recored p _ (merges p base (first-clear 4 (unnamed p) _ (λ x. omega arith) z .1))
+deed s (Give p base to) cells tags z =
     recored p _ (gives p base to (low-two p to (giveReasons (s .core .table) p base) z .1) (first-clear 4 (unnamed p || unnamed to) _ (λ x. omega arith) z .1))
-deed s (Revoke p base) z = recored p _ (revokes p base (after-five (unnamed p) (notManager p) (revokeReasons (s .core) p base) z))
-deed s (Sweep p n) z =
+deed s (Revoke p base) cells tags z = recored p _ (revokes p base (after-five (unnamed p) (notManager p) (revokeReasons (s .core) p base) z))
+deed s (Sweep p n) cells tags z =
     swept p n (not-false (running (s .core)) (first-clear 11 (not (running (s .core))) [] (λ x. omega arith) (after-five (unnamed p) (notManager p) (reason 11 (not (running (s .core))) ∷ []) z) .0))
-deed s (Collect p) z = collectedAll p (after-five (unnamed p) (notManager p) (collectReasons (s .core)) z)
-deed s (Map p page frame) z = recored p _ (maps page frame (after-five (unnamed p) (notManager p) (mapReasons (s .core .pages) page frame) z))
-deed s (Unmap p page) z = recored p _ (unmaps page (after-five (unnamed p) (notManager p) (unmapReasons (s .core .pages) page (claimed (s .core .claims) (page .0))) z))
-deed s (Zero p frame) z = zeroed p frame (after-five (unnamed p) (notManager p) (dirtyReasons (s .core .pages) frame) z)
-deed s (Load p a off d) z =
-    let w = registerOf (s .registers) p a in
-    loaded p a off d (low-three p a d _ z .2) (addressing (s .core) w off ((unnamed p || unnamed a) || unnamed d) (mayNotLoad w) z)
-deed s (Store p a off x) z =
+deed s (Collect p) cells tags z = collectedAll p (after-five (unnamed p) (notManager p) (collectReasons (s .core)) z)
+deed s (Map p page frame) cells tags z = recored p _ (maps page frame (after-five (unnamed p) (notManager p) (mapReasons (s .core .pages) page frame) z))
+deed s (Unmap p page) cells tags z = recored p _ (unmaps page (after-five (unnamed p) (notManager p) (unmapReasons (s .core .pages) page (claimed (s .core .claims) (page .0))) z))
+deed s (Zero p frame) cells tags z = zeroed p frame (after-five (unnamed p) (notManager p) (dirtyReasons (s .core .pages) frame) z)
+deed s (Load p a off d) cells tags z =
+    let from = registerOf (s .registers) p a in
+    let free = first-clear 4 ((unnamed p || unnamed a) || unnamed d) _ (λ x. omega arith) z .1 in
+    subst (λ w. Deed s cells tags (asked p (fills (fromCell a off))) (putting (s .core) p d w w)) (sym (found-fetched (s .core) cells tags from off free))
+    (filled p d _ _ _ (low-three p a d _ z .2) (loads a off (addressing (s .core) from off (mayNotLoad from) free)))
+deed s (Store p a off x) cells tags z =
     let w = registerOf (s .registers) p a in
     let low = low-three p a x _ z in
-    wrote p a off x (low .0) (low .1) (addressing (s .core) w off ((unnamed p || unnamed a) || unnamed x) (mayNotStore w (registerOf (s .registers) p x)) z)
-deed s (Narrow p x off len mask d) z =
-    filled p d _ _ (low-three p x d _ z .2) (narrows x off len mask (narrowing (registerOf (s .registers) p x) off len ((unnamed p || unnamed x) || unnamed d) z))
-deed s (Number p d value) z = filled p d _ _ (low-two p d [] z .1) (numbers value)
-deed s (Grant p x to) z =
+    let free = first-clear 4 ((unnamed p || unnamed a) || unnamed x) _ (λ x. omega arith) z .1 in
+    wrote p a off x (low .0) (low .1) (addressing (s .core) w off (mayNotStore w (registerOf (s .registers) p x)) free)
+deed s (Narrow p x off len mask d) cells tags z =
+    filled p d _ _ _ (low-three p x d _ z .2) (narrows x off len mask (narrowing (registerOf (s .registers) p x) off len ((unnamed p || unnamed x) || unnamed d) z))
+deed s (Number p d value) cells tags z = filled p d _ _ _ (low-two p d [] z .1) (numbers value)
+deed s (Grant p x to) cells tags z =
     let one = first-clear 4 ((unnamed p || unnamed x) || unnamed to) _ (λ x. omega arith) z in
     mailed p x to (not-false (registerOf (s .registers) p x .tag) (first-clear 15 (not (registerOf (s .registers) p x .tag)) _ (λ x. omega arith) (one .1) .0))
-deed s (Receive p d) z = received p d (low-two p d _ z .1)
-deed s (TakeMasked p base reg mask) z = taking-deed s p base reg (permitted mask) (and-le-l 15 mask) z
-deed s (Create p parent child limit holder) z =
+deed s (Receive p d) cells tags z = received p d (low-two p d _ z .1)
+deed s (TakeMasked p base reg mask) cells tags z = taking-deed s cells tags p base reg (permitted mask) (and-le-l 15 mask) z
+deed s (Create p parent child limit holder) cells tags z =
     let rest = createReasons (s .core .claims) p parent child limit in
     recored p _ (reclaims _ (creates p parent child limit holder (low-two p holder rest z .1) (first-clear 4 (unnamed p || unnamed holder) _ (λ x. omega arith) z .1)))
-deed s (Claim p principal page) z =
+deed s (Claim p principal page) cells tags z =
     let found = paged-clear s p page (claimReasons (s .core .claims) p principal (page .0)) z in
     recored p _ (reclaims _ (claims p principal (page .0) (found .0) (found .1)))
-deed s (Release p principal page) z =
+deed s (Release p principal page) cells tags z =
     let found = paged-clear s p page (releaseReasons (s .core .claims) p principal (page .0)) z in
     recored p _ (reclaims _ (releases p principal (page .0) (found .0) (found .1)))
-deed s (Destroy p principal) z = recored p _ (reclaims _ (destroys p principal (first-clear 4 (unnamed p) _ (λ x. omega arith) z .1)))
+deed s (Destroy p principal) cells tags z = recored p _ (reclaims _ (destroys p principal (first-clear 4 (unnamed p) _ (λ x. omega arith) z .1)))
 
 -- What a granted take, and a granted collect, have found, and their effect.
 pub record Taken (s : State) (p base reg permissions : ℕ) (e : Effect) : Type 0 where
@@ -185,21 +199,20 @@ Known s p (stores a off x) e = Unit {0}
 Known s p (grants x) e = Unit {0}
 Known s p plain e = Unit {0}
 
-known : (s : State) {a : Asked} {e : Effect} → Deed s a e → Known s (a .caller) (a .role) e
+known : (s : State) {cells tags : List ℕ} {a : Asked} {e : Effect} → Deed s cells tags a e → Known s (a .caller) (a .role) e
 known s (took p base reg permissions low-p low-reg few z) = record { party = low-p; register = low-reg; few = few; clear = z; is = refl }
 known s (recored p k r) = tt
 known s (swept p n runs) = tt
 known s (collectedAll p z) = record { clear = z; is = refl }
 known s (zeroed p frame z) = tt
-known s (filled p d from w low g) = tt
-known s (loaded p a off d low g) = tt
+known s (filled p d from w answer low g) = tt
 known s (wrote p a off x low-p low-a g) = tt
 known s (mailed p x to t) = tt
 known s (received p d low) = tt
 
-pub taken-by : (s : State) (c : Call) (p base reg permissions : ℕ) → IsTake c p base reg permissions → first (reasonsOn s c) ≡ 0
-    → Taken s p base reg permissions (effectOn s c)
-taken-by s c p base reg permissions is z = subst (λ a. Known s (a .caller) (a .role) (effectOn s c)) is (known s (deed s c z))
+pub taken-by : (s : State) (c : Call) (cells tags : List ℕ) (p base reg permissions : ℕ) → IsTake c p base reg permissions → first (reasonsOn s c cells tags) ≡ 0
+    → Taken s p base reg permissions (effectOn s c cells tags)
+taken-by s c cells tags p base reg permissions is z = subst (λ a. Known s (a .caller) (a .role) (effectOn s c cells tags)) is (known s (deed s c cells tags z))
 
-pub collected-as : (s : State) {a : Asked} {e : Effect} → Deed s a e → a .role ≡ collects → Collected s e
+pub collected-as : (s : State) {cells tags : List ℕ} {a : Asked} {e : Effect} → Deed s cells tags a e → a .role ≡ collects → Collected s e
 collected-as s {a} {e} d is = subst (λ role. Known s (a .caller) role e) is (known s d)

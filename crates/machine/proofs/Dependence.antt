@@ -1,5 +1,5 @@
--- Where privacy begins: the refusal and the effect of a call depend only on the core, the mailboxes and the registers that
--- the call reads. Other registers and the contents of lent memory play no part. Assumes nothing.
+-- Where privacy begins: the refusal and the effect of a call depend only on the core, the mailboxes and what the call reads: registers, and
+-- words of lent memory as loaded. Other registers and the rest of lent memory play no part. Assumes nothing.
 use Prim.Native.Nat.{ℕ, _*_}
 use mathlib.Core.Bool.{Bool, true, not, _&&_}
 use mathlib.Core.List.{List, _∷_}
@@ -34,45 +34,47 @@ pub formed-by : (s : State) → wellFormed s ≡ formedBy (s .core) (s .mailboxe
 unfolding formedBy wellFormed formedBare mailboxesSound
 formed-by s = refl
 
--- Two states that agree in the core, the mailboxes and the registers that the call reads.
-pub record Alike (s t : State) (c : Call) : Type 0 where
+-- Two states with lent memory that agree in the core, the mailboxes and what the call reads.
+pub record Alike (c : Call) (s : State) (cells tags : List ℕ) (t : State) (others marks : List ℕ) : Type 0 where
   pub core : s .core ≡ t .core
   pub mailboxes : s .mailboxes ≡ t .mailboxes
-  pub read : reads (s .registers) c ≡ reads (t .registers) c
+  pub read : reads (s .core) (s .registers) cells tags c ≡ reads (t .core) (t .registers) others marks c
 
-module _ (s t : State) (c : Call) (a : Alike s t c) where
+module _ (c : Call) (s : State) (cells tags : List ℕ) (t : State) (others marks : List ℕ) (a : Alike c s cells tags t others marks) where
   -- The same reasons speak against the call.
-  pub same-reasons : reasonsOn s c ≡ reasonsOn t c
+  pub same-reasons : reasonsOn s c cells tags ≡ reasonsOn t c others marks
   same-reasons =
-      ap (λ k. reasons k (s .mailboxes) (reads (s .registers) c) c) (a .core)
-      ∙ ap (λ m. reasons (t .core) m (reads (s .registers) c) c) (a .mailboxes) ∙ ap (λ r. reasons (t .core) (t .mailboxes) r c) (a .read)
+      ap (λ r. reasons (s .core) (s .mailboxes) r c) (a .read)
+      ∙ ap (λ k. reasons k (s .mailboxes) (reads (t .core) (t .registers) others marks c) c) (a .core)
+      ∙ ap (λ m. reasons (t .core) m (reads (t .core) (t .registers) others marks c) c) (a .mailboxes)
 
   -- The call has the same effect.
-  pub same-effect : effectOn s c ≡ effectOn t c
+  pub same-effect : effectOn s c cells tags ≡ effectOn t c others marks
   same-effect =
-      ap (λ k. effect k (s .mailboxes) (reads (s .registers) c) c) (a .core)
-      ∙ ap (λ m. effect (t .core) m (reads (s .registers) c) c) (a .mailboxes) ∙ ap (λ r. effect (t .core) (t .mailboxes) r c) (a .read)
+      ap (λ r. effect (s .core) (s .mailboxes) r c) (a .read)
+      ∙ ap (λ k. effect k (s .mailboxes) (reads (t .core) (t .registers) others marks c) c) (a .core)
+      ∙ ap (λ m. effect (t .core) m (reads (t .core) (t .registers) others marks c) c) (a .mailboxes)
 
-  -- The codes are equal too, whatever the lent memories hold, if both are as long and both states well formed or neither.
+  -- The codes are equal too, if the lent memories are as long and both states well formed or neither.
   pub same-code :
-      (cells tags others marks : List ℕ) → wellFormed s ≡ wellFormed t → length cells ≡ length others → length tags ≡ length marks
+      wellFormed s ≡ wellFormed t → length cells ≡ length others → length tags ≡ length marks
       → stepOf s c cells tags .answer .code ≡ stepOf t c others marks .answer .code
-  same-code cells tags others marks w n m =
+  same-code w n m =
       step-code s c cells tags
-      ∙ ap (λ b. first (reason 1 (not b) ∷ reason 2 (not (serves (s .core .pages) (length cells) (length tags))) ∷ reasonsOn s c)) w
-      ∙ ap (λ k. first (reason 1 (not (wellFormed t)) ∷ reason 2 (not (serves (k .pages) (length cells) (length tags))) ∷ reasonsOn s c)) (a .core)
-      ∙ ap (λ k. first (reason 1 (not (wellFormed t)) ∷ reason 2 (not (serves (t .core .pages) k (length tags))) ∷ reasonsOn s c)) n
-      ∙ ap (λ k. first (reason 1 (not (wellFormed t)) ∷ reason 2 (not (serves (t .core .pages) (length others) k)) ∷ reasonsOn s c)) m
+      ∙ ap (λ b. first (reason 1 (not b) ∷ reason 2 (not (serves (s .core .pages) (length cells) (length tags))) ∷ reasonsOn s c cells tags)) w
+      ∙ ap (λ k. first (reason 1 (not (wellFormed t)) ∷ reason 2 (not (serves (k .pages) (length cells) (length tags))) ∷ reasonsOn s c cells tags)) (a .core)
+      ∙ ap (λ k. first (reason 1 (not (wellFormed t)) ∷ reason 2 (not (serves (t .core .pages) k (length tags))) ∷ reasonsOn s c cells tags)) n
+      ∙ ap (λ k. first (reason 1 (not (wellFormed t)) ∷ reason 2 (not (serves (t .core .pages) (length others) k)) ∷ reasonsOn s c cells tags)) m
       ∙ ap (λ l. first (reason 1 (not (wellFormed t)) ∷ reason 2 (not (serves (t .core .pages) (length others) (length marks))) ∷ l)) same-reasons
       ∙ sym (step-code t c others marks)
 
   -- So for well-formed states with lent memory of the right size.
   pub same-code-served :
-      (cells tags others marks : List ℕ) → wellFormed s ≡ true → wellFormed t ≡ true
+      wellFormed s ≡ true → wellFormed t ≡ true
       → serves (s .core .pages) (length cells) (length tags) ≡ true → serves (t .core .pages) (length others) (length marks) ≡ true
       → stepOf s c cells tags .answer .code ≡ stepOf t c others marks .answer .code
-  same-code-served cells tags others marks w x p q =
+  same-code-served w x p q =
       let (l, m) = served (s .core .pages) (length cells) (length tags) p in
       let (n, o) = served (t .core .pages) (length others) (length marks) q in
       let f : 16 * s .core .pages .f ≡ 16 * t .core .pages .f = ap (λ k. 16 * k .pages .f) (a .core) in
-      same-code cells tags others marks (w ∙ sym x) (l ∙ f ∙ sym n) (m ∙ f ∙ sym o)
+      same-code (w ∙ sym x) (l ∙ f ∙ sym n) (m ∙ f ∙ sym o)

@@ -4,6 +4,7 @@ use Prim.Native.Nat.{ℕ, _+_, _*_}
 use mathlib.Core.Bool.{Bool, true, false, not, _&&_, _||_, and-true}
 use mathlib.Core.List.{List, [], _∷_, map}
 use mathlib.Core.Path.{_≡_, refl, sym, ap, subst, _∙_}
+use lib.Dec.{eqb}
 use lib.ListN.{length, set, replicate}
 use Rattle.capabilities.specs.Capability.{capability, permitted, permits}
 use Rattle.capabilities.specs.Lists.{pick}
@@ -26,14 +27,14 @@ use Rattle.reservations.proofs.Forgetting.{core-twice, running-forgets, revoked
 use Rattle.calls.specs.declared.Call.{Call}
 use Rattle.calls.specs.declared.Call.the-variants.{Take, Split, Merge, Give, Revoke, Sweep, Collect, Map, Unmap, Zero, Load, Store, Narrow, Number, Grant, Receive, TakeMasked, Create, Claim, Release, Destroy}
 use Rattle.words.specs.declared.Slot.{Slot}
-use Rattle.words.specs.WordReasons.{unnamed, notManager}
-use Rattle.words.specs.Words.{slot, empty, keepTag, wordAt, placeNumber}
+use Rattle.words.specs.WordReasons.{unnamed, notManager, mayNotLoad, cellReasons}
+use Rattle.words.specs.Words.{slot, empty, registerOf, keepTag, wordAt, placeNumber}
 use Rattle.machine.specs.State.{State}
-use Rattle.machine.specs.Roles.{plainPermissions}
+use Rattle.machine.specs.Roles.{Sources, fromNone, fromOne, fromTwo, fromCell, plainPermissions, roleOf, callerOf, sourcesOf}
 use Rattle.machine.specs.Formed.{mailboxesSound, sized, formedBare, wellFormed, fresh, startOf}
-use Rattle.machine.specs.Reasons.{Reads, reads, addressed, reasons}
-use Rattle.machine.specs.Effects.{RegisterChange, keepRegisters, putRegister, fetchInto, collectRegisters, MailboxChange, keepMailboxes, putMailbox, collectMailboxes, MemoryChange, keepMemory, writeWord, clearFrame, sweepCells, Effect, effectOf, sweptTo, taking, effect}
-use Rattle.machine.specs.Step.{refused, fetched, registersAfter, mailboxesAfter, tagsAfter, wordAfter, done, reasonsOn, effectOn, ruled, judged, stepOf}
+use Rattle.machine.specs.Reasons.{Reads, reading, addressed, found, wordsIn, reads, reasons}
+use Rattle.machine.specs.Effects.{RegisterChange, keepRegisters, putRegister, collectRegisters, MailboxChange, keepMailboxes, putMailbox, collectMailboxes, MemoryChange, keepMemory, write, writeWords, clearFrame, sweepCells, Effect, effectOf, sweptTo, taking, effect}
+use Rattle.machine.specs.Step.{refused, registersAfter, mailboxesAfter, tagsAfter, done, reasonsOn, effectOn, ruled, judged, stepOf}
 use Rattle.machine.specs.Forgetting.{forget, forgetOutcome, stepBare}
 use Rattle.machine.proofs.Keeps.{step-keeps, start-formed}
 
@@ -100,7 +101,7 @@ module _ (c : Core) (mail : List Slot) (r : Reads) where
   effect-forgets (Load p a off d) = like (core-twice c)
   effect-forgets (Store p a off s) =
       like (core-twice c)
-      ∙ ap (λ die. forgetEffect (effectOf c keepRegisters keepMailboxes (writeWord (placeNumber (addressed c (r .one) off)) (keepTag (r .two) (not (die (r .two .cell))))) empty)) (dying-forgets c)
+      ∙ ap (λ die. forgetEffect (effectOf c keepRegisters keepMailboxes (writeWords (write (placeNumber (addressed c (r .one) off)) (keepTag (r .two) (not (die (r .two .cell)))) ∷ [])) empty)) (dying-forgets c)
   effect-forgets (Narrow p s off len mask d) = like (core-twice c)
   effect-forgets (Number p d value) = like (core-twice c)
   effect-forgets (Grant p s to) = like (core-twice c)
@@ -110,26 +111,32 @@ module _ (c : Core) (mail : List Slot) (r : Reads) where
   effect-forgets (Release p principal page) = like (tabled (table-twice (c .table)))
   effect-forgets (Destroy p principal) = like (tabled (table-twice (c .table)))
 
+-- What a call reads does not go by takers: by the core go only the places of cells, and the capabilities that die.
+module _ (c : Core) (registers : List Slot) (cells tags : List ℕ) where
+  found-forgets : (a : Slot) (off : ℕ) → found (forgetCore c) cells tags a off ≡ found c cells tags a off
+  unfolding found addressed
+  found-forgets a off =
+      let place = addressed c a off in
+      let w = wordAt cells tags (placeNumber place) in
+      let free = eqb (first (cellReasons (mayNotLoad a) a off place)) 0 in
+      ap (λ die. pick free (keepTag w (permits (a .cell) 4 && not (die (w .cell)))) empty) (dying-forgets c)
+
+  words-forget : (p : ℕ) (from : Sources) → wordsIn (forgetCore c) registers cells tags p from ≡ wordsIn c registers cells tags p from
+  words-forget p fromNone = refl
+  words-forget p (fromOne a) = refl
+  words-forget p (fromTwo a b) = refl
+  words-forget p (fromCell a off) = let from = registerOf registers p a in ap (λ w. reading from empty (w ∷ [])) (found-forgets from off)
+
+  reads-forget : (call : Call) → reads (forgetCore c) registers cells tags call ≡ reads c registers cells tags call
+  reads-forget call = words-forget (callerOf call) (sourcesOf (roleOf call .role))
+
 -- What is done to a state does not go by its takers: by its core go only the capabilities that die, and the frames.
 module _ (s : State) where
-  fetched-forgets : (cells tags : List ℕ) (at : ℕ) (a : Slot) → fetched (forgetCore (s .core)) cells tags at a ≡ fetched (s .core) cells tags at a
-  fetched-forgets cells tags at a =
-      let w = wordAt cells tags at in
-      ap (λ die. keepTag w (permits (a .cell) 4 && not (die (w .cell)))) (dying-forgets (s .core))
-
-  registers-forget : (ch : RegisterChange) (cells tags : List ℕ) → registersAfter ch (forget s) cells tags ≡ registersAfter ch s cells tags
+  registers-forget : (ch : RegisterChange) → registersAfter ch (forget s) ≡ registersAfter ch s
   unfolding registersAfter
-  registers-forget keepRegisters cells tags = refl
-  registers-forget (putRegister p r w) cells tags = refl
-  registers-forget (fetchInto p r at a) cells tags = ap (λ w. set (s .registers) (8 * p + r) w) (fetched-forgets cells tags at a)
-  registers-forget collectRegisters cells tags = ap (λ die. map (λ w. keepTag w (not (die (w .cell)))) (s .registers)) (dying-forgets (s .core))
-
-  word-forgets : (ch : RegisterChange) (w : Slot) (cells tags : List ℕ) → wordAfter ch w (forgetCore (s .core)) cells tags ≡ wordAfter ch w (s .core) cells tags
-  unfolding wordAfter
-  word-forgets keepRegisters w cells tags = refl
-  word-forgets (putRegister p r x) w cells tags = refl
-  word-forgets (fetchInto p r at a) w cells tags = fetched-forgets cells tags at a
-  word-forgets collectRegisters w cells tags = refl
+  registers-forget keepRegisters = refl
+  registers-forget (putRegister p r w) = refl
+  registers-forget collectRegisters = ap (λ die. map (λ w. keepTag w (not (die (w .cell)))) (s .registers)) (dying-forgets (s .core))
 
   mailboxes-forget : (ch : MailboxChange) → mailboxesAfter ch (forget s) ≡ mailboxesAfter ch s
   unfolding mailboxesAfter
@@ -140,7 +147,7 @@ module _ (s : State) where
   tags-forget : (ch : MemoryChange) (cells tags : List ℕ) → tagsAfter ch (forgetCore (s .core)) cells tags ≡ tagsAfter ch (s .core) cells tags
   unfolding tagsAfter
   tags-forget keepMemory cells tags = refl
-  tags-forget (writeWord at w) cells tags = refl
+  tags-forget (writeWords writes) cells tags = refl
   tags-forget (clearFrame f) cells tags = refl
   tags-forget (sweepCells r from upto) cells tags = refl
 
@@ -163,12 +170,19 @@ module _ (s : State) where
       (and-right ((coreSound (s .core) && boxes) && sized s) claims bare)
 
 module _ (s : State) (c : Call) (cells tags : List ℕ) where
-  done-forgets : forgetOutcome (done (forget s) (effectOn (forget s) c) cells tags) ≡ forgetOutcome (done s (effectOn s c) cells tags)
+  abbrev read : Reads
+  read = reads (s .core) (s .registers) cells tags c
+
+  same-read : reads (forgetCore (s .core)) (s .registers) cells tags c ≡ read
+  same-read = reads-forget (s .core) (s .registers) cells tags c
+
+  done-forgets : forgetOutcome (done (forget s) (effectOn (forget s) c cells tags) cells tags) ≡ forgetOutcome (done s (effectOn s c cells tags) cells tags)
   unfolding done
   done-forgets =
-      let e = effectOn s c in
-      ap (λ x. done (forget s) x cells tags) (effect-forgets (s .core) (s .mailboxes) (reads (s .registers) c) c)
-      ∙ cc (word-forgets s (e .registers) (e .answer) cells tags, registers-forget s (e .registers) cells tags, mailboxes-forget s (e .mailboxes), tags-forget s (e .memory) cells tags)
+      let e = effectOn s c cells tags in
+      ap (λ r. forgetOutcome (done (forget s) (effect (forgetCore (s .core)) (s .mailboxes) r c) cells tags)) same-read
+      ∙ ap (λ x. done (forget s) x cells tags) (effect-forgets (s .core) (s .mailboxes) read c)
+      ∙ cc (registers-forget s (e .registers), mailboxes-forget s (e .mailboxes), tags-forget s (e .memory) cells tags)
 
   refused-forgets : (k : ℕ) → forgetOutcome (refused k (forget s) cells tags) ≡ forgetOutcome (refused k s cells tags)
   refused-forgets k = ap (λ x. refused k x cells tags) (state-twice s)
@@ -176,8 +190,8 @@ module _ (s : State) (c : Call) (cells tags : List ℕ) where
   ruled-forgets : forgetOutcome (ruled (forget s) c cells tags) ≡ forgetOutcome (ruled s c cells tags)
   unfolding ruled
   ruled-forgets =
-      let same = reasons-forget (s .core) (s .mailboxes) (reads (s .registers) c) c in
-      granted-like forgetOutcome same done-forgets (ap (λ l. forgetOutcome (refused (first l) (forget s) cells tags)) same ∙ refused-forgets (first (reasonsOn s c)))
+      let same = ap (λ r. reasons (forgetCore (s .core)) (s .mailboxes) r c) same-read ∙ reasons-forget (s .core) (s .mailboxes) read c in
+      granted-like forgetOutcome same done-forgets (ap (λ l. forgetOutcome (refused (first l) (forget s) cells tags)) same ∙ refused-forgets (first (reasonsOn s c cells tags)))
 
   judged-forgets : forgetOutcome (judged (forget s) c cells tags) ≡ forgetOutcome (judged s c cells tags)
   unfolding judged

@@ -17,7 +17,7 @@ use Rattle.reservations.specs.Core.{Core}
 use Rattle.words.specs.declared.Slot.{Slot}
 use Rattle.words.specs.Words.{named}
 use Rattle.words.specs.Words.{nowhere}
-use Rattle.words.specs.WordReasons.{unnamed, pastEnd, badNarrow}
+use Rattle.words.specs.WordReasons.{unnamed, pastEnd, badNarrow, cellReasons}
 use Rattle.words.specs.Words.{placeNumber}
 use Rattle.machine.specs.Reasons.{addressed}
 
@@ -54,11 +54,9 @@ reach : (k : Core) (a : Slot) (off : ℕ) → nowhere (addressed k a off) ≡ fa
 unfolding addressed
 reach k a off e = placed (lookupOf (k .pages) (baseOf (a .cell) + off)) e
 
-pub addressing : (k : Core) (a : Slot) (off : ℕ) (u v : Bool)
-    → first (reason 4 u ∷ reason 15 (not (a .tag)) ∷ reason 16 v ∷ reason 17 (pastEnd a off) ∷ reason 18 (nowhere (addressed k a off)) ∷ []) ≡ 0 → Addressing k a off
-addressing k a off u v z =
-    let z4 = first-clear 4 _ _ (λ x. omega arith) z in
-    let z15 = first-clear 15 _ _ (λ x. omega arith) (z4 .1) in
+pub addressing : (k : Core) (a : Slot) (off : ℕ) (denied : Bool) → first (cellReasons denied a off (addressed k a off)) ≡ 0 → Addressing k a off
+addressing k a off denied z =
+    let z15 = first-clear 15 _ _ (λ x. omega arith) z in
     let z16 = first-clear 16 _ _ (λ x. omega arith) (z15 .1) in
     let z17 = first-clear 17 _ _ (λ x. omega arith) (z16 .1) in
     let z18 = first-clear 18 _ _ (λ x. omega arith) (z17 .1) in

@@ -26,22 +26,22 @@ pick-by P false x y f g = g refl
 pub record Granted (s : State) (c : Call) (cells tags : List ℕ) : Type 0 where
   pub formed : wellFormed s ≡ true
   pub served : serves (s .core .pages) (length cells) (length tags) ≡ true
-  pub clear : first (reasonsOn s c) ≡ 0
+  pub clear : first (reasonsOn s c cells tags) ≡ 0
 
 module _ (s : State) (c : Call) (cells tags : List ℕ) (P : Outcome → Type 0) where
   -- What holds of a call that is done, and of one turned down by whatever number, holds of every call.
   pub ruled-by :
-      (first (reasonsOn s c) ≡ 0 → P (done s (effectOn s c) cells tags)) → ((k : ℕ) → (k ≡ 0 → ⊥) → P (refused k s cells tags))
+      (first (reasonsOn s c cells tags) ≡ 0 → P (done s (effectOn s c cells tags) cells tags)) → ((k : ℕ) → (k ≡ 0 → ⊥) → P (refused k s cells tags))
       → P (ruled s c cells tags)
   unfolding ruled
   ruled-by granted down =
-      let code = first (reasonsOn s c) in
-      pick-by P (eqb code 0) (done s (effectOn s c) cells tags) (refused code s cells tags) (λ e. granted (eqb-true code 0 e))
+      let code = first (reasonsOn s c cells tags) in
+      pick-by P (eqb code 0) (done s (effectOn s c cells tags) cells tags) (refused code s cells tags) (λ e. granted (eqb-true code 0 e))
       (λ e. down code (eqb-false code 0 e))
 
   -- The same by refusal 2 first.
   pub judged-by :
-      (serves (s .core .pages) (length cells) (length tags) ≡ true → first (reasonsOn s c) ≡ 0 → P (done s (effectOn s c) cells tags))
+      (serves (s .core .pages) (length cells) (length tags) ≡ true → first (reasonsOn s c cells tags) ≡ 0 → P (done s (effectOn s c cells tags) cells tags))
       → ((k : ℕ) → (k ≡ 0 → ⊥) → P (refused k s cells tags)) → P (judged s c cells tags)
   unfolding judged
   judged-by granted down =
@@ -50,7 +50,7 @@ module _ (s : State) (c : Call) (cells tags : List ℕ) (P : Outcome → Type 0)
 
   -- The same by refusals 1 and 2 first.
   pub step-by :
-      (Granted s c cells tags → P (done s (effectOn s c) cells tags)) → ((k : ℕ) → (k ≡ 0 → ⊥) → P (refused k s cells tags))
+      (Granted s c cells tags → P (done s (effectOn s c cells tags) cells tags)) → ((k : ℕ) → (k ≡ 0 → ⊥) → P (refused k s cells tags))
       → P (stepOf s c cells tags)
   unfolding stepOf
   step-by granted down =
@@ -58,7 +58,7 @@ module _ (s : State) (c : Call) (cells tags : List ℕ) (P : Outcome → Type 0)
       (λ w. judged-by (λ m e. granted (record { formed = w; served = m; clear = e })) down) (λ e. down 1 (λ z. omega arith))
 
 module _ (s : State) (c : Call) (cells tags : List ℕ) where
-  done-zero : done s (effectOn s c) cells tags .answer .code ≡ 0
+  done-zero : done s (effectOn s c cells tags) cells tags .answer .code ≡ 0
   unfolding done
   done-zero = refl
 

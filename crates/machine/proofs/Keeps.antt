@@ -35,7 +35,7 @@ use Rattle.machine.specs.Roles.{Asked}
 use Rattle.machine.specs.Effects.{MailboxChange, keepMailboxes, putMailbox, collectMailboxes, Effect}
 use Rattle.machine.specs.Step.{mailboxesAfter, done, reasonsOn, effectOn, judged, stepOf}
 use Rattle.machine.proofs.Judging.{judged-by, step-by}
-use Rattle.machine.proofs.Deeds.{Recored, splits, merges, gives, revokes, maps, unmaps, reclaims, Deed, took, recored, swept, collectedAll, zeroed, filled, loaded, wrote, mailed, received, deed}
+use Rattle.machine.proofs.Deeds.{Recored, splits, merges, gives, revokes, maps, unmaps, reclaims, Deed, took, recored, swept, collectedAll, zeroed, filled, wrote, mailed, received, deed}
 use Rattle.machine.proofs.Lengths.{length-registers, length-mailboxes}
 use Rattle.machine.proofs.Lists.{each-set, each-map}
 use Rattle.machine.proofs.ClaimsKept.{claims-kept}
@@ -125,15 +125,14 @@ mailboxes-kept (putMailbox p w) s h e = each-set mailboxSound 0 (s .mailboxes) p
 mailboxes-kept collectMailboxes s h e = each-map mailboxSound (collectedMailbox (s .core)) (collected-sound (s .core)) 0 (s .mailboxes) e
 
 -- Grant and receive alone put into a mailbox: grant a capability, by refusal 15, and receive nothing.
-puts-sound : (s : State) {a : Asked} {e : Effect} → Deed s a e → putsSound (e .mailboxes) ≡ true
+puts-sound : (s : State) {cells tags : List ℕ} {a : Asked} {e : Effect} → Deed s cells tags a e → putsSound (e .mailboxes) ≡ true
 unfolding putsSound
 puts-sound s (took p base reg permissions low-p low-reg few z) = refl
 puts-sound s (recored p k r) = refl
 puts-sound s (swept p n runs) = refl
 puts-sound s (collectedAll p z) = refl
 puts-sound s (zeroed p frame z) = refl
-puts-sound s (filled p d from w low g) = refl
-puts-sound s (loaded p a off d low g) = refl
+puts-sound s (filled p d from w answer low g) = refl
 puts-sound s (wrote p a off x low-p low-a g) = refl
 puts-sound s (mailed p x to t) = rw t
 puts-sound s (received p d low) = refl
@@ -148,14 +147,13 @@ recored-kept c k ok (maps page frame z) = core-map c ok page frame
 recored-kept c k ok (unmaps page z) = core-unmap c ok page _
 recored-kept c k ok (reclaims x r) = sound-apart c x ∙ ok
 
-core-kept : (s : State) → coreSound (s .core) ≡ true → {a : Asked} {e : Effect} → Deed s a e → coreSound (e .core) ≡ true
+core-kept : (s : State) → coreSound (s .core) ≡ true → {cells tags : List ℕ} {a : Asked} {e : Effect} → Deed s cells tags a e → coreSound (e .core) ≡ true
 core-kept s ok (took p base reg permissions low-p low-reg few z) = core-take (s .core) ok p base
 core-kept s ok (recored p k r) = recored-kept (s .core) k ok r
 core-kept s ok (swept p n runs) = core-sweep (s .core) ok n runs
 core-kept s ok (collectedAll p z) = core-collect (s .core) ok
 core-kept s ok (zeroed p frame z) = core-zero (s .core) ok frame z
-core-kept s ok (filled p d from w low g) = ok
-core-kept s ok (loaded p a off d low g) = ok
+core-kept s ok (filled p d from w answer low g) = ok
 core-kept s ok (wrote p a off x low-p low-a g) = ok
 core-kept s ok (mailed p x to t) = ok
 core-kept s ok (received p d low) = ok
@@ -170,32 +168,31 @@ recored-takers c k ok fit (maps page frame z) = fit
 recored-takers c k ok fit (unmaps page z) = fit
 recored-takers c k ok fit (reclaims x r) = fit
 
-takers-kept : (s : State) → coreSound (s .core) ≡ true → takersSound (live (s .core .table)) ≡ true → {a : Asked} {e : Effect} → Deed s a e
+takers-kept : (s : State) → coreSound (s .core) ≡ true → takersSound (live (s .core .table)) ≡ true → {cells tags : List ℕ} {a : Asked} {e : Effect} → Deed s cells tags a e
     → takersSound (live (e .core .table)) ≡ true
 takers-kept s ok fit (took p base reg permissions low-p low-reg few z) = take-takers _ (s .core .table) (core-facts (s .core) ok .rows) fit p base (omega arith)
 takers-kept s ok fit (recored p k r) = recored-takers (s .core) k ok fit r
 takers-kept s ok fit (swept p n runs) = fit
 takers-kept s ok fit (collectedAll p z) = collect-takers (s .core) ok fit
 takers-kept s ok fit (zeroed p frame z) = fit
-takers-kept s ok fit (filled p d from w low g) = fit
-takers-kept s ok fit (loaded p a off d low g) = fit
+takers-kept s ok fit (filled p d from w answer low g) = fit
 takers-kept s ok fit (wrote p a off x low-p low-a g) = fit
 takers-kept s ok fit (mailed p x to t) = fit
 takers-kept s ok fit (received p d low) = fit
 
 done-keeps : (s : State) (c : Call) (cells tags : List ℕ) → wellFormed s ≡ true
-    → serves (s .core .pages) (length cells) (length tags) ≡ true → first (reasonsOn s c) ≡ 0
-    → wellFormed (done s (effectOn s c) cells tags .answer .state) ≡ true
+    → serves (s .core .pages) (length cells) (length tags) ≡ true → first (reasonsOn s c cells tags) ≡ 0
+    → wellFormed (done s (effectOn s c cells tags) cells tags .answer .state) ≡ true
 unfolding done
 done-keeps s c cells tags w m e =
     let f = facts s w in
-    let x = effectOn s c in
-    let d = deed s c e in
+    let x = effectOn s c cells tags in
+    let d = deed s c cells tags e in
     formed _
     (record {
       core = core-kept s (f .core) d;
       mailboxes = mailboxes-kept (x .mailboxes) s (puts-sound s d) (f .mailboxes);
-      of-registers = length-registers (x .registers) s cells tags ∙ f .of-registers;
+      of-registers = length-registers (x .registers) s ∙ f .of-registers;
       of-mailboxes = length-mailboxes (x .mailboxes) s ∙ f .of-mailboxes;
       takers = takers-kept s (f .core) (f .takers) d;
       claims = claims-kept s (f .core) (f .claims) d;

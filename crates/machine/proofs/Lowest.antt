@@ -28,7 +28,7 @@ use Rattle.machine.proofs.Judging.{pick-by}
 -- All reasons against a call: 1, 2, and those of its kind.
 abbrev pub allReasons : State → Call → List ℕ → List ℕ → List Reason
 allReasons s c cells tags =
-    reason 1 (not (wellFormed s)) ∷ reason 2 (not (serves (s .core .pages) (length cells) (length tags))) ∷ reasonsOn s c
+    reason 1 (not (wellFormed s)) ∷ reason 2 (not (serves (s .core .pages) (length cells) (length tags))) ∷ reasonsOn s c cells tags
 
 -- The numbers of the reasons rise strictly: the first is above one bound and the last at most another.
 unfoldable pub rising : ℕ → ℕ → List Reason → Bool
@@ -125,48 +125,48 @@ rising-wider lower above most (r ∷ rest) h e =
     rw (lt-ltb lower (r .number) (omega arith)) (and-right (ltb above (r .number)) (rising (r .number) most rest) e)
 
 -- The reasons from 4 on against each kind of call stand in the order of their numbers.
-pub reasons-rise : (s : State) (c : Call) → rising 3 lastRefusal (reasonsOn s c) ≡ true
+pub reasons-rise : (s : State) (c : Call) (cells tags : List ℕ) → rising 3 lastRefusal (reasonsOn s c cells tags) ≡ true
 unfolding rising reasons openReasons takeReasons splitReasonsAt splitReasons mergeReasonsAt mergeReasons giveReasons revokeReasonsAt revokeReasons collectReasons mapReasons unmapReasons dirtyReasons createReasons claimReasons releaseReasons destroyReasons
-reasons-rise s (Take p base reg) = refl
-reasons-rise s (Split p base len) = refl
-reasons-rise s (Merge p base) = refl
-reasons-rise s (Give p base to) = refl
-reasons-rise s (Revoke p base) = refl
-reasons-rise s (Sweep p n) = refl
-reasons-rise s (Collect p) = refl
-reasons-rise s (Map p page frame) = refl
-reasons-rise s (Unmap p page) = refl
-reasons-rise s (Zero p frame) = refl
-reasons-rise s (Load p a off d) = refl
-reasons-rise s (Store p a off r) = refl
-reasons-rise s (Narrow p r off len mask d) = refl
-reasons-rise s (Number p d value) = refl
-reasons-rise s (Grant p r to) = refl
-reasons-rise s (Receive p d) = refl
-reasons-rise s (TakeMasked p base reg mask) = refl
-reasons-rise s (Create p parent child limit holder) = refl
-reasons-rise s (Claim p principal page) = refl
-reasons-rise s (Release p principal page) = refl
-reasons-rise s (Destroy p principal) = refl
+reasons-rise s (Take p base reg) cells tags = refl
+reasons-rise s (Split p base len) cells tags = refl
+reasons-rise s (Merge p base) cells tags = refl
+reasons-rise s (Give p base to) cells tags = refl
+reasons-rise s (Revoke p base) cells tags = refl
+reasons-rise s (Sweep p n) cells tags = refl
+reasons-rise s (Collect p) cells tags = refl
+reasons-rise s (Map p page frame) cells tags = refl
+reasons-rise s (Unmap p page) cells tags = refl
+reasons-rise s (Zero p frame) cells tags = refl
+reasons-rise s (Load p a off d) cells tags = refl
+reasons-rise s (Store p a off r) cells tags = refl
+reasons-rise s (Narrow p r off len mask d) cells tags = refl
+reasons-rise s (Number p d value) cells tags = refl
+reasons-rise s (Grant p r to) cells tags = refl
+reasons-rise s (Receive p d) cells tags = refl
+reasons-rise s (TakeMasked p base reg mask) cells tags = refl
+reasons-rise s (Create p parent child limit holder) cells tags = refl
+reasons-rise s (Claim p principal page) cells tags = refl
+reasons-rise s (Release p principal page) cells tags = refl
+reasons-rise s (Destroy p principal) cells tags = refl
 
 -- The same of all the reasons, 1 and 2 before the others.
 pub all-rise : (s : State) (c : Call) (cells tags : List ℕ) → rising 0 lastRefusal (allReasons s c cells tags) ≡ true
-all-rise s c cells tags = unfold rising in rising-wider 2 3 lastRefusal (reasonsOn s c) (omega arith) (reasons-rise s c)
+all-rise s c cells tags = unfold rising in rising-wider 2 3 lastRefusal (reasonsOn s c cells tags) (omega arith) (reasons-rise s c cells tags)
 
 module _ (s : State) (c : Call) (cells tags : List ℕ) where
   -- By refusals from 4 on the number answered is that of the first of them that applies.
-  pub ruled-code : ruled s c cells tags .answer .code ≡ first (reasonsOn s c)
+  pub ruled-code : ruled s c cells tags .answer .code ≡ first (reasonsOn s c cells tags)
   unfolding ruled done
   ruled-code =
-      let k = first (reasonsOn s c) in
-      pick-by (λ o. o .answer .code ≡ k) (eqb k 0) (done s (effectOn s c) cells tags) (refused k s cells tags)
+      let k = first (reasonsOn s c cells tags) in
+      pick-by (λ o. o .answer .code ≡ k) (eqb k 0) (done s (effectOn s c cells tags) cells tags) (refused k s cells tags)
       (λ e. sym (eqb-true k 0 e)) (λ e. refl)
 
-  judged-code : judged s c cells tags .answer .code ≡ pick (not (serves (s .core .pages) (length cells) (length tags))) 2 (first (reasonsOn s c))
+  judged-code : judged s c cells tags .answer .code ≡ pick (not (serves (s .core .pages) (length cells) (length tags))) 2 (first (reasonsOn s c cells tags))
   unfolding judged
   judged-code = go (serves (s .core .pages) (length cells) (length tags))
     where
-      go : (b : Bool) → pick b (ruled s c cells tags) (refused 2 s cells tags) .answer .code ≡ pick (not b) 2 (first (reasonsOn s c))
+      go : (b : Bool) → pick b (ruled s c cells tags) (refused 2 s cells tags) .answer .code ≡ pick (not b) 2 (first (reasonsOn s c cells tags))
       go true = ruled-code
       go false = refl
 
@@ -176,7 +176,7 @@ module _ (s : State) (c : Call) (cells tags : List ℕ) where
   step-code = go (wellFormed s)
     where
       go : (b : Bool) → pick b (judged s c cells tags) (refused 1 s cells tags) .answer .code
-          ≡ pick (not b) 1 (pick (not (serves (s .core .pages) (length cells) (length tags))) 2 (first (reasonsOn s c)))
+          ≡ pick (not b) 1 (pick (not (serves (s .core .pages) (length cells) (length tags))) 2 (first (reasonsOn s c cells tags)))
       go true = judged-code
       go false = refl
 

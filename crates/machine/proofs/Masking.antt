@@ -21,7 +21,7 @@ use Rattle.machine.specs.Formed.{wellFormed, answered}
 use Rattle.machine.specs.Roles.{plainPermissions}
 use Rattle.machine.specs.Reasons.{takingReasons, reasons}
 use Rattle.machine.specs.Effects.{taking, effect}
-use Rattle.machine.specs.Step.{Outcome, left, refused, registersAfter, mailboxesAfter, cellsAfter, tagsAfter, wordAfter, done, ruled, judged, stepOf}
+use Rattle.machine.specs.Step.{Outcome, left, refused, registersAfter, mailboxesAfter, cellsAfter, tagsAfter, done, ruled, judged, stepOf}
 
 -- What a granted take leaves, but that register r of party p holds the capability with other permissions: from base on, as many cells as
 -- are answered. A refused one is as it was.
@@ -45,7 +45,7 @@ module _ (s : State) (p base reg : ℕ) (cells tags : List ℕ) where
 
   module _ (x y : ℕ) where
     granted-permitting : done s (taking (s .core) p base reg y) cells tags ≡ permitting p base reg y (done s (taking (s .core) p base reg x) cells tags)
-    unfolding done registersAfter mailboxesAfter cellsAfter tagsAfter wordAfter permitting
+    unfolding done registersAfter mailboxesAfter cellsAfter tagsAfter permitting
     granted-permitting =
         let n = takeOf (s .core .table) p base .length in
         ap (λ l. left (answered 0 (slot n false) (record { core = taking (s .core) p base reg x .core; registers = l; mailboxes = s .mailboxes })) cells tags)

@@ -1,11 +1,11 @@
 -- The shapes of the wrong machines: with the rule in the place of what is wrong, each is the rule, for every input. A granted
 -- call of the kind leaves what the rule leaves, and every other outcome is the rule's own.
-use Prim.Native.Nat.{ℕ}
+use Prim.Native.Nat.{ℕ, _+_, _*_}
 use native.Mathlib.Omega.{arith}
 use mathlib.Core.Bool.{_&&_, _||_}
 use mathlib.Core.List.{List}
 use mathlib.Core.Path.{_≡_, refl, sym, ap, subst, _∙_}
-use lib.ListN.{length, getD}
+use lib.ListN.{length, getD, set}
 use lib.Seq.{set-getD}
 use lib.Dec.{eqb}
 use borrow.Author.Tests.{eqb-true}
@@ -27,18 +27,20 @@ use Rattle.calls.specs.declared.Call.the-variants.{Take, Split, Merge, Revoke, 
 use Rattle.calls.specs.Commands.{page, commandOf, operandsOf}
 use Rattle.calls.specs.Commands.{byteOf as kindOf}
 use Rattle.calls.proofs.Table.{listed}
-use Rattle.words.specs.Words.{loaded, stored, collectedRegister, collectedMailbox}
+use Rattle.words.specs.declared.Slot.{Slot}
+use Rattle.words.specs.Words.{registerOf, loaded, stored, collectedRegister, collectedMailbox}
 use Rattle.words.specs.WordReasons.{unnamed, notManager}
 use Rattle.machine.specs.State.{State}
-use Rattle.machine.specs.Formed.{wellFormed}
+use Rattle.machine.specs.Formed.{wellFormed, answered}
 use Rattle.machine.specs.Roles.{plainPermissions}
-use Rattle.machine.specs.Reasons.{reasons}
+use Rattle.machine.specs.Reasons.{fetched, reasons}
 use Rattle.machine.specs.Effects.{Effect, effect}
-use Rattle.machine.specs.Step.{Outcome, left, refused, registersAfter, mailboxesAfter, cellsAfter, tagsAfter, wordAfter, done, reasonsOn, effectOn, ruled, judged, stepOf, withCore}
+use Rattle.machine.specs.Step.{Outcome, left, refused, registersAfter, mailboxesAfter, writtenCells, writtenTags, cellsAfter, tagsAfter, done, reasonsOn, effectOn, ruled, judged, stepOf, withCore}
 use Rattle.machine.specs.Variants.{Obeys, instead, sweepBy, takeBy, maskBy, plainBy, splitBy, mergeBy, revokeBy, endBy, unmapBy, storeBy, loadBy, collectBy, createBy, claimBy, releaseBy, destroyBy, ruledBy, claimAgainst, destroyAgainst, toldBy}
 use Rattle.machine.specs.WrongClaims.{destroys}
 use Rattle.machine.specs.WrongMachines.{keptByte}
 use Rattle.machine.proofs.Found.{after-five}
+use Rattle.machine.proofs.Deeds.{found-fetched}
 use Rattle.machine.proofs.Judging.{Granted, pick-by, step-by}
 
 abbrev Made : Type 0
@@ -48,7 +50,7 @@ Made = State → Call → List ℕ → List ℕ → Outcome → Outcome
 abbrev Exact : Made → State → Call → Type 0
 Exact made s c =
     (cells tags : List ℕ) → Granted s c cells tags
-    → made s c cells tags (done s (effectOn s c) cells tags) ≡ done s (effectOn s c) cells tags
+    → made s c cells tags (done s (effectOn s c cells tags) cells tags) ≡ done s (effectOn s c cells tags) cells tags
 
 -- What holds of the calls of a kind, whatever their operands, holds of a call of that kind.
 of-kind : (P : Call → Type 0) (kind : ℕ) → ((x : ℕ → ℕ) → P (commandOf kind .make x)) → (c : Call) → kindOf c ≡ kind → P c
@@ -61,7 +63,7 @@ obeys-by : (kind : ℕ) (made : Made) → ((s : State) (x : ℕ → ℕ) → Exa
 unfolding instead
 obeys-by kind made exact s c cells tags =
     let mine = eqb (kindOf c) kind in
-    let granted = done s (effectOn s c) cells tags in
+    let granted = done s (effectOn s c cells tags) cells tags in
     step-by s c cells tags (λ o. pick (mine && eqb (o .answer .code) 0) (made s c cells tags o) o ≡ o)
     (λ g. pick-by (λ o. o ≡ granted) (mine && eqb (granted .answer .code) 0) (made s c cells tags granted) granted
     (λ e. of-kind (Exact made s) kind (exact s) c (eqb-true (kindOf c) kind (and-left mine (eqb (granted .answer .code) 0) e)) cells tags g) (λ e. refl))
@@ -69,23 +71,26 @@ obeys-by kind made exact s c cells tags =
     (λ e. absurd (n (eqb-true k 0 (and-right mine (eqb k 0) e)))) (λ e. refl))
 
 pub sweep-obeys : Obeys (sweepBy sweepOf)
-unfolding sweepBy sweepOf done effect registersAfter mailboxesAfter cellsAfter tagsAfter wordAfter withCore
+unfolding sweepBy sweepOf done effect registersAfter mailboxesAfter cellsAfter tagsAfter withCore
 sweep-obeys = obeys-by 0x06 _ (λ s x cells tags g. rw (g .served))
 
 pub store-obeys : Obeys (storeBy stored)
-unfolding storeBy done effect registersAfter mailboxesAfter cellsAfter tagsAfter wordAfter
+unfolding storeBy done effect registersAfter mailboxesAfter writtenCells writtenTags cellsAfter tagsAfter
 store-obeys = obeys-by 0x0C _ (λ s x cells tags g. refl)
 
 pub load-obeys : Obeys (loadBy loaded loaded keptByte)
-unfolding loadBy done effect registersAfter mailboxesAfter cellsAfter tagsAfter wordAfter
+unfolding loadBy done reasons effect registersAfter mailboxesAfter cellsAfter tagsAfter
 load-obeys =
     obeys-by 0x0B _
     (λ s x cells tags g.
-    let o = done s (effectOn s (commandOf 0x0B .make x)) cells tags in
-    ap (λ l. left (o .answer) cells l) (set-getD tags _ 0))
+    let a = registerOf (s .registers) (x 0) (x 1) in
+    let leaving : Slot → Outcome = λ w. left (answered 0 w (record { core = s .core; registers = set (s .registers) (8 * x 0 + x 3) w; mailboxes = s .mailboxes })) cells tags in
+    let free = first-clear 4 ((unnamed (x 0) || unnamed (x 1)) || unnamed (x 3)) _ (λ z. omega arith) (g .clear) .1 in
+    ap (λ l. left (leaving (fetched (s .core) cells tags a (x 2)) .answer) cells l) (set-getD tags _ 0)
+    ∙ sym (ap leaving (found-fetched (s .core) cells tags a (x 2) free)))
 
 pub collect-obeys : Obeys (collectBy collectedRegister collectedMailbox)
-unfolding collectBy done effect registersAfter mailboxesAfter cellsAfter tagsAfter wordAfter
+unfolding collectBy done effect registersAfter mailboxesAfter cellsAfter tagsAfter
 collect-obeys = obeys-by 0x07 _ (λ s x cells tags g. refl)
 
 pub mask-obeys : Obeys (maskBy permitted)
@@ -123,27 +128,27 @@ module _ (s : State) (cells tags : List ℕ) where
   unmap-clear p n g = after-five (unnamed p) (notManager p) (unmapReasons (s .core .pages) (page n) (claimed (s .core .claims) n)) (g .clear)
 
 pub take-obeys : Obeys (takeBy takeOf)
-unfolding takeBy done effect registersAfter mailboxesAfter cellsAfter tagsAfter wordAfter withCore
+unfolding takeBy done effect registersAfter mailboxesAfter cellsAfter tagsAfter withCore
 take-obeys = obeys-by 0x01 _ (λ s x cells tags g. rw (take-clear s cells tags (x 0) (x 1) (x 2) g))
 
 pub split-obeys : Obeys (splitBy splitOf)
-unfolding splitBy done effect registersAfter mailboxesAfter cellsAfter tagsAfter wordAfter withCore
+unfolding splitBy done effect registersAfter mailboxesAfter cellsAfter tagsAfter withCore
 split-obeys = obeys-by 0x02 _ (λ s x cells tags g. rw (split-clear s cells tags (x 0) (x 1) (x 2) g))
 
 pub merge-obeys : Obeys (mergeBy mergeOf)
-unfolding mergeBy done effect registersAfter mailboxesAfter cellsAfter tagsAfter wordAfter withCore
+unfolding mergeBy done effect registersAfter mailboxesAfter cellsAfter tagsAfter withCore
 merge-obeys = obeys-by 0x03 _ (λ s x cells tags g. rw (merge-clear s cells tags (x 0) (x 1) g))
 
 pub revoke-obeys : Obeys (revokeBy revokeOf)
-unfolding revokeBy done effect registersAfter mailboxesAfter cellsAfter tagsAfter wordAfter withCore
+unfolding revokeBy done effect registersAfter mailboxesAfter cellsAfter tagsAfter withCore
 revoke-obeys = obeys-by 0x05 _ (λ s x cells tags g. rw (revoke-clear s cells tags (x 0) (x 1) g))
 
 pub end-obeys : Obeys (endBy collectOf)
-unfolding endBy done effect registersAfter mailboxesAfter cellsAfter tagsAfter wordAfter withCore
+unfolding endBy done effect registersAfter mailboxesAfter cellsAfter tagsAfter withCore
 end-obeys = obeys-by 0x07 _ (λ s x cells tags g. rw (collect-clear s cells tags (x 0) g))
 
 pub unmap-obeys : Obeys (unmapBy unmapOf)
-unfolding unmapBy done effect registersAfter mailboxesAfter cellsAfter tagsAfter wordAfter withCore
+unfolding unmapBy done effect registersAfter mailboxesAfter cellsAfter tagsAfter withCore
 unmap-obeys = obeys-by 0x09 _ (λ s x cells tags g. rw (unmap-clear s cells tags (x 0) (x 1) g))
 
 pub create-obeys : Obeys (createBy createOf)
@@ -168,33 +173,33 @@ unfolding destroys destroyOf returned
 destroys-own c p = refl
 
 -- The reasons and the effect that stand for the rule's own.
-abbrev Own : (State → Call → List Reason) → (State → Call → Effect) → State → Call → Type 0
-Own against does s c = (against s c ≡ reasonsOn s c) × (does s c ≡ effectOn s c)
+abbrev Own : (State → Call → List ℕ → List ℕ → List Reason) → (State → Call → List ℕ → List ℕ → Effect) → State → Call → Type 0
+Own against does s c = (cells tags : List ℕ) → (against s c cells tags ≡ reasonsOn s c cells tags) × (does s c cells tags ≡ effectOn s c cells tags)
 
 -- Where they are so of the calls of the kind, the shape is the rule.
-ruled-by-own : (kind : ℕ) (against : State → Call → List Reason) (does : State → Call → Effect)
+ruled-by-own : (kind : ℕ) (against : State → Call → List ℕ → List ℕ → List Reason) (does : State → Call → List ℕ → List ℕ → Effect)
     → ((s : State) (x : ℕ → ℕ) → Own against does s (commandOf kind .make x)) → Obeys (ruledBy kind against does)
 unfolding ruledBy stepOf judged ruled
 ruled-by-own kind against does own s c cells tags =
     let mine = eqb (kindOf c) kind in
     let fit = serves (s .core .pages) (length cells) (length tags) in
-    let code = first (against s c) in
-    pick-by (λ o. o ≡ stepOf s c cells tags) (mine && (wellFormed s && fit)) (pick (eqb code 0) (done s (does s c) cells tags) (refused code s cells tags))
+    let code = first (against s c cells tags) in
+    pick-by (λ o. o ≡ stepOf s c cells tags) (mine && (wellFormed s && fit)) (pick (eqb code 0) (done s (does s c cells tags) cells tags) (refused code s cells tags))
     (stepOf s c cells tags)
     (λ e.
     let given = and-right mine (wellFormed s && fit) e in
-    let k = of-kind (Own against does s) kind (own s) c (eqb-true (kindOf c) kind (and-left mine (wellFormed s && fit) e)) in
+    let k = of-kind (Own against does s) kind (own s) c (eqb-true (kindOf c) kind (and-left mine (wellFormed s && fit) e)) cells tags in
     rw (k .0, k .1, and-left (wellFormed s) fit given, and-right (wellFormed s) fit given))
     (λ e. refl)
 
 pub claim-against-obeys : Obeys (claimAgainst claimReasons)
 unfolding claimAgainst reasons
-claim-against-obeys = ruled-by-own 0x13 _ _ (λ s x. (refl, refl))
+claim-against-obeys = ruled-by-own 0x13 _ _ (λ s x cells tags. (refl, refl))
 
 pub destroy-against-obeys : Obeys (destroyAgainst destroyReasons)
 unfolding destroyAgainst reasons
-destroy-against-obeys = ruled-by-own 0x15 _ _ (λ s x. (refl, refl))
+destroy-against-obeys = ruled-by-own 0x15 _ _ (λ s x cells tags. (refl, refl))
 
 pub told-obeys : Obeys (toldBy (λ k n. claimed k n))
 unfolding toldBy reasons effect
-told-obeys = ruled-by-own 0x09 _ _ (λ s x. (refl, refl))
+told-obeys = ruled-by-own 0x09 _ _ (λ s x cells tags. (refl, refl))

@@ -1,6 +1,7 @@
 -- No effect of a granted call changes V or F. Assumes nothing.
 use Prim.Native.Nat.{ℕ}
 use mathlib.Core.Bool.{Bool, true, false}
+use mathlib.Core.List.{List}
 use mathlib.Core.Path.{_≡_, refl}
 use lib.Dec.{eqb}
 use Rattle.capabilities.specs.Lists.{pick}
@@ -18,7 +19,7 @@ use Rattle.reservations.specs.Revocation.{revokeOf, revokeAt, revokeReasons, co
 use Rattle.machine.specs.State.{State}
 use Rattle.machine.specs.Roles.{Asked}
 use Rattle.machine.specs.Effects.{Effect}
-use Rattle.machine.proofs.Deeds.{Recored, splits, merges, gives, revokes, maps, unmaps, reclaims, Deed, took, recored, swept, collectedAll, zeroed, filled, loaded, wrote, mailed, received}
+use Rattle.machine.proofs.Deeds.{Recored, splits, merges, gives, revokes, maps, unmaps, reclaims, Deed, took, recored, swept, collectedAll, zeroed, filled, wrote, mailed, received}
 
 pub record Same (p q : Pages) : Type 0 where
   pub of-v : p .v ≡ q .v
@@ -65,15 +66,14 @@ recored-same c k (maps page frame z) = map-same (c .pages) page frame
 recored-same c k (unmaps page z) = unmap-same (c .pages) page _
 recored-same c k (reclaims x r) = same (c .pages)
 
-pub effect-same : (s : State) {a : Asked} {e : Effect} → Deed s a e → Same (e .core .pages) (s .core .pages)
+pub effect-same : (s : State) {cells tags : List ℕ} {a : Asked} {e : Effect} → Deed s cells tags a e → Same (e .core .pages) (s .core .pages)
 unfolding withFrame
 effect-same s (took p base reg permissions low-p low-reg few z) = same (s .core .pages)
 effect-same s (recored p k r) = recored-same (s .core) k r
 effect-same s (swept p n runs) = same (s .core .pages)
 effect-same s (collectedAll p z) = collect-same (s .core)
 effect-same s (zeroed p frame z) = record { of-v = refl; of-f = refl }
-effect-same s (filled p d from w low g) = same (s .core .pages)
-effect-same s (loaded p a off d low g) = same (s .core .pages)
+effect-same s (filled p d from w answer low g) = same (s .core .pages)
 effect-same s (wrote p a off x low-p low-a g) = same (s .core .pages)
 effect-same s (mailed p x to t) = same (s .core .pages)
 effect-same s (received p d low) = same (s .core .pages)

@@ -12,9 +12,9 @@ use Rattle.machine.proofs.Deeds.{deed}
 use Rattle.machine.proofs.Sizes.{Same, same, effect-same}
 use Rattle.machine.proofs.Commands.{command-by}
 
-done-same : (s : State) (c : Call) (cells tags : List ℕ) → first (reasonsOn s c) ≡ 0 → Same (done s (effectOn s c) cells tags .answer .state .core .pages) (s .core .pages)
+done-same : (s : State) (c : Call) (cells tags : List ℕ) → first (reasonsOn s c cells tags) ≡ 0 → Same (done s (effectOn s c cells tags) cells tags .answer .state .core .pages) (s .core .pages)
 unfolding done
-done-same s c cells tags z = effect-same s (deed s c z)
+done-same s c cells tags z = effect-same s (deed s c cells tags z)
 
 pub step-same : (s : State) (c : Call) (cells tags : List ℕ) → Same (stepOf s c cells tags .answer .state .core .pages) (s .core .pages)
 step-same s c cells tags =

@@ -32,7 +32,7 @@ use Rattle.machine.proofs.Deeds.{paged-clear}
 use Rattle.machine.proofs.Keeps.{facts, step-keeps}
 
 -- A call that nothing speaks against is done.
-granted-done : (s : State) (c : Call) (cells tags : List ℕ) → Granted s c cells tags → stepOf s c cells tags ≡ done s (effectOn s c) cells tags
+granted-done : (s : State) (c : Call) (cells tags : List ℕ) → Granted s c cells tags → stepOf s c cells tags ≡ done s (effectOn s c cells tags) cells tags
 unfolding stepOf judged ruled
 granted-done s c cells tags g = rw (g .formed, g .served, g .clear)
 
@@ -51,20 +51,20 @@ abbrev Back : State → List ℕ → List ℕ → Call → Outcome → Type 0
 Back s cells tags d o = o .answer .code ≡ 0 → stepOf (o .answer .state) d (o .cells) (o .tags) ≡ left (answered 0 empty s) cells tags
 
 -- A call that leaves the claims x is undone by one that is granted on them and leaves the first claims.
-undone-by : (s : State) (cells tags : List ℕ) (c d : Call) (x : Claims) → effectOn s c ≡ claimsChange (s .core) x
-    → (Granted s c cells tags → (first (reasonsOn (reclaimed s x) d) ≡ 0) × (effectOn (reclaimed s x) d ≡ claimsChange (s .core) (s .core .claims)))
+undone-by : (s : State) (cells tags : List ℕ) (c d : Call) (x : Claims) → effectOn s c cells tags ≡ claimsChange (s .core) x
+    → (Granted s c cells tags → (first (reasonsOn (reclaimed s x) d cells tags) ≡ 0) × (effectOn (reclaimed s x) d cells tags ≡ claimsChange (s .core) (s .core .claims)))
     → Undone s cells tags c d
 undone-by s cells tags c d x is back = step-by s c cells tags (Back s cells tags d) granted (λ k n z. absurd (n z))
   where
-    granted : Granted s c cells tags → Back s cells tags d (done s (effectOn s c) cells tags)
+    granted : Granted s c cells tags → Back s cells tags d (done s (effectOn s c cells tags) cells tags)
     granted g =
-        let leaves = reclaims s x cells tags (effectOn s c) is in
+        let leaves = reclaims s x cells tags (effectOn s c cells tags) is in
         let formed : wellFormed (reclaimed s x) ≡ true =
         subst (λ o. wellFormed (o .answer .state) ≡ true) (granted-done s c cells tags g ∙ leaves) (step-keeps s c cells tags (g .formed)) in
         subst (Back s cells tags d) (sym leaves)
         (λ z.
         granted-done (reclaimed s x) d cells tags (record { formed = formed; served = g .served; clear = back g .0 })
-        ∙ reclaims (reclaimed s x) (s .core .claims) cells tags (effectOn (reclaimed s x) d) (back g .1))
+        ∙ reclaims (reclaimed s x) (s .core .claims) cells tags (effectOn (reclaimed s x) d cells tags) (back g .1))
 
 -- Behind a reason that does not apply, others may stand.
 behind : (k : ℕ) (b : Bool) (l r : List Reason) → (k ≡ 0 → ⊥) → first (reason k b ∷ l) ≡ 0 → first r ≡ 0 → first (reason k b ∷ r) ≡ 0

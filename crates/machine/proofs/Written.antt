@@ -30,11 +30,11 @@ usedUnder code n = pick (eqb code 1 || eqb code 2) 0 n
 
 -- A call judged by its own reasons answers neither 1 nor 2.
 late : (s : State) (c : Call) (cells tags : List ℕ) (n : ℕ) → usedUnder (ruled s c cells tags .answer .code) n ≡ n
-late s c cells tags n = rw (ruled-code s c cells tags) (go (first-within 3 lastRefusal (reasonsOn s c) (reasons-rise s c) .1))
+late s c cells tags n = rw (ruled-code s c cells tags) (go (first-within 3 lastRefusal (reasonsOn s c cells tags) (reasons-rise s c cells tags) .1))
   where
-    go : (first (reasonsOn s c) ≡ 0) ⊎ ((3 < first (reasonsOn s c)) × (first (reasonsOn s c) ≤ lastRefusal)) → usedUnder (first (reasonsOn s c)) n ≡ n
+    go : (first (reasonsOn s c cells tags) ≡ 0) ⊎ ((3 < first (reasonsOn s c cells tags)) × (first (reasonsOn s c cells tags) ≤ lastRefusal)) → usedUnder (first (reasonsOn s c cells tags)) n ≡ n
     go (inl z) = rw z
-    go (inr p) = rw (ne-eqb (first (reasonsOn s c)) 1 (λ z. omega (arith, p .0)), ne-eqb (first (reasonsOn s c)) 2 (λ z. omega (arith, p .0)))
+    go (inr p) = rw (ne-eqb (first (reasonsOn s c cells tags)) 1 (λ z. omega (arith, p .0)), ne-eqb (first (reasonsOn s c cells tags)) 2 (λ z. omega (arith, p .0)))
 
 -- Whatever stands before and after it, a call that was written runs as that call; it uses the bytes that were written,
 -- or none under refusals 1 and 2.

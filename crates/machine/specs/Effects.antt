@@ -1,9 +1,9 @@
 -- Document 01, 'Commands': what a granted call does, as data: the new core, at most one change each of registers,
--- mailboxes and memory, and the answer. It depends on the core, the mailboxes and the registers that the call reads, and on
--- nothing else. Assumes nothing.
+-- mailboxes and memory, and the answer. It depends on the core, the mailboxes and what the call reads, and on nothing else. Assumes nothing.
 use Prim.Native.Nat.{ℕ}
 use mathlib.Core.Bool.{true, false}
-use mathlib.Core.List.{List}
+use mathlib.Core.List.{List, [], _∷_}
+use lib.ListN.{getD}
 use Rattle.capabilities.specs.declared.Range.{Range}
 use Rattle.capabilities.specs.Capability.{capability, narrowed, permitted}
 use Rattle.pages.specs.declared.Frame.{Frame}
@@ -25,12 +25,10 @@ use Rattle.words.specs.Words.{slot, empty, mailboxOf, placeNumber, stored}
 use Rattle.machine.specs.Roles.{plainPermissions}
 use Rattle.machine.specs.Reasons.{Reads, addressed}
 
--- What becomes of the registers: nothing; a word is put into one of a party's; the word at a place of lent memory is, as a load
--- through a capability makes it; or the capabilities that die lose their tags.
+-- What becomes of the registers: nothing; a word is put into one of a party's; or the capabilities that die lose their tags.
 pub data RegisterChange : Type 0 where
   keepRegisters : RegisterChange
   putRegister : ℕ → ℕ → Slot → RegisterChange
-  fetchInto : ℕ → ℕ → ℕ → Slot → RegisterChange
   collectRegisters : RegisterChange
 
 -- What becomes of the mailboxes: nothing; a word is put into a party's; or the capabilities that die are gone.
@@ -39,15 +37,23 @@ pub data MailboxChange : Type 0 where
   putMailbox : ℕ → Slot → MailboxChange
   collectMailboxes : MailboxChange
 
--- What becomes of lent memory: nothing; a word is written at a place; a frame is cleared; or the cells from one place
+-- A word that is written at a place of lent memory.
+pub record Write : Type 0 where
+  pub at : ℕ
+  pub word : Slot
+
+abbrev pub write : ℕ → Slot → Write
+write at w = record { at = at; word = w }
+
+-- What becomes of lent memory: nothing; words are written, one after the other; a frame is cleared; or the cells from one place
 -- up to another are swept of capabilities into a range.
 pub data MemoryChange : Type 0 where
   keepMemory : MemoryChange
-  writeWord : ℕ → Slot → MemoryChange
+  writeWords : List Write → MemoryChange
   clearFrame : Frame → MemoryChange
   sweepCells : Range → ℕ → ℕ → MemoryChange
 
--- The answer is a number and a tag; where a word is fetched, the word as it was put into the register.
+-- The answer is a number and a tag.
 pub record Effect : Type 0 where
   pub core : Core
   pub registers : RegisterChange
@@ -109,13 +115,13 @@ effect c mail r (Map p page frame) = pageChange c (mapOf (c .pages) page frame .
 effect c mail r (Unmap p page) = pageChange c (unmapOf (c .pages) page (claimed (c .claims) (page .0)) .pages)
 effect c mail r (Zero p frame) =
     effectOf (withPages c (withFrame (c .pages) (frame .0) Free)) keepRegisters keepMailboxes (clearFrame frame) empty
--- 0B load: "The cell at base + off of the capability in a goes to d and is the answer". Of a word that is fetched the answer is that
--- word (Step, wordAfter); the empty one here is not looked at.
+-- 0B load: "The cell at base + off of the capability in a goes to d and is the answer": the one word that it reads in lent memory.
 effect c mail r (Load p a off d) =
-    effectOf c (fetchInto p d (placeNumber (addressed c (r .one) off)) (r .one)) keepMailboxes keepMemory empty
+    let word = getD (r .words) 0 empty in
+    effectOf c (putRegister p d word) keepMailboxes keepMemory word
 -- 0C store: "Register s goes to that cell."
 effect c mail r (Store p a off s) =
-    effectOf c keepRegisters keepMailboxes (writeWord (placeNumber (addressed c (r .one) off)) (stored c (r .two))) empty
+    effectOf c keepRegisters keepMailboxes (writeWords (write (placeNumber (addressed c (r .one) off)) (stored c (r .two)) ∷ [])) empty
 -- 0D narrow: "d gets base + off, len, and the permissions that are also in mask."
 effect c mail r (Narrow p s off len mask d) =
     effectOf c (putRegister p d (slot (narrowed (r .one .cell) off len mask) true)) keepMailboxes keepMemory empty

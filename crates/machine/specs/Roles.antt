@@ -1,4 +1,4 @@
--- The one table of the kinds of call: the party that makes a call, and the call's role. The registers that it reads, what the privacy
+-- The one table of the kinds of call: the party that makes a call, and the call's role. What it reads, what the privacy
 -- rule says of it and which call is a take are read off this table. Assumes nothing.
 use Prim.Native.Nat.{ℕ}
 use mathlib.Core.Path.{_≡_}
@@ -6,11 +6,13 @@ use Rattle.capabilities.specs.Capability.{permitted}
 use Rattle.calls.specs.declared.Call.{Call}
 use Rattle.calls.specs.declared.Call.the-variants.{Take, Split, Merge, Give, Revoke, Sweep, Collect, Map, Unmap, Zero, Load, Store, Narrow, Number, Grant, Receive, TakeMasked, Create, Claim, Release, Destroy}
 
--- The registers of its caller that a call reads: at most two, in the order of its operands.
+-- What a call reads besides the core and the mailboxes: registers of its caller, at most two, in the order of its operands; or a register
+-- and the word of lent memory at an offset of the capability in it.
 pub data Sources : Type 0 where
   fromNone : Sources
   fromOne : ℕ → Sources
   fromTwo : ℕ → ℕ → Sources
+  fromCell : ℕ → ℕ → Sources
 
 -- What a call is, besides its caller. The registers named here are the caller's.
 pub data Role : Type 0 where
@@ -18,7 +20,7 @@ pub data Role : Type 0 where
   takes : ℕ → ℕ → ℕ → Role
   -- A collect.
   collects : Role
-  -- A load, narrow or number: it reads these registers and changes one of the caller's.
+  -- A load, narrow or number: it reads these and changes one of the caller's registers.
   fills : Sources → Role
   -- A store through register a, at an offset, of register s.
   stores : ℕ → ℕ → ℕ → Role
@@ -49,7 +51,7 @@ roleOf (Collect p) = asked p collects
 roleOf (Map p page frame) = asked p plain
 roleOf (Unmap p page) = asked p plain
 roleOf (Zero p frame) = asked p plain
-roleOf (Load p a off d) = asked p (fills (fromOne a))
+roleOf (Load p a off d) = asked p (fills (fromCell a off))
 roleOf (Store p a off s) = asked p (stores a off s)
 roleOf (Narrow p s off len mask d) = asked p (fills (fromOne s))
 roleOf (Number p d value) = asked p (fills fromNone)
@@ -74,7 +76,7 @@ IsTake c p base reg permissions = roleOf c ≡ asked p (takes base reg permissio
 abbrev pub IsCollect : Call → ℕ → Type 0
 IsCollect c p = roleOf c ≡ asked p collects
 
--- "A call reads the registers that its operands name, save d and the reg of take."
+-- "A call reads the registers that its operands name, save d and the reg of take." A load reads a cell too.
 abbrev pub sourcesOf : Role → Sources
 sourcesOf (takes base reg permissions) = fromNone
 sourcesOf collects = fromNone

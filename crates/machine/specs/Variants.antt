@@ -114,7 +114,7 @@ unfoldable pub loadBy : (Core → Slot → Slot → Slot) → (Core → Slot →
 loadBy register answer byte =
     instead 0x0B
     (λ s c cells tags o.
-    let a = reads (s .registers) c .one in
+    let a = reads (s .core) (s .registers) cells tags c .one in
     let at = placeNumber (addressed (s .core) a (operand c 2)) in
     let w = wordAt cells tags at in
     let registers = set (s .registers) (8 * operand c 0 + operand c 3) (register (s .core) a w) in
@@ -127,7 +127,7 @@ unfoldable pub storeBy : (Core → Slot → Slot) → Rule
 storeBy word =
     instead 0x0C
     (λ s c cells tags o.
-    let r = reads (s .registers) c in
+    let r = reads (s .core) (s .registers) cells tags c in
     let w = word (s .core) (r .two) in
     let at = placeNumber (addressed (s .core) (r .one) (operand c 2)) in
     left (o .answer) (set cells at (w .cell)) (set tags at (byteOf (w .tag))))
@@ -159,30 +159,30 @@ destroyBy destroy = claimsBy 0x15 (λ k x. destroy k (x 1))
 
 -- The rule, but that after refusals 1 and 2 other reasons speak against a call of one kind, which has another effect where none of them does.
 -- So it can grant what the rule refuses, and refuse what the rule grants.
-unfoldable pub ruledBy : ℕ → (State → Call → List Reason) → (State → Call → Effect) → Rule
+unfoldable pub ruledBy : ℕ → (State → Call → List ℕ → List ℕ → List Reason) → (State → Call → List ℕ → List ℕ → Effect) → Rule
 ruledBy kind against does s c cells tags =
-    let code = first (against s c) in
+    let code = first (against s c cells tags) in
     pick (eqb (kindOf c) kind && (wellFormed s && serves (s .core .pages) (length cells) (length tags)))
-    (pick (eqb code 0) (done s (does s c) cells tags) (refused code s cells tags)) (stepOf s c cells tags)
+    (pick (eqb code 0) (done s (does s c cells tags) cells tags) (refused code s cells tags)) (stepOf s c cells tags)
 
 -- With other reasons against a claim or a destroy, of the type of `claimReasons` or `destroyReasons`.
 unfoldable pub claimAgainst : (Claims → ℕ → ℕ → ℕ → List Reason) → Rule
 claimAgainst against =
     ruledBy 0x13
-    (λ s c.
+    (λ s c cells tags.
     reason 4 (unnamed (operand c 0)) ∷ reason 12 (noPage (s .core .pages) (page (operand c 2)))
     ∷ against (s .core .claims) (operand c 0) (operand c 1) (operand c 2))
     effectOn
 
 unfoldable pub destroyAgainst : (Claims → ℕ → ℕ → List Reason) → Rule
 destroyAgainst against =
-    ruledBy 0x15 (λ s c. reason 4 (unnamed (operand c 0)) ∷ against (s .core .claims) (operand c 0) (operand c 1)) effectOn
+    ruledBy 0x15 (λ s c cells tags. reason 4 (unnamed (operand c 0)) ∷ against (s .core .claims) (operand c 0) (operand c 1)) effectOn
 
 -- With another test of a page's claims, of the type of `claimed`, that an unmap is told of.
 unfoldable pub toldBy : (Claims → ℕ → Bool) → Rule
 toldBy told =
     ruledBy 0x09
-    (λ s c.
+    (λ s c cells tags.
     reason 4 (unnamed (operand c 0)) ∷ reason 5 (notManager (operand c 0))
     ∷ unmapReasons (s .core .pages) (page (operand c 1)) (told (s .core .claims) (operand c 1)))
-    (λ s c. pageChange (s .core) (unmapOf (s .core .pages) (page (operand c 1)) (told (s .core .claims) (operand c 1)) .pages))
+    (λ s c cells tags. pageChange (s .core) (unmapOf (s .core .pages) (page (operand c 1)) (told (s .core .claims) (operand c 1)) .pages))

@@ -2,7 +2,7 @@
 use Prim.Native.Nat.{ℕ, _+_, _*_, _/_, _<_, _≤_}
 use native.Mathlib.Omega.{arith}
 use mathlib.Core.Bool.{Bool, true, false, not, _&&_, true≢false, false≢true}
-use mathlib.Core.List.{List}
+use mathlib.Core.List.{List, [], _∷_}
 use mathlib.Core.Path.{_≡_, refl, sym, ap, subst, _∙_}
 use borrow.Author.Tests.{eqb-true, ltb-true, ltb-false, lt-ltb}
 use lib.Dec.{eqb, ltb, leb}
@@ -23,8 +23,8 @@ use Rattle.reservations.specs.Core.{Core}
 use Rattle.reservations.specs.Revocation.{dying}
 use Rattle.words.specs.declared.Slot.{Slot}
 use Rattle.words.specs.Words.{slot, empty, registerOf, mailboxOf, wordAt, keepTag, collectedMailbox}
-use Rattle.machine.specs.Effects.{RegisterChange, keepRegisters, putRegister, fetchInto, collectRegisters, MailboxChange, keepMailboxes, putMailbox, collectMailboxes, MemoryChange, keepMemory, writeWord, clearFrame, sweepCells, Effect}
-use Rattle.machine.specs.Step.{registersAfter, mailboxesAfter, cellsAfter, tagsAfter, fetched}
+use Rattle.machine.specs.Effects.{RegisterChange, keepRegisters, putRegister, collectRegisters, MailboxChange, keepMailboxes, putMailbox, collectMailboxes, MemoryChange, keepMemory, Write, writeWords, clearFrame, sweepCells, Effect}
+use Rattle.machine.specs.Step.{registersAfter, mailboxesAfter, cellsAfter, tagsAfter}
 use Rattle.histories.specs.Runs.{Machine}
 use Rattle.histories.specs.Live.{Within}
 use Rattle.histories.proofs.Between.{lentAs}
@@ -34,7 +34,7 @@ use Rattle.privacy.specs.Rule.{into}
 use Rattle.privacy.proofs.Fate.{after}
 use Rattle.histories.proofs.Showing.{Came, shownBefore, wasFree}
 use Rattle.privacy.proofs.Relate.{FreeZero, place-low, untouched}
-use Rattle.privacy.proofs.Words.{put-register, collect-register, wordBy, Fits, word-after}
+use Rattle.privacy.proofs.Words.{put-register, collect-register, writtenBy, wordBy, Fits, word-after}
 
 -- A cell of a capability that lies in the range: then it is into the range.
 pub into-by : (r : Range) (c v : ℕ) → baseOf c ≤ v → v < baseOf c + lengthOf c → inside r v ≡ true → into r c ≡ true
@@ -127,7 +127,6 @@ pub record Housed (house : ℕ) (r : Range) (m : Machine) : Type 0 where
 abbrev pub RegisterSafe : ℕ → Range → Machine → RegisterChange → Type 0
 RegisterSafe house r m keepRegisters = Unit {0}
 RegisterSafe house r m (putRegister p d w) = (d < 8) × Good r (eqb p house) w
-RegisterSafe house r m (fetchInto p d at a) = (d < 8) × Good r (eqb p house) (wordAt (m .cells) (m .tags) at)
 RegisterSafe house r m collectRegisters = Unit {0}
 
 abbrev pub MailboxSafe : Range → MailboxChange → Type 0
@@ -135,19 +134,21 @@ MailboxSafe r keepMailboxes = Unit {0}
 MailboxSafe r (putMailbox p w) = Apart r w
 MailboxSafe r collectMailboxes = Unit {0}
 
+abbrev pub WritesSafe : Range → Machine → List Write → Type 0
+WritesSafe r m [] = Unit {0}
+WritesSafe r m (x ∷ writes) = ((v : ℕ) → lookupOf (m .state .core .pages) v ≡ At (x .at) → Good r (inside r v) (x .word)) × WritesSafe r m writes
+
 abbrev pub MemorySafe : Range → Machine → MemoryChange → Type 0
 MemorySafe r m keepMemory = Unit {0}
-MemorySafe r m (writeWord at w) = (v : ℕ) → lookupOf (m .state .core .pages) v ≡ At at → Good r (inside r v) w
+MemorySafe r m (writeWords writes) = WritesSafe r m writes
 MemorySafe r m (clearFrame f) = Unit {0}
 MemorySafe r m (sweepCells q from upto) = Unit {0}
 
 registers-good : (house : ℕ) (r : Range) (m : Machine) (x : RegisterChange) → Housed house r m → RegisterSafe house r m x
-    → (p d : ℕ) → Good r (eqb p house) (registerOf (registersAfter x (m .state) (m .cells) (m .tags)) p d)
+    → (p d : ℕ) → Good r (eqb p house) (registerOf (registersAfter x (m .state)) p d)
 unfolding registersAfter
 registers-good house r m keepRegisters h s = h .registers
 registers-good house r m (putRegister p d w) h s = put-register (λ q y. Good r (eqb q house) y) (m .state .registers) p d w (s .0) (s .1) (h .registers)
-registers-good house r m (fetchInto p d at a) h s =
-    put-register (λ q y. Good r (eqb q house) y) (m .state .registers) p d (fetched (m .state .core) (m .cells) (m .tags) at a) (s .0) (keep-good r (eqb p house) (wordAt (m .cells) (m .tags) at) _ (s .1)) (h .registers)
 registers-good house r m collectRegisters h s =
     λ p d. subst (Good r (eqb p house)) (sym (collect-register (m .state .core) (m .state .registers) p d))
     (keep-good r (eqb p house) (registerOf (m .state .registers) p d) (not (dying (m .state .core) (registerOf (m .state .registers) p d .cell))) (h .registers p d))
@@ -160,13 +161,18 @@ mailboxes-apart r m (putMailbox q w) h s = put-each (Apart r) (m .state .mailbox
 mailboxes-apart r m collectMailboxes h s =
     λ p. subst (Apart r) (sym (collected-mailboxes (m .state .core) (m .state .mailboxes) p)) (collected-apart r (m .state .core) (getD (m .state .mailboxes) p empty) (h p))
 
+writes-good : (r : Range) (m : Machine) (writes : List Write) (v at : ℕ) (w : Slot) → lookupOf (m .state .core .pages) v ≡ At at → WritesSafe r m writes → Good r (inside r v) w
+    → Good r (inside r v) (writtenBy writes at w)
+writes-good r m [] v at w q s g = g
+writes-good r m (x ∷ writes) v at w q s g = writes-good r m writes v at (pick (eqb at (x .at)) (x .word) w) q (s .1) (go (eqb at (x .at)) refl)
+  where
+    go : (b : Bool) → eqb at (x .at) ≡ b → Good r (inside r v) (pick b (x .word) w)
+    go true e = s .0 v (q ∙ ap At (eqb-true at (x .at) e))
+    go false e = g
+
 word-good : (r : Range) (m : Machine) (x : MemoryChange) (frames : List FrameEntry) (v at : ℕ) (w : Slot) → lookupOf (m .state .core .pages) v ≡ At at → MemorySafe r m x → Good r (inside r v) w → Good r (inside r v) (wordBy x frames at w)
 word-good r m keepMemory frames v at w q s g = g
-word-good r m (writeWord to x) frames v at w q s g = go (eqb at to) refl
-  where
-    go : (b : Bool) → eqb at to ≡ b → Good r (inside r v) (pick b x w)
-    go true e = s v (q ∙ ap At (eqb-true at to e))
-    go false e = g
+word-good r m (writeWords writes) frames v at w q s g = writes-good r m writes v at w q s g
 word-good r m (clearFrame f) frames v at w q s g = go (eqb (at / 16) (f .0))
   where
     go : (b : Bool) → Good r (inside r v) (pick b empty w)

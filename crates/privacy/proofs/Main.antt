@@ -65,8 +65,8 @@ module _ (m : Machine) (take : Call) (house base reg permissions : ℕ) (is : Is
   ok : coreSound (m .state .core) ≡ true
   ok = granted-core m take g
 
-  t : Taken (m .state) house base reg permissions (effectOn (m .state) take)
-  t = taken-by (m .state) take house base reg permissions is (g .clear)
+  t : Taken (m .state) house base reg permissions (effectOn (m .state) take (m .cells) (m .tags))
+  t = taken-by (m .state) take (m .cells) (m .tags) house base reg permissions is (g .clear)
 
   w : Takes (m .state .core) ok house base
   w = takes (m .state .core) ok house base (t .clear)

@@ -14,11 +14,10 @@ use Rattle.words.specs.declared.Slot.{Slot}
 use Rattle.words.specs.Words.{slot, registerOf}
 use Rattle.machine.specs.Formed.{startOf}
 use Rattle.machine.specs.Roles.{IsTake}
-use Rattle.machine.specs.Reasons.{Reads, reading}
 use Rattle.machine.proofs.Computing.{computing}
 use Rattle.histories.specs.Runs.{Machine, outcome, next, run, begun}
 use Rattle.histories.specs.Live.{virtual, wordIn}
-use Rattle.privacy.specs.Rule.{granted, housed, Time, takenRange, ending, until, into, aimed, struck, Left, remaining, left, indiscreet, discreet, Told, told}
+use Rattle.privacy.specs.Rule.{Registers, inRegisters, granted, housed, Time, takenRange, ending, until, into, aimed, struck, Left, remaining, left, indiscreet, discreet, Told, told}
 use Rattle.privacy.specs.Claim.{Within, atTake, afterTake, time}
 
 -- A call of both lists, with its answer in each; or of the first or the second alone, with its answer.
@@ -56,8 +55,8 @@ alike a b = pick a b (not b)
 abbrev sameSlot : Slot → Slot → Bool
 sameSlot v w = eqb (v .cell) (w .cell) && alike (v .tag) (w .tag)
 
-abbrev sameReads : Reads → Reads → Bool
-sameReads r s = sameSlot (r .one) (s .one) && sameSlot (r .two) (s .two)
+abbrev sameRegisters : Registers → Registers → Bool
+sameRegisters r s = sameSlot (r .one) (s .one) && sameSlot (r .two) (s .two)
 
 abbrev sameTold : Told → Told → Bool
 sameTold a b = (eqb (a .code) (b .code) && eqb (a .number) (b .number)) && alike (a .tag) (b .tag)
@@ -79,7 +78,7 @@ walk house t g u h (inBoth c a b ∷ l) =
     record {
       answered = (answers g c a && answers h c b) && rest .answered;
       calls = alike (struck house t g c) (struck house u h c) && rest .calls;
-      registers = (struck house t g c || sameReads (remaining house g c .registers) (remaining house h c .registers)) && rest .registers;
+      registers = (struck house t g c || sameRegisters (remaining house g c .registers) (remaining house h c .registers)) && rest .registers;
     }
 walk house t g u h (inOne c a ∷ l) =
     let rest = walk house (until t g c) (next g c) u h l in
@@ -183,18 +182,18 @@ slot-same v w e =
     ap (λ n. slot n (v .tag)) (eqb-true (v .cell) (w .cell) (and-left (eqb (v .cell) (w .cell)) (alike (v .tag) (w .tag)) e))
     ∙ ap (slot (w .cell)) (alike-same (v .tag) (w .tag) (and-right (eqb (v .cell) (w .cell)) (alike (v .tag) (w .tag)) e))
 
-reads-same : (r s : Reads) → sameReads r s ≡ true → r ≡ s
-reads-same r s e =
-    ap (λ w. reading w (r .two)) (slot-same (r .one) (s .one) (and-left (sameSlot (r .one) (s .one)) (sameSlot (r .two) (s .two)) e))
-    ∙ ap (reading (s .one)) (slot-same (r .two) (s .two) (and-right (sameSlot (r .one) (s .one)) (sameSlot (r .two) (s .two)) e))
+registers-same : (r s : Registers) → sameRegisters r s ≡ true → r ≡ s
+registers-same r s e =
+    ap (λ w. inRegisters w (r .two)) (slot-same (r .one) (s .one) (and-left (sameSlot (r .one) (s .one)) (sameSlot (r .two) (s .two)) e))
+    ∙ ap (inRegisters (s .one)) (slot-same (r .two) (s .two) (and-right (sameSlot (r .one) (s .one)) (sameSlot (r .two) (s .two)) e))
 
 -- One call of both lists: struck in both, or left in both with equal registers.
-one-left : (x y : Bool) (c : Call) (r s : Reads) (k l : List Left) → alike x y ≡ true → x || sameReads r s ≡ true → k ≡ l
+one-left : (x y : Bool) (c : Call) (r s : Registers) (k l : List Left) → alike x y ≡ true → x || sameRegisters r s ≡ true → k ≡ l
     → pick x k (record { call = c; registers = r } ∷ k) ≡ pick y l (record { call = c; registers = s } ∷ l)
 one-left true true c r s k l e f g = g
 one-left true false c r s k l e f g = absurd (false≢true e)
 one-left false true c r s k l e f g = absurd (false≢true e)
-one-left false false c r s k l e f g = ap (λ w. record { call = c; registers = w } ∷ k) (reads-same r s f) ∙ ap (λ j. record { call = c; registers = s } ∷ j) g
+one-left false false c r s k l e f g = ap (λ w. record { call = c; registers = w } ∷ k) (registers-same r s f) ∙ ap (λ j. record { call = c; registers = s } ∷ j) g
 
 struck-left : (x : Bool) (w : Left) (l : List Left) → x ≡ true → pick x l (w ∷ l) ≡ l
 struck-left true w l e = refl
@@ -209,9 +208,9 @@ left-same house t g u h (inBoth c a b ∷ l) e f =
     one-left (struck house t g c) (struck house u h c) c (remaining house g c .registers) (remaining house h c .registers)
     (left house (until t g c) (next g c) (ones l)) (left house (until u h c) (next h c) (twos l))
     (and-left (alike (struck house t g c) (struck house u h c)) (n .calls) e)
-    (and-left (struck house t g c || sameReads (remaining house g c .registers) (remaining house h c .registers)) (n .registers) f)
+    (and-left (struck house t g c || sameRegisters (remaining house g c .registers) (remaining house h c .registers)) (n .registers) f)
     (left-same house (until t g c) (next g c) (until u h c) (next h c) l (and-right (alike (struck house t g c) (struck house u h c)) (n .calls) e)
-    (and-right (struck house t g c || sameReads (remaining house g c .registers) (remaining house h c .registers)) (n .registers) f))
+    (and-right (struck house t g c || sameRegisters (remaining house g c .registers) (remaining house h c .registers)) (n .registers) f))
 left-same house t g u h (inOne c a ∷ l) e f =
     let n = walk house (until t g c) (next g c) u h l in
     struck-left (struck house t g c) (remaining house g c) (left house (until t g c) (next g c) (ones l)) (and-left (struck house t g c) (n .calls) e)

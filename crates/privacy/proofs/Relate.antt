@@ -12,10 +12,9 @@ use Rattle.pages.specs.declared.Place.the-variants.{At, Nowhere}
 use Rattle.pages.specs.Layer.{frameAt}
 use Rattle.pages.specs.Mapping.{lookupOf}
 use Rattle.pages.proofs.Formed.{Sound}
-use Rattle.words.specs.declared.Slot.{Slot}
-use Rattle.words.specs.Words.{registerOf, mailboxOf, wordAt, loaded, collectedRegister, collectedMailbox}
-use Rattle.machine.specs.Effects.{RegisterChange, keepRegisters, putRegister, fetchInto, collectRegisters, MailboxChange, keepMailboxes, putMailbox, collectMailboxes, MemoryChange, keepMemory, Effect}
-use Rattle.machine.specs.Step.{registersAfter, mailboxesAfter, cellsAfter, tagsAfter, wordAfter, fetched}
+use Rattle.words.specs.Words.{registerOf, mailboxOf, wordAt, collectedRegister, collectedMailbox}
+use Rattle.machine.specs.Effects.{RegisterChange, keepRegisters, putRegister, collectRegisters, MailboxChange, keepMailboxes, putMailbox, collectMailboxes, MemoryChange, keepMemory, Effect}
+use Rattle.machine.specs.Step.{registersAfter, mailboxesAfter, cellsAfter, tagsAfter}
 use Rattle.histories.specs.Runs.{Machine}
 use Rattle.histories.proofs.View.{seen, seen-low, word-none}
 use Rattle.privacy.specs.Rule.{Time, hidden, shown, sightAt, sight, Alike}
@@ -69,35 +68,20 @@ alike house t g h r =
     see v n (At at) e = at-once v (At at) e (ap shown (r .words v at e n))
     see v n Nowhere e = at-once v Nowhere e refl
 
--- Whatever is fetched is equal.
-abbrev pub FetchSame : RegisterChange → Machine → Machine → Type 0
-FetchSame keepRegisters g h = Unit {0}
-FetchSame (putRegister p d w) g h = Unit {0}
-FetchSame (fetchInto p d at a) g h = wordAt (g .cells) (g .tags) at ≡ wordAt (h .cells) (h .tags) at
-FetchSame collectRegisters g h = Unit {0}
-
-fetched-same : (g h : Machine) (at : ℕ) (a : Slot) → g .state .core ≡ h .state .core → wordAt (g .cells) (g .tags) at ≡ wordAt (h .cells) (h .tags) at
-    → fetched (g .state .core) (g .cells) (g .tags) at a ≡ fetched (h .state .core) (h .cells) (h .tags) at a
-fetched-same g h at a k f = ap (λ c. loaded c a (wordAt (g .cells) (g .tags) at)) k ∙ ap (loaded (h .state .core) a) f
-
 registers-same : (x : RegisterChange) (g h : Machine) (p r : ℕ) → g .state .core ≡ h .state .core → length (g .state .registers) ≡ length (h .state .registers)
-    → registerOf (g .state .registers) p r ≡ registerOf (h .state .registers) p r → FetchSame x g h
-    → registerOf (registersAfter x (g .state) (g .cells) (g .tags)) p r ≡ registerOf (registersAfter x (h .state) (h .cells) (h .tags)) p r
+    → registerOf (g .state .registers) p r ≡ registerOf (h .state .registers) p r
+    → registerOf (registersAfter x (g .state)) p r ≡ registerOf (registersAfter x (h .state)) p r
 unfolding registersAfter
-registers-same keepRegisters g h p r k l e f = e
-registers-same (putRegister q d w) g h p r k l e f = put-same (g .state .registers) (h .state .registers) (8 * q + d) w p r l e
-registers-same (fetchInto q d at a) g h p r k l e f =
-    put-same (g .state .registers) (h .state .registers) (8 * q + d) (fetched (g .state .core) (g .cells) (g .tags) at a) p r l e
-    ∙ ap (λ w. registerOf (set (h .state .registers) (8 * q + d) w) p r) (fetched-same g h at a k f)
-registers-same collectRegisters g h p r k l e f =
+registers-same keepRegisters g h p r k l e = e
+registers-same (putRegister q d w) g h p r k l e = put-same (g .state .registers) (h .state .registers) (8 * q + d) w p r l e
+registers-same collectRegisters g h p r k l e =
     collect-register (g .state .core) (g .state .registers) p r ∙ ap (collectedRegister (g .state .core)) e
     ∙ ap (λ c. collectedRegister c (registerOf (h .state .registers) p r)) k ∙ sym (collect-register (h .state .core) (h .state .registers) p r)
 
-registers-long : (x : RegisterChange) (m : Machine) → length (registersAfter x (m .state) (m .cells) (m .tags)) ≡ length (m .state .registers)
+registers-long : (x : RegisterChange) (m : Machine) → length (registersAfter x (m .state)) ≡ length (m .state .registers)
 unfolding registersAfter
 registers-long keepRegisters m = refl
 registers-long (putRegister q d w) m = length-set (m .state .registers) (8 * q + d) w
-registers-long (fetchInto q d at a) m = length-set (m .state .registers) (8 * q + d) (fetched (m .state .core) (m .cells) (m .tags) at a)
 registers-long collectRegisters m = simp length-map
 
 mailboxes-same : (x : MailboxChange) (g h : Machine) → g .state .core ≡ h .state .core → g .state .mailboxes ≡ h .state .mailboxes → mailboxesAfter x (g .state) ≡ mailboxesAfter x (h .state)
@@ -105,15 +89,6 @@ unfolding mailboxesAfter
 mailboxes-same keepMailboxes g h k e = e
 mailboxes-same (putMailbox p w) g h k e = ap (λ l. set l p w) e
 mailboxes-same collectMailboxes g h k e = ap (λ l. map (collectedMailbox (g .state .core)) l) e ∙ ap (λ c. map (collectedMailbox c) (h .state .mailboxes)) k
-
--- The answer's word.
-pub answer-same : (x : RegisterChange) (w : Slot) (g h : Machine) → g .state .core ≡ h .state .core → FetchSame x g h
-    → wordAfter x w (g .state .core) (g .cells) (g .tags) ≡ wordAfter x w (h .state .core) (h .cells) (h .tags)
-unfolding wordAfter
-answer-same keepRegisters w g h k f = refl
-answer-same (putRegister q d x) w g h k f = refl
-answer-same (fetchInto q d at a) w g h k f = fetched-same g h at a k f
-answer-same collectRegisters w g h k f = refl
 
 -- The place of a Mapped cell lies in memory.
 pub place-low : (s : Pages) → Sound s → (v at : ℕ) → lookupOf s v ≡ At at → at < 16 * s .f
@@ -129,7 +104,7 @@ untouched m l at e = ap (λ x. wordAt (cellsAfter x (m .cells)) (tagsAfter x (m 
 
 module _ (house : ℕ) (t u : Time) (g h : Machine) (e : Effect) (r : Rel house t g h) (ok : Sound (g .state .core .pages))
     (size-cells : length (g .cells) ≡ 16 * g .state .core .pages .f) (size-tags : length (g .tags) ≡ 16 * g .state .core .pages .f)
-    (fits : Fits (e .memory) (16 * g .state .core .pages .f)) (fetch : FetchSame (e .registers) g h) (zero₁ : FreeZero g) (zero₂ : FreeZero h)
+    (fits : Fits (e .memory) (16 * g .state .core .pages .f)) (zero₁ : FreeZero g) (zero₂ : FreeZero h)
     (from : (v at : ℕ) → lookupOf (e .core .pages) v ≡ At at → Came (g .state .core .pages) (e .memory) v at)
     (hides : (v at : ℕ) → lookupOf (e .core .pages) v ≡ At at → hidden u v ≡ false → hidden t v ≡ false) where
   fits₁ : Fits (e .memory) (length (g .cells))
@@ -166,7 +141,7 @@ module _ (house : ℕ) (t u : Time) (g h : Machine) (e : Effect) (r : Rel house 
       record {
         core = refl;
         mail = mailboxes-same (e .mailboxes) g h (r .core) (r .mail);
-        others = λ p d n. registers-same (e .registers) g h p d (r .core) (r .long) (r .others p d n) fetch;
+        others = λ p d n. registers-same (e .registers) g h p d (r .core) (r .long) (r .others p d n);
         long = registers-long (e .registers) g ∙ r .long ∙ sym (registers-long (e .registers) h);
         of-cells = cells-long (e .memory) (g .cells) fits₁ ∙ r .of-cells ∙ sym (cells-long (e .memory) (h .cells) fits₃);
         of-tags = tags-long (e .memory) (g .state .core) (g .cells) (g .tags) fits₂ ∙ r .of-tags ∙ sym (tags-long (e .memory) (h .state .core) (h .cells) (h .tags) fits₄);

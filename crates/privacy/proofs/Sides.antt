@@ -2,6 +2,7 @@
 use Prim.Native.Nat.{ℕ, _+_, _*_, _<_}
 use native.Mathlib.Omega.{arith}
 use mathlib.Core.Bool.{Bool, true, false, not, _&&_, _||_, true≢false, false≢true}
+use mathlib.Core.List.{List}
 use mathlib.Core.Path.{_≡_, refl, sym, ap, subst, _∙_}
 use borrow.Author.Tests.{eqb-true, eqb-false, eq-eqb, ne-eqb, lt-ltb}
 use lib.Dec.{eqb}
@@ -22,7 +23,7 @@ use Rattle.words.specs.Words.{slot, named, registerOf, mailboxOf, wordAt, store
 use Rattle.machine.specs.State.{State}
 use Rattle.machine.specs.Roles.{Sources, stores, grants, Asked, asked, roleOf}
 use Rattle.machine.specs.Effects.{Effect}
-use Rattle.machine.proofs.Deeds.{Filling, narrows, numbers, aimedAt, Deed, took, recored, swept, collectedAll, zeroed, filled, loaded, wrote, mailed, received}
+use Rattle.machine.proofs.Deeds.{Filling, loads, narrows, numbers, aimedAt, Deed, took, recored, swept, collectedAll, zeroed, filled, wrote, mailed, received}
 use Rattle.machine.proofs.Found.{Addressing, Narrowing}
 use Rattle.machine.proofs.PagesKept.{zero-clear}
 use Rattle.histories.specs.Runs.{Machine}
@@ -35,14 +36,13 @@ use Rattle.privacy.proofs.Tables.{takes, taken-apart}
 use Rattle.privacy.proofs.Words.{Fits}
 
 -- 0A: the frame lies in memory.
-pub fits-deed : (s : State) {a : Asked} {e : Effect} → Deed s a e → Fits (e .memory) (16 * s .core .pages .f)
+pub fits-deed : (s : State) {cells tags : List ℕ} {a : Asked} {e : Effect} → Deed s cells tags a e → Fits (e .memory) (16 * s .core .pages .f)
 fits-deed s (took p base reg permissions low-p low-reg few z) = tt
 fits-deed s (recored p k r) = tt
 fits-deed s (swept p n runs) = tt
 fits-deed s (collectedAll p z) = tt
 fits-deed s (zeroed p frame z) = let (low, dirty) = zero-clear (s .core .pages) frame z in omega arith
-fits-deed s (filled p d from w low g) = tt
-fits-deed s (loaded p a off d low g) = tt
+fits-deed s (filled p d from w answer low g) = tt
 fits-deed s (wrote p a off x low-p low-a g) = tt
 fits-deed s (mailed p x to t) = tt
 fits-deed s (received p d low) = tt
@@ -109,20 +109,20 @@ module _ (house : ℕ) (r : Range) (m : Machine) (h : Housed house r m) where
           none true e = absurd (true≢false (sym (source e) ∙ g (k .tagged)))
           none false e = e
 
-  filling-good : (p : ℕ) {from : Sources} {w : Slot} → Filling s p from w → Good r (eqb p house) w
+  filling-good : (p : ℕ) {from : Sources} {w answer : Slot} → Filling s (m .cells) (m .tags) p from w answer → Good r (eqb p house) w
+  filling-good p (loads a off g) = keep-good r (eqb p house) (wordAt (m .cells) (m .tags) (aimedAt s p a off)) _ (load-good p a off g (eqb p house) refl)
   filling-good p (narrows x off len mask g) = narrow-good (eqb p house) (registerOf (s .registers) p x) off len mask g (h .registers p x)
   filling-good p (numbers value) = apart-good r (eqb p house) (slot value false) (λ e. absurd (false≢true e))
 
   -- What is put into registers.
-  pub register-safe : coreSound (s .core) ≡ true → {a : Asked} {e : Effect} → Deed s a e → RegisterSafe house r m (e .registers)
+  pub register-safe : coreSound (s .core) ≡ true → {a : Asked} {e : Effect} → Deed s (m .cells) (m .tags) a e → RegisterSafe house r m (e .registers)
   register-safe ok (took p base reg permissions low-p low-reg few z) =
       (low-reg, apart-good r (eqb p house) _ (taken-apart (s .core) ok p base (takes (s .core) ok p base z) permissions few r (h .around)))
   register-safe ok (recored p k x) = tt
   register-safe ok (swept p n runs) = tt
   register-safe ok (collectedAll p z) = tt
   register-safe ok (zeroed p frame z) = tt
-  register-safe ok (filled p d from w low g) = (low, filling-good p g)
-  register-safe ok (loaded p a off d low g) = (low, load-good p a off g (eqb p house) refl)
+  register-safe ok (filled p d from w answer low g) = (low, filling-good p g)
   register-safe ok (wrote p a off x low-p low-a g) = tt
   register-safe ok (mailed p x to t) = tt
   register-safe ok (received p d low) = (low, apart-good r (eqb p house) (mailboxOf (s .mailboxes) p) (h .mailboxes p))
@@ -149,14 +149,13 @@ module _ (house : ℕ) (r : Range) (m : Machine) (h : Housed house r m) where
   grant-apart p x q false e = other-apart p x (eqb-false p house e)
 
   -- What is put into mailboxes.
-  pub mailbox-safe : {a : Asked} {e : Effect} → Deed s a e → Quiet a → MailboxSafe r (e .mailboxes)
+  pub mailbox-safe : {cells tags : List ℕ} {a : Asked} {e : Effect} → Deed s cells tags a e → Quiet a → MailboxSafe r (e .mailboxes)
   mailbox-safe (took p base reg permissions low-p low-reg few z) q = tt
   mailbox-safe (recored p k x) q = tt
   mailbox-safe (swept p n runs) q = tt
   mailbox-safe (collectedAll p z) q = tt
   mailbox-safe (zeroed p frame z) q = tt
-  mailbox-safe (filled p d from w low g) q = tt
-  mailbox-safe (loaded p a off d low g) q = tt
+  mailbox-safe (filled p d from w answer low g) q = tt
   mailbox-safe (wrote p a off x low-p low-a g) q = tt
   mailbox-safe (mailed p x to t) q = grant-apart p x q (eqb p house) refl
   mailbox-safe (received p d low) q = empty-apart r
@@ -209,14 +208,13 @@ module _ (house : ℕ) (r : Range) (m : Machine) (h : Housed house r m) where
         (keep-good r false (registerOf (s .registers) p x) (not (dying (s .core) (registerOf (s .registers) p x .cell))) (other-apart p x (eqb-false p house e)))
 
   -- What is written into memory.
-  pub memory-safe : Sound (s .core .pages) → {a : Asked} {e : Effect} → Deed s a e → Quiet a → MemorySafe r m (e .memory)
+  pub memory-safe : Sound (s .core .pages) → {cells tags : List ℕ} {a : Asked} {e : Effect} → Deed s cells tags a e → Quiet a → MemorySafe r m (e .memory)
   memory-safe ok (took p base reg permissions low-p low-reg few z) q = tt
   memory-safe ok (recored p k x) q = tt
   memory-safe ok (swept p n runs) q = tt
   memory-safe ok (collectedAll p z) q = tt
   memory-safe ok (zeroed p frame z) q = tt
-  memory-safe ok (filled p d from w low g) q = tt
-  memory-safe ok (loaded p a off d low g) q = tt
-  memory-safe ok (wrote p a off x low-p low-a g) q = store-safe ok p a off x g low-p low-a q (eqb p house) refl
+  memory-safe ok (filled p d from w answer low g) q = tt
+  memory-safe ok (wrote p a off x low-p low-a g) q = (store-safe ok p a off x g low-p low-a q (eqb p house) refl, tt)
   memory-safe ok (mailed p x to t) q = tt
   memory-safe ok (received p d low) q = tt

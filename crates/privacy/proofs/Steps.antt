@@ -2,6 +2,7 @@
 use Prim.Native.Nat.{ℕ, _+_, _*_, _<_}
 use native.Mathlib.Omega.{arith}
 use mathlib.Core.Bool.{Bool, true, false, _&&_, true≢false, false≢true}
+use mathlib.Core.List.{List}
 use mathlib.Core.Path.{_≡_, refl, sym, ap, subst, _∙_}
 use borrow.Author.Tests.{eqb-true, eqb-false, eq-eqb, ne-eqb}
 use lib.Dec.{eqb}
@@ -23,8 +24,8 @@ use Rattle.words.specs.Words.{registerOf, wordAt, byteOf, stored}
 use Rattle.machine.specs.State.{State}
 use Rattle.machine.specs.Roles.{Asked}
 use Rattle.machine.specs.Effects.{Effect}
-use Rattle.machine.specs.Step.{effectOn, registersAfter, mailboxesAfter, cellsAfter, tagsAfter, fetched}
-use Rattle.machine.proofs.Deeds.{aimedAt, Deed, took, recored, swept, collectedAll, zeroed, filled, loaded, wrote, mailed, received, deed}
+use Rattle.machine.specs.Step.{effectOn, registersAfter, mailboxesAfter, writtenCells, writtenTags, cellsAfter, tagsAfter}
+use Rattle.machine.proofs.Deeds.{aimedAt, Deed, took, recored, swept, collectedAll, zeroed, filled, wrote, mailed, received, deed}
 use Rattle.machine.proofs.Found.{Addressing}
 use Rattle.histories.specs.Inv.{Inv}
 use Rattle.histories.specs.Runs.{Machine, machine, outcome, next}
@@ -54,8 +55,8 @@ module _ (m : Machine) (c : Call) (k : Granted m c) where
   pub granted-tags : length (m .tags) ≡ 16 * m .state .core .pages .f
   granted-tags = served (m .state .core .pages) (length (m .cells)) (length (m .tags)) (k .served) .1
 
-  pub granted-next : next m c ≡ after m (effectOn (m .state) c)
-  granted-next = next-done m c (effectOn (m .state) c) (k .comes)
+  pub granted-next : next m c ≡ after m (effectOn (m .state) c (m .cells) (m .tags))
+  granted-next = next-done m c (effectOn (m .state) c (m .cells) (m .tags)) (k .comes)
 
 pub granted-test : (m : Machine) (c : Call) → codeOf m c ≡ 0 → granted m c ≡ true
 granted-test m c z = eq-eqb (outcome m c .answer .code) 0 (code-is m c ∙ z)
@@ -85,10 +86,10 @@ module _ (house : ℕ) (r : Range) (m : Machine) (i : Inv m) (h : Housed house r
       go (up e k) =
           let ok = granted-core m c k in
           let g = granted-test m c e in
-          let d = deed (m .state) c (k .clear) in
+          let d = deed (m .state) c (m .cells) (m .tags) (k .clear) in
           let still = quiet house r m h c q g in
           subst (λ x. Housed house r x) (sym (granted-next m c k))
-          (effect-housed house r m (effectOn (m .state) c) h (granted-layer m c k) (granted-cells m c k) (granted-tags m c k) (fits-deed (m .state) d) (i .memory .free)
+          (effect-housed house r m (effectOn (m .state) c (m .cells) (m .tags)) h (granted-layer m c k) (granted-cells m c k) (granted-tags m c k) (fits-deed (m .state) d) (i .memory .free)
           (came (m .state) ok d) (around-after (m .state) ok d r (h .some) (h .around) (going g)) (register-safe house r m h ok d) (mailbox-safe house r m h d still)
           (memory-safe house r m h (granted-layer m c k) d still))
 
@@ -145,16 +146,14 @@ module _ (house : ℕ) (r : Range) (g h : Machine) (own : Housed house r g) (rel
   store-alone p a off x e aim k v l = ap (inside r) (store-once house r g own ok p a off x k v l) ∙ aimed-inside house r g own p a off e aim k
 
   -- What a struck call does.
-  alone-up : {a : Asked} {e : Effect} → Deed s a e → eqb (a .caller) house ≡ true → strikes r s (a .caller) (a .role) ≡ true → Rel house (lasting r) (after g e) h
-  unfolding after registersAfter mailboxesAfter cellsAfter tagsAfter
+  alone-up : {cells tags : List ℕ} {a : Asked} {e : Effect} → Deed s cells tags a e → eqb (a .caller) house ≡ true → strikes r s (a .caller) (a .role) ≡ true → Rel house (lasting r) (after g e) h
+  unfolding after registersAfter mailboxesAfter writtenCells writtenTags cellsAfter tagsAfter
   alone-up (took p base reg permissions low-p low-reg few z) e f = absurd (false≢true f)
   alone-up (recored p k x) e f = absurd (false≢true f)
   alone-up (swept p n runs) e f = absurd (false≢true f)
   alone-up (collectedAll p z) e f = absurd (false≢true f)
   alone-up (zeroed p frame z) e f = absurd (false≢true f)
-  alone-up (filled p d from w low k) e f = own-register house (lasting r) g h p d w rel (eqb-true p house e) low
-  alone-up (loaded p a off d low k) e f =
-      own-register house (lasting r) g h p d (fetched (s .core) (g .cells) (g .tags) (aimedAt s p a off) (registerOf (s .registers) p a)) rel (eqb-true p house e) low
+  alone-up (filled p d from w answer low k) e f = own-register house (lasting r) g h p d w rel (eqb-true p house e) low
   alone-up (wrote p a off x low-p low-a k) e f =
       own-write house (lasting r) g h (aimedAt s p a off) (stored (s .core) (registerOf (s .registers) p x)) rel (store-alone p a off x (eqb-true p house e) f k)
   alone-up (mailed p x to t) e f = absurd (false≢true f)
@@ -175,5 +174,5 @@ alone house t g h c ok rel e = go t (ok .own) rel e (fate g c)
     go (lasting r) own rel e (up z k) =
         let f = parts r e in
         subst (λ y. Rel house (lasting r) y h) (sym (granted-next g c k))
-        (alone-up house r g h (own r refl) rel (granted-layer g c k) (deed (g .state) c (k .clear)) (and-left (housed house c) (private r (g .state) c) f) (and-right (housed house c) (private r (g .state) c) f))
+        (alone-up house r g h (own r refl) rel (granted-layer g c k) (deed (g .state) c (g .cells) (g .tags) (k .clear)) (and-left (housed house c) (private r (g .state) c) f) (and-right (housed house c) (private r (g .state) c) f))
     go over own rel e (up z k) = absurd (never e)

@@ -2,7 +2,7 @@
 use Prim.Native.Nat.{ℕ, _+_, _*_, _%_, _<_, _≤_}
 use native.Mathlib.Omega.{arith}
 use mathlib.Core.Bool.{Bool, true, false, true≢false}
-use mathlib.Core.List.{[], _∷_}
+use mathlib.Core.List.{List, [], _∷_}
 use mathlib.Core.Logic.{⊎-elim}
 use mathlib.Core.Path.{_≡_, refl, sym, ap, subst, _∙_}
 use borrow.Author.Tests.{eqb-true, le-leb, leb-true}
@@ -168,7 +168,7 @@ module _ (k : Core) (ok : coreSound k ≡ true) where
       go false x = x
 
 -- What a granted call makes of the table leaves a lent reservation around the range, but for the collect that covers it.
-pub around-after : (s : State) (ok : coreSound (s .core) ≡ true) {a : Asked} {e : Effect} → Deed s a e → (r : Range) → 0 < r .length → Surrounds (s .core .table) r
+pub around-after : (s : State) (ok : coreSound (s .core) ≡ true) {cells tags : List ℕ} {a : Asked} {e : Effect} → Deed s cells tags a e → (r : Range) → 0 < r .length → Surrounds (s .core .table) r
     → (collecting (a .role) ≡ true → contains (revoked (s .core)) r ≡ false) → Surrounds (e .core .table) r
 around-after s ok d r some around n =
     ⊎-elim (λ carried. around-more (s .core .table) _ r carried around)

@@ -1,9 +1,9 @@
 -- Both: a call that is left in two histories. Assumes nothing.
 use Prim.Native.Nat.{ℕ, _+_}
 use mathlib.Core.Bool.{Bool, true, false, _&&_, true≢false, false≢true}
-use mathlib.Core.List.{List}
+use mathlib.Core.List.{List, [], _∷_}
 use mathlib.Core.Path.{_≡_, refl, sym, ap, subst, _∙_}
-use borrow.Author.Tests.{eqb-false, eq-eqb}
+use borrow.Author.Tests.{eqb-true, eqb-false, eq-eqb}
 use lib.Dec.{eqb}
 use lib.ListN.{length}
 use Rattle.capabilities.specs.declared.Range.{Range}
@@ -19,40 +19,41 @@ use Rattle.reservations.specs.Core.{Core}
 use Rattle.reservations.specs.Revocation.{revoked, coreSound}
 use Rattle.calls.specs.declared.Call.{Call}
 use Rattle.words.specs.declared.Slot.{Slot}
-use Rattle.words.specs.Words.{empty, registerOf}
-use Rattle.machine.specs.Roles.{Sources, fromNone, fromOne, fromTwo, Role, takes, collects, fills, stores, grants, plain, Asked, roleOf, callerOf, sourcesOf}
-use Rattle.machine.specs.Reasons.{Reads, reading, wordsIn, reads, reasons}
-use Rattle.machine.specs.Effects.{Effect}
-use Rattle.machine.specs.Step.{reasonsOn, effectOn, wordAfter}
+use Rattle.words.specs.Words.{empty, registerOf, wordAt, placeNumber, loaded}
+use Rattle.words.specs.WordReasons.{mayNotLoad, cellReasons}
+use Rattle.machine.specs.Roles.{Sources, fromNone, fromOne, fromTwo, fromCell, Role, takes, collects, fills, stores, grants, plain, Asked, roleOf, callerOf, sourcesOf}
+use Rattle.machine.specs.Reasons.{Reads, reading, addressed, fetched, found, wordsIn, reads, reasons}
+use Rattle.machine.specs.Step.{reasonsOn, effectOn}
 use Rattle.machine.proofs.Dependence.{formedBy, formed-by}
-use Rattle.machine.proofs.Deeds.{aimedAt, Deed, took, recored, swept, collectedAll, zeroed, filled, loaded, wrote, mailed, received, deed, collected-as}
-use Rattle.machine.proofs.Found.{Addressing}
+use Rattle.machine.proofs.Deeds.{deed, collected-as}
+use Rattle.machine.proofs.Found.{Addressing, addressing}
 use Rattle.histories.proofs.Showing.{came}
 use Rattle.histories.specs.Runs.{Machine, next}
-use Rattle.privacy.specs.Rule.{housed, granted, collecting, isCollect, contains, Time, lasting, over, ending, until, strikes, struck, remaining, hidden}
+use Rattle.privacy.specs.Rule.{inRegisters, housed, granted, collecting, isCollect, contains, Time, lasting, over, ending, until, strikes, struck, remaining, hidden}
 use Rattle.privacy.proofs.Fate.{codeOf, Fate, down, up, fate, after, next-down, told-done, told-down, code-is}
 use Rattle.privacy.proofs.Glue.{Both}
 use Rattle.privacy.proofs.House.{Housed}
-use Rattle.privacy.proofs.Relate.{Rel, FetchSame, answer-same, effect-related}
+use Rattle.privacy.proofs.Relate.{Rel, effect-related}
 use Rattle.privacy.proofs.Sides.{fits-deed, outside}
 use Rattle.privacy.proofs.Steps.{granted-core, granted-layer, granted-cells, granted-tags, granted-next, refused-test, Ok}
 use Rattle.privacy.proofs.Tables.{collect-hides}
 
--- A call reads equal registers if those of its caller are equal.
-words-same : (l m : List Slot) (p : ℕ) (from : Sources) → ((d : ℕ) → registerOf l p d ≡ registerOf m p d) → wordsIn l p from ≡ wordsIn m p from
-words-same l m p fromNone e = refl
-words-same l m p (fromOne a) e = ap (λ w. reading w empty) (e a)
-words-same l m p (fromTwo a s) e = ap (λ w. reading w (registerOf l p s)) (e a) ∙ ap (λ w. reading (registerOf m p a) w) (e s)
+-- What a party reads, and what a call does.
+abbrev readFrom : Machine → ℕ → Sources → Reads
+readFrom m p from = wordsIn (m .state .core) (m .state .registers) (m .cells) (m .tags) p from
+
+abbrev readOf : Machine → Call → Reads
+readOf m c = reads (m .state .core) (m .state .registers) (m .cells) (m .tags) c
 
 -- The code, by what it depends on.
 unfoldable codeBy : Core → List Slot → ℕ → ℕ → ℕ → Reads → Call → ℕ
 codeBy k mail registers cells tags r c =
     pick (formedBy k mail registers) (pick (serves (k .pages) cells tags) (first (reasons k mail r c)) 2) 1
 
-code-by : (m : Machine) (c : Call) → codeOf m c ≡ codeBy (m .state .core) (m .state .mailboxes) (length (m .state .registers)) (length (m .cells)) (length (m .tags)) (reads (m .state .registers) c) c
+code-by : (m : Machine) (c : Call) → codeOf m c ≡ codeBy (m .state .core) (m .state .mailboxes) (length (m .state .registers)) (length (m .cells)) (length (m .tags)) (readOf m c) c
 unfolding codeOf codeBy
 code-by m c =
-    ap (λ b. pick b (pick (serves (m .state .core .pages) (length (m .cells)) (length (m .tags))) (first (reasonsOn (m .state) c)) 2) 1) (formed-by (m .state))
+    ap (λ b. pick b (pick (serves (m .state .core .pages) (length (m .cells)) (length (m .tags))) (first (reasonsOn (m .state) c (m .cells) (m .tags))) 2) 1) (formed-by (m .state))
 
 -- Whether the time ends depends on the code and the core.
 ending-by : (r : Range) (g h : Machine) (c : Call) → codeOf g c ≡ codeOf h c → g .state .core ≡ h .state .core → ending r g c ≡ ending r h c
@@ -85,17 +86,17 @@ collects-by (stores a off x) e = absurd (false≢true e)
 collects-by (grants x) e = absurd (false≢true e)
 collects-by plain e = absurd (false≢true e)
 
-hides-by : (r : Range) (m : Machine) (c : Call) (v at : ℕ) → coreSound (m .state .core) ≡ true → first (reasonsOn (m .state) c) ≡ 0 → ending r m c ≡ true
-    → lookupOf (effectOn (m .state) c .core .pages) v ≡ At at → inside r v ≡ false
+hides-by : (r : Range) (m : Machine) (c : Call) (v at : ℕ) → coreSound (m .state .core) ≡ true → first (reasonsOn (m .state) c (m .cells) (m .tags)) ≡ 0 → ending r m c ≡ true
+    → lookupOf (effectOn (m .state) c (m .cells) (m .tags) .core .pages) v ≡ At at → inside r v ≡ false
 unfolding ending
 hides-by r m c v at ok z e q =
     let a = and-left (isCollect c && granted m c) (contains (revoked (m .state .core)) r) e in
-    let k = collected-as (m .state) (deed (m .state) c z) (collects-by (roleOf c .role) (and-left (isCollect c) (granted m c) a)) in
+    let k = collected-as (m .state) (deed (m .state) c (m .cells) (m .tags) z) (collects-by (roleOf c .role) (and-left (isCollect c) (granted m c) a)) in
     collect-hides (m .state .core) ok (k .clear) r v at (and-right (isCollect c && granted m c) (contains (revoked (m .state .core)) r) e)
     (subst (λ x. lookupOf (x .core .pages) v ≡ At at) (k .is) q)
 
-hides : (t : Time) (m : Machine) (c : Call) (v at : ℕ) → coreSound (m .state .core) ≡ true → first (reasonsOn (m .state) c) ≡ 0
-    → lookupOf (effectOn (m .state) c .core .pages) v ≡ At at → hidden (until t m c) v ≡ false → hidden t v ≡ false
+hides : (t : Time) (m : Machine) (c : Call) (v at : ℕ) → coreSound (m .state .core) ≡ true → first (reasonsOn (m .state) c (m .cells) (m .tags)) ≡ 0
+    → lookupOf (effectOn (m .state) c (m .cells) (m .tags) .core .pages) v ≡ At at → hidden (until t m c) v ≡ false → hidden t v ≡ false
 unfolding until hidden
 hides (lasting r) m c v at ok z q e = go (ending r m c) refl e
   where
@@ -110,7 +111,15 @@ module _ (house : ℕ) (t : Time) (g h : Machine) (own : (r : Range) → t ≡ l
   unfolding struck
   left-by c s r e = ap (λ u. struck house u g c) (sym e) ∙ s
 
-  -- A load that is left fetches a word that is not hidden.
+  -- What a call reads in lent memory is not hidden.
+  abbrev Seen : ℕ → Sources → Type 0
+  Seen p fromNone = Unit {0}
+  Seen p (fromOne a) = Unit {0}
+  Seen p (fromTwo a x) = Unit {0}
+  Seen p (fromCell a off) =
+      Addressing (g .state .core) (registerOf (g .state .registers) p a) off → hidden t (baseOf (registerOf (g .state .registers) p a .cell) + off) ≡ false
+
+  -- The house's loads are struck while its time lasts, and what another party reaches lies outside.
   load-seen : (u : Time) → t ≡ u → (p a off : ℕ) → ((r : Range) → t ≡ lasting r → eqb p house && true ≡ false)
       → Addressing (g .state .core) (registerOf (g .state .registers) p a) off → hidden u (baseOf (registerOf (g .state .registers) p a .cell) + off) ≡ false
   unfolding hidden
@@ -121,32 +130,74 @@ module _ (house : ℕ) (t : Time) (g h : Machine) (own : (r : Range) → t ≡ l
       no-and false x = refl
   load-seen over e p a off s k = refl
 
-  fetch-same : {a : Asked} {e : Effect} → Deed (g .state) a e → ((r : Range) → t ≡ lasting r → eqb (a .caller) house && strikes r (g .state) (a .caller) (a .role) ≡ false)
-      → FetchSame (e .registers) g h
-  fetch-same (took p base reg permissions low-p low-reg few z) s = tt
-  fetch-same (recored p k x) s = tt
-  fetch-same (swept p n runs) s = tt
-  fetch-same (collectedAll p z) s = tt
-  fetch-same (zeroed p frame z) s = tt
-  fetch-same (filled p d from w low k) s = tt
-  fetch-same (loaded p a off d low k) s =
-      rel .words (baseOf (registerOf (g .state .registers) p a .cell) + off) (aimedAt (g .state) p a off) (k .place) (load-seen t refl p a off s k)
-  fetch-same (wrote p a off x low-p low-a k) s = tt
-  fetch-same (mailed p x to t) s = tt
-  fetch-same (received p d low) s = tt
+  filling-seen : (p : ℕ) (from : Sources) → ((r : Range) → t ≡ lasting r → eqb p house && true ≡ false) → Seen p from
+  filling-seen p fromNone s = tt
+  filling-seen p (fromOne a) s = tt
+  filling-seen p (fromTwo a x) s = tt
+  filling-seen p (fromCell a off) s = load-seen t refl p a off s
 
-  -- What the call reads is equal.
-  reads-left : (c : Call) → remaining house g c ≡ remaining house h c → reads (g .state .registers) c ≡ reads (h .state .registers) c
-  unfolding remaining
-  reads-left c e = go (housed house c) refl
+  seen-by : (p : ℕ) (x : Role) → ((r : Range) → t ≡ lasting r → eqb p house && strikes r (g .state) p x ≡ false) → Seen p (sourcesOf x)
+  seen-by p (takes base reg permissions) s = tt
+  seen-by p collects s = tt
+  seen-by p (fills from) s = filling-seen p from s
+  seen-by p (stores a off x) s = tt
+  seen-by p (grants x) s = tt
+  seen-by p plain s = tt
+
+  -- A word that is read through equal registers and is not hidden is equal; where the load is refused, none is read.
+  found-same : (a b : Slot) (off : ℕ) → a ≡ b → (Addressing (g .state .core) a off → hidden t (baseOf (a .cell) + off) ≡ false)
+      → found (g .state .core) (g .cells) (g .tags) a off ≡ found (h .state .core) (h .cells) (h .tags) b off
+  unfolding found
+  found-same a b off e shown =
+      go (eqb (first (cellReasons (mayNotLoad a) a off (addressed (g .state .core) a off))) 0) refl
+      ∙ ap (λ k. found k (h .cells) (h .tags) a off) (rel .core) ∙ ap (λ x. found (h .state .core) (h .cells) (h .tags) x off) e
     where
-      go : (b : Bool) → housed house c ≡ b → reads (g .state .registers) c ≡ reads (h .state .registers) c
-      go true x =
-          sym (pick-yes (housed house c) (reads (g .state .registers) c) (reading empty empty) x) ∙ ap (λ y. y .registers) e
-          ∙ pick-yes (housed house c) (reads (h .state .registers) c) (reading empty empty) x
-      go false x = words-same (g .state .registers) (h .state .registers) (callerOf c) (sourcesOf (roleOf c .role)) (λ d. rel .others (callerOf c) d (eqb-false (callerOf c) house x))
+      go : (x : Bool) → eqb (first (cellReasons (mayNotLoad a) a off (addressed (g .state .core) a off))) 0 ≡ x
+          → pick x (fetched (g .state .core) (g .cells) (g .tags) a off) empty ≡ pick x (fetched (g .state .core) (h .cells) (h .tags) a off) empty
+      go true z =
+          let k = addressing (g .state .core) a off (mayNotLoad a) (eqb-true (first (cellReasons (mayNotLoad a) a off (addressed (g .state .core) a off))) 0 z) in
+          ap (loaded (g .state .core) a) (rel .words (baseOf (a .cell) + off) (placeNumber (addressed (g .state .core) a off)) (k .place) (shown k))
+      go false z = refl
 
-  module _ (c : Call) (e : remaining house g c ≡ remaining house h c) where
+  -- So a call reads the same, if the registers that it reads are equal.
+  words-same : (p : ℕ) (from : Sources) → readFrom g p from .one ≡ readFrom h p from .one → readFrom g p from .two ≡ readFrom h p from .two → Seen p from
+      → readFrom g p from ≡ readFrom h p from
+  words-same p fromNone e f s = refl
+  words-same p (fromOne a) e f s = ap (λ w. reading w empty []) e
+  words-same p (fromTwo a x) e f s = ap (λ w. reading w (registerOf (g .state .registers) p x) []) e ∙ ap (λ w. reading (registerOf (h .state .registers) p a) w []) f
+  words-same p (fromCell a off) e f s =
+      ap (λ w. reading w empty (readFrom g p (fromCell a off) .words)) e
+      ∙ ap (λ w. reading (registerOf (h .state .registers) p a) empty (w ∷ [])) (found-same (registerOf (g .state .registers) p a) (registerOf (h .state .registers) p a) off e s)
+
+  -- Another party's registers are equal.
+  registers-same : (p : ℕ) (from : Sources) → (p ≡ house → ⊥) → (readFrom g p from .one ≡ readFrom h p from .one) × (readFrom g p from .two ≡ readFrom h p from .two)
+  registers-same p fromNone n = (refl, refl)
+  registers-same p (fromOne a) n = (rel .others p a n, refl)
+  registers-same p (fromTwo a x) n = (rel .others p a n, rel .others p x n)
+  registers-same p (fromCell a off) n = (rel .others p a n, refl)
+
+  -- What a call that is left reads is equal.
+  reads-left : (c : Call) → struck house t g c ≡ false → remaining house g c ≡ remaining house h c → readOf g c ≡ readOf h c
+  unfolding remaining
+  reads-left c s e = go (housed house c) refl
+    where
+      from : Sources
+      from = sourcesOf (roleOf c .role)
+
+      shown : Seen (callerOf c) from
+      shown = seen-by (callerOf c) (roleOf c .role) (left-by c s)
+
+      go : (b : Bool) → housed house c ≡ b → readOf g c ≡ readOf h c
+      go true x =
+          let none = inRegisters empty empty in
+          let same = sym (pick-yes (housed house c) (inRegisters (readOf g c .one) (readOf g c .two)) none x) ∙ ap (λ y. y .registers) e
+          ∙ pick-yes (housed house c) (inRegisters (readOf h c .one) (readOf h c .two)) none x in
+          words-same (callerOf c) from (ap (λ y. y .one) same) (ap (λ y. y .two) same) shown
+      go false x =
+          let (one, two) = registers-same (callerOf c) from (eqb-false (callerOf c) house x) in
+          words-same (callerOf c) from one two shown
+
+  module _ (c : Call) (s : struck house t g c ≡ false) (e : remaining house g c ≡ remaining house h c) where
     code-same : codeOf g c ≡ codeOf h c
     code-same =
         let a = rel .core in
@@ -154,17 +205,17 @@ module _ (house : ℕ) (t : Time) (g h : Machine) (own : (r : Range) → t ≡ l
         let d = rel .long in
         let x = rel .of-cells in
         let y = rel .of-tags in
-        let z = reads-left c e in
+        let z = reads-left c s e in
         code-by g c
-        ∙ (let w : codeBy (g .state .core) (g .state .mailboxes) (length (g .state .registers)) (length (g .cells)) (length (g .tags)) (reads (g .state .registers) c) c
-        ≡ codeBy (h .state .core) (h .state .mailboxes) (length (h .state .registers)) (length (h .cells)) (length (h .tags)) (reads (h .state .registers) c) c = cc in w)
+        ∙ (let w : codeBy (g .state .core) (g .state .mailboxes) (length (g .state .registers)) (length (g .cells)) (length (g .tags)) (readOf g c) c
+        ≡ codeBy (h .state .core) (h .state .mailboxes) (length (h .state .registers)) (length (h .cells)) (length (h .tags)) (readOf h c) c = cc in w)
         ∙ sym (code-by h c)
 
-    effect-same : effectOn (g .state) c ≡ effectOn (h .state) c
+    effect-same : effectOn (g .state) c (g .cells) (g .tags) ≡ effectOn (h .state) c (h .cells) (h .tags)
     effect-same =
         let a = rel .core in
         let b = rel .mail in
-        let z = reads-left c e in
+        let z = reads-left c s e in
         cc
 
 -- Both: a left call with equal reads keeps the relation, and is answered alike.
@@ -172,7 +223,7 @@ pub both-left : (house : ℕ) (t : Time) (g h : Machine) (c : Call) → Ok house
 both-left house t g h c ok₁ ok₂ rel s e = go (fate g c) (fate h c)
   where
     same : codeOf g c ≡ codeOf h c
-    same = code-same house t g h (ok₁ .own) rel c e
+    same = code-same house t g h (ok₁ .own) rel c s e
 
     times : until t g c ≡ until t h c
     times = until-by t g h c same (rel .core)
@@ -188,22 +239,20 @@ both-left house t g h c ok₁ ok₂ rel s e = go (fate g c) (fate h c)
     go (down k n x q) (up y w) = absurd (n (sym x ∙ same ∙ y))
     go (up x q) (down l o y w) = absurd (o (sym y ∙ sym same ∙ x))
     go (up x q) (up y w) =
-        let z = effect-same house t g h (ok₁ .own) rel c e in
-        let d = deed (g .state) c (q .clear) in
-        let seen = fetch-same house t g h (ok₁ .own) rel d (left-by house t g h (ok₁ .own) rel c s) in
-        let right : next h c ≡ after h (effectOn (g .state) c) = granted-next h c w ∙ ap (after h) (sym z) in
+        let z = effect-same house t g h (ok₁ .own) rel c s e in
+        let d = deed (g .state) c (g .cells) (g .tags) (q .clear) in
+        let does = effectOn (g .state) c (g .cells) (g .tags) in
+        let right : next h c ≡ after h does = granted-next h c w ∙ ap (after h) (sym z) in
         record {
           times = times;
           related =
               subst (λ m. Rel house (until t g c) m (next h c)) (sym (granted-next g c q))
-              (subst (λ m. Rel house (until t g c) (after g (effectOn (g .state) c)) m) (sym right)
-              (effect-related house t (until t g c) g h (effectOn (g .state) c) rel (granted-layer g c q) (granted-cells g c q) (granted-tags g c q)
-              (fits-deed (g .state) d) seen (ok₁ .inv .memory .free) (ok₂ .inv .memory .free)
+              (subst (λ m. Rel house (until t g c) (after g does) m) (sym right)
+              (effect-related house t (until t g c) g h does rel (granted-layer g c q) (granted-cells g c q) (granted-tags g c q)
+              (fits-deed (g .state) d) (ok₁ .inv .memory .free) (ok₂ .inv .memory .free)
               (came (g .state) (granted-core g c q) d)
               (λ v at. hides t g c v at (granted-core g c q) (q .clear))));
           answer =
-              λ n. told-done g c (effectOn (g .state) c) (q .comes)
-              ∙ ap (λ i. record { code = 0; number = i .cell; tag = i .tag }) (answer-same (effectOn (g .state) c .registers) (effectOn (g .state) c .answer) g h (rel .core) seen)
-              ∙ ap (λ i. record { code = 0; number = wordAfter (i .registers) (i .answer) (h .state .core) (h .cells) (h .tags) .cell; tag = wordAfter (i .registers) (i .answer) (h .state .core) (h .cells) (h .tags) .tag }) z
-              ∙ sym (told-done h c (effectOn (h .state) c) (w .comes));
+              λ n. told-done g c does (q .comes) ∙ ap (λ i. record { code = 0; number = i .answer .cell; tag = i .answer .tag }) z
+              ∙ sym (told-done h c (effectOn (h .state) c (h .cells) (h .tags)) (w .comes));
         }

@@ -2,7 +2,7 @@
 use Prim.Native.Nat.{ℕ, _+_, _*_, _/_, _%_, _<_, _≤_}
 use native.Mathlib.Omega.{arith}
 use mathlib.Core.Bool.{Bool, true, false, _&&_}
-use mathlib.Core.List.{List, map}
+use mathlib.Core.List.{List, [], _∷_, map}
 use mathlib.Core.Path.{_≡_, refl, sym, ap, subst, _∙_}
 use borrow.Author.Tests.{eqb-true, eqb-false, ltb-true, ltb-false}
 use lib.Dec.{eqb, ltb, leb}
@@ -20,9 +20,10 @@ use Rattle.sweep.specs.Sweep.{shownAt, sweptTags}
 use Rattle.sweep.proofs.Sweeping.{doomed, getD-swept, length-swept}
 use Rattle.reservations.specs.Core.{Core}
 use Rattle.words.specs.declared.Slot.{Slot}
-use Rattle.words.specs.Words.{slot, empty, named, registerOf, tagOf, wordAt, collectedRegister}
-use Rattle.machine.specs.Effects.{MemoryChange, keepMemory, writeWord, clearFrame, sweepCells}
-use Rattle.machine.specs.Step.{cellsAfter, tagsAfter}
+use Rattle.words.specs.Words.{slot, empty, named, registerOf, tagOf, byteOf, wordAt, collectedRegister}
+use Rattle.machine.specs.Effects.{MemoryChange, keepMemory, Write, writeWords, clearFrame, sweepCells}
+use Rattle.machine.specs.Step.{writtenCells, writtenTags, cellsAfter, tagsAfter}
+use Rattle.machine.proofs.Lengths.{length-written, length-marked}
 use Rattle.histories.proofs.View.{written-here, written-other, cleared-other, cleared-same, word-same, word-none}
 
 -- A register by its number, where party and register are named.
@@ -92,10 +93,15 @@ collect-register k l q r = go (named q && named r) refl
     go true e = register-at (map (collectedRegister k) l) q r e ∙ List·getD-map (collectedRegister k) l (8 * q + r) empty ∙ ap (collectedRegister k) (sym (register-at l q r e))
     go false e = register-none (map (collectedRegister k) l) q r e ∙ ap (collectedRegister k) (sym (register-none l q r e))
 
+-- What writes make of the word at place i: the last one there counts.
+abbrev pub writtenBy : List Write → ℕ → Slot → Slot
+writtenBy [] i w = w
+writtenBy (x ∷ writes) i w = writtenBy writes i (pick (eqb i (x .at)) (x .word) w)
+
 -- What a change of memory makes of the word at place i.
 abbrev pub wordBy : MemoryChange → List FrameEntry → ℕ → Slot → Slot
 wordBy keepMemory frames i w = w
-wordBy (writeWord at x) frames i w = pick (eqb i at) x w
+wordBy (writeWords writes) frames i w = writtenBy writes i w
 wordBy (clearFrame f) frames i w = pick (eqb (i / 16) (f .0)) empty w
 wordBy (sweepCells r from upto) frames i w =
     slot (w .cell) (pick ((leb from i && ltb i upto) && (shownAt frames (i / 16) && inside r (baseOf (w .cell)))) false (w .tag))
@@ -103,7 +109,7 @@ wordBy (sweepCells r from upto) frames i w =
 -- A frame that is cleared lies in memory.
 abbrev pub Fits : MemoryChange → ℕ → Type 0
 Fits keepMemory n = Unit {0}
-Fits (writeWord at x) n = Unit {0}
+Fits (writeWords writes) n = Unit {0}
 Fits (clearFrame f) n = 16 * f .0 + 16 ≤ n
 Fits (sweepCells r from upto) n = Unit {0}
 
@@ -118,18 +124,33 @@ swept-word frames r from upto cells tags i b =
     ap (λ n. slot (getD cells i 0) (tagOf n)) (getD-swept frames r from cells tags upto i b)
     ∙ ap (slot (getD cells i 0)) (tag-pick ((leb from i && ltb i upto) && doomed frames r cells i) (getD tags i 0))
 
+-- One write, and then several.
+write-at : (at : ℕ) (w : Slot) (cells tags : List ℕ) (i : ℕ) → i < length cells → length tags ≡ length cells
+    → wordAt (set cells at (w .cell)) (set tags at (byteOf (w .tag))) i ≡ pick (eqb i at) w (wordAt cells tags i)
+write-at at w cells tags i b e = go (eqb i at) refl
+  where
+    go : (x : Bool) → eqb i at ≡ x → wordAt (set cells at (w .cell)) (set tags at (byteOf (w .tag))) i ≡ pick (eqb i at) w (wordAt cells tags i)
+    go true x =
+        let n : i ≡ at = eqb-true i at x in
+        ap (wordAt (set cells at (w .cell)) (set tags at (byteOf (w .tag)))) n ∙ written-here cells tags at w (omega arith) (omega arith)
+        ∙ sym (pick-yes (eqb i at) w (wordAt cells tags i) x)
+    go false x = written-other cells tags at w i (eqb-false i at x) ∙ sym (pick-no (eqb i at) w (wordAt cells tags i) x)
+
+writes-at : (writes : List Write) (cells tags : List ℕ) (i : ℕ) → i < length cells → length tags ≡ length cells
+    → wordAt (writtenCells writes cells) (writtenTags writes tags) i ≡ writtenBy writes i (wordAt cells tags i)
+unfolding writtenCells writtenTags
+writes-at [] cells tags i b e = refl
+writes-at (x ∷ writes) cells tags i b e =
+    let of-cells = length-set cells (x .at) (x .word .cell) in
+    let of-tags = length-set tags (x .at) (byteOf (x .word .tag)) in
+    writes-at writes (set cells (x .at) (x .word .cell)) (set tags (x .at) (byteOf (x .word .tag))) i (subst (λ n. i < n) (sym of-cells) b) (of-tags ∙ e ∙ sym of-cells)
+    ∙ ap (writtenBy writes i) (write-at (x .at) (x .word) cells tags i b e)
+
 pub word-after : (x : MemoryChange) (k : Core) (cells tags : List ℕ) (i : ℕ) → i < length cells → length tags ≡ length cells → Fits x (length cells)
     → wordAt (cellsAfter x cells) (tagsAfter x k cells tags) i ≡ wordBy x (k .pages .frames) i (wordAt cells tags i)
 unfolding cellsAfter tagsAfter
 word-after keepMemory k cells tags i b e f = refl
-word-after (writeWord at w) k cells tags i b e f = go (eqb i at) refl
-  where
-    go : (x : Bool) → eqb i at ≡ x → wordAt (set cells at (w .cell)) (set tags at (pick (w .tag) 1 0)) i ≡ pick (eqb i at) w (wordAt cells tags i)
-    go true x =
-        let n : i ≡ at = eqb-true i at x in
-        ap (wordAt (set cells at (w .cell)) (set tags at (pick (w .tag) 1 0))) n ∙ written-here cells tags at w (omega arith) (omega arith)
-        ∙ sym (pick-yes (eqb i at) w (wordAt cells tags i) x)
-    go false x = written-other cells tags at w i (eqb-false i at x) ∙ sym (pick-no (eqb i at) w (wordAt cells tags i) x)
+word-after (writeWords writes) k cells tags i b e f = writes-at writes cells tags i b e
 word-after (clearFrame g) k cells tags i b e f = go (eqb (i / 16) (g .0)) refl
   where
     n : i ≡ 16 * (i / 16) + i % 16
@@ -157,13 +178,13 @@ word-after (sweepCells r from upto) k cells tags i b e f = swept-word (k .pages 
 pub cells-long : (x : MemoryChange) (cells : List ℕ) → Fits x (length cells) → length (cellsAfter x cells) ≡ length cells
 unfolding cellsAfter
 cells-long keepMemory cells f = refl
-cells-long (writeWord at w) cells f = length-set cells at (w .cell)
+cells-long (writeWords writes) cells f = length-written writes cells
 cells-long (clearFrame g) cells f = length-cleared g cells f
 cells-long (sweepCells r from upto) cells f = refl
 
 pub tags-long : (x : MemoryChange) (k : Core) (cells tags : List ℕ) → Fits x (length tags) → length (tagsAfter x k cells tags) ≡ length tags
 unfolding tagsAfter
 tags-long keepMemory k cells tags f = refl
-tags-long (writeWord at w) k cells tags f = length-set tags at (pick (w .tag) 1 0)
+tags-long (writeWords writes) k cells tags f = length-marked writes tags
 tags-long (clearFrame g) k cells tags f = length-cleared g tags f
 tags-long (sweepCells r from upto) k cells tags f = length-swept (k .pages .frames) r from cells tags upto

@@ -22,7 +22,7 @@ use Rattle.words.specs.Words.{empty, named, registerOf, mailboxOf, wordAt, stor
 use Rattle.machine.specs.State.{Answered}
 use Rattle.machine.specs.State.{State}
 use Rattle.machine.specs.Roles.{Role, takes, collects, fills, stores, grants, plain, roleOf, callerOf}
-use Rattle.machine.specs.Reasons.{Reads, reading, reads}
+use Rattle.machine.specs.Reasons.{reads}
 use Rattle.histories.specs.Runs.{Machine, outcome, next}
 
 -- "Code 0 means granted".
@@ -104,15 +104,24 @@ unfoldable pub struck : ℕ → Time → Machine → Call → Bool
 struck house (lasting r) m c = housed house c && private r (m .state) c
 struck house over m c = false
 
+-- The words in the registers that a call reads.
+pub record Registers : Type 0 where
+  pub one : Slot
+  pub two : Slot
+
+abbrev pub inRegisters : Slot → Slot → Registers
+inRegisters one two = record { one = one; two = two }
+
 -- A call that is left. "A call reads the registers that its operands name, save d and the reg of take": with it stand the
--- registers that it reads if it is the house's, and none otherwise.
+-- registers that it reads if it is the house's, and none otherwise. Of what it reads in lent memory nothing is asked.
 pub record Left : Type 0 where
   pub call : Call
-  pub registers : Reads
+  pub registers : Registers
 
 unfoldable pub remaining : ℕ → Machine → Call → Left
 remaining house m c =
-    record { call = c; registers = pick (housed house c) (reads (m .state .registers) c) (reading empty empty) }
+    let r = reads (m .state .core) (m .state .registers) (m .cells) (m .tags) c in
+    record { call = c; registers = pick (housed house c) (inRegisters (r .one) (r .two)) (inRegisters empty empty) }
 
 -- "What is left", in order.
 unfoldable pub left : ℕ → Time → Machine → List Call → List Left

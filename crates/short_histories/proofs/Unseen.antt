@@ -1,4 +1,4 @@
--- What lent memory holds plays no part: no listed command fetches a word from it, and nothing else of it reaches a state or an answer.
+-- What lent memory holds plays no part: no listed command reads a word of it, and nothing else of it reaches a state or an answer.
 -- Assumes nothing.
 use Prim.Native.Nat.{ℕ}
 use mathlib.Core.Bool.{Bool, true, false, _&&_, true≢false}
@@ -11,11 +11,13 @@ use Rattle.capabilities.proofs.Lists.{every}
 use Rattle.capabilities.proofs.Flatten.{filter-agrees}
 use Rattle.capabilities.proofs.Members.{of-every, from-flatten, from-map}
 use Rattle.calls.specs.declared.Call.{Call}
-use Rattle.words.specs.declared.Slot.{Slot}
-use Rattle.machine.specs.State.{State}
+use Rattle.words.specs.Words.{empty}
+use Rattle.machine.specs.State.{State, Answered}
+use Rattle.machine.specs.Roles.{Sources, fromNone, fromOne, fromTwo, fromCell, roleOf, callerOf, sourcesOf}
+use Rattle.machine.specs.Reasons.{Reads, wordsIn, reads, reasons}
 use Rattle.machine.specs.Formed.{startOf, answered}
-use Rattle.machine.specs.Effects.{RegisterChange, keepRegisters, putRegister, fetchInto, collectRegisters, Effect, effect}
-use Rattle.machine.specs.Step.{registersAfter, mailboxesAfter, wordAfter, done, refused, reasonsOn, effectOn, ruled}
+use Rattle.machine.specs.Effects.{effect}
+use Rattle.machine.specs.Step.{registersAfter, mailboxesAfter, done, refused, reasonsOn, effectOn, ruled}
 use Rattle.histories.specs.Runs.{Machine, outcome, next, begun}
 use Rattle.histories.specs.Forming.{Standing}
 use Rattle.histories.proofs.Forming.{standing-next, standing-ruled, standing-begun}
@@ -25,48 +27,49 @@ use Rattle.short_histories.specs.Promises.{MemoryUnseen}
 use Rattle.short_histories.proofs.Choosing.{from-choices}
 use Rattle.short_histories.proofs.Continuing.{fresh-standing}
 
--- No word is fetched into a register.
-unfoldable unfetched : RegisterChange → Bool
-unfetched keepRegisters = true
-unfetched (putRegister p r w) = true
-unfetched (fetchInto p r at a) = false
-unfetched collectRegisters = true
+-- No word of lent memory is read.
+unfoldable unread : Sources → Bool
+unread fromNone = true
+unread (fromOne a) = true
+unread (fromTwo a s) = true
+unread (fromCell a off) = false
 
--- By computing, in every state.
-listed-unfetched : (s : State) → all (λ c. unfetched (effectOn s c .registers)) listed ≡ true
-unfolding all unfetched effect listed choices operands flatten mapEach
-listed-unfetched s = refl
+abbrev blind : Call → Bool
+blind c = unread (sourcesOf (roleOf c .role))
 
-module _ (s : State) (cells tags others marks : List ℕ) where
-  registers-same : (ch : RegisterChange) → unfetched ch ≡ true → registersAfter ch s cells tags ≡ registersAfter ch s others marks
-  unfolding unfetched registersAfter
-  registers-same keepRegisters e = refl
-  registers-same (putRegister p r w) e = refl
-  registers-same (fetchInto p r at a) e = absurd (true≢false (sym e))
-  registers-same collectRegisters e = refl
+-- By computing.
+listed-blind : all blind listed ≡ true
+unfolding all unread listed choices operands flatten mapEach
+listed-blind = refl
 
-  word-same : (ch : RegisterChange) (w : Slot) → unfetched ch ≡ true → wordAfter ch w (s .core) cells tags ≡ wordAfter ch w (s .core) others marks
-  unfolding unfetched wordAfter
-  word-same keepRegisters w e = refl
-  word-same (putRegister p r x) w e = refl
-  word-same (fetchInto p r at a) w e = absurd (true≢false (sym e))
-  word-same collectRegisters w e = refl
+module _ (s : State) where
+  -- What a call is answered, and the state it leaves, by what it reads.
+  abbrev answerBy : Call → Reads → Answered
+  answerBy c r =
+      let code = first (reasons (s .core) (s .mailboxes) r c) in
+      let e = effect (s .core) (s .mailboxes) r c in
+      pick (eqb code 0)
+      (answered 0 (e .answer) (record { core = e .core; registers = registersAfter (e .registers) s; mailboxes = mailboxesAfter (e .mailboxes) s })) (answered code empty s)
 
-  done-same : (e : Effect) → unfetched (e .registers) ≡ true → done s e cells tags .answer ≡ done s e others marks .answer
-  unfolding done
-  done-same e u =
-      λ i. answered 0 (word-same (e .registers) (e .answer) u i)
-      (record { core = e .core; registers = registers-same (e .registers) u i; mailboxes = mailboxesAfter (e .mailboxes) s })
-
-  ruled-same : (c : Call) → unfetched (effectOn s c .registers) ≡ true → ruled s c cells tags .answer ≡ ruled s c others marks .answer
-  unfolding ruled
-  ruled-same c u = go (eqb (first (reasonsOn s c)) 0) where
-    code : ℕ
-    code = first (reasonsOn s c)
-
-    go : (b : Bool) → pick b (done s (effectOn s c) cells tags) (refused code s cells tags) .answer ≡ pick b (done s (effectOn s c) others marks) (refused code s others marks) .answer
-    go true = done-same (effectOn s c) u
+  ruled-by-reads : (c : Call) (cells tags : List ℕ) → ruled s c cells tags .answer ≡ answerBy c (reads (s .core) (s .registers) cells tags c)
+  unfolding ruled done
+  ruled-by-reads c cells tags = go (eqb (first (reasonsOn s c cells tags)) 0) where
+    go : (b : Bool) → pick b (done s (effectOn s c cells tags) cells tags) (refused (first (reasonsOn s c cells tags)) s cells tags) .answer
+        ≡ pick b (done s (effectOn s c cells tags) cells tags .answer) (answered (first (reasonsOn s c cells tags)) empty s)
+    go true = refl
     go false = refl
+
+  module _ (cells tags others marks : List ℕ) where
+    words-same : (p : ℕ) (from : Sources) → unread from ≡ true → wordsIn (s .core) (s .registers) cells tags p from ≡ wordsIn (s .core) (s .registers) others marks p from
+    unfolding unread
+    words-same p fromNone u = refl
+    words-same p (fromOne a) u = refl
+    words-same p (fromTwo a b) u = refl
+    words-same p (fromCell a off) u = absurd (true≢false (sym u))
+
+    ruled-same : (c : Call) → blind c ≡ true → ruled s c cells tags .answer ≡ ruled s c others marks .answer
+    ruled-same c u =
+        ruled-by-reads c cells tags ∙ ap (answerBy c) (words-same (callerOf c) (sourcesOf (roleOf c .role)) u) ∙ sym (ruled-by-reads c others marks)
 
 -- ---- Histories
 -- Two that agree in their state go on alike, whatever their memories hold.
@@ -75,8 +78,7 @@ module _ (v f : ℕ) where
   answer-same m o p q e c i =
       ap (λ x. x .answer) (standing-ruled m v f c p)
       ∙ ruled-same (m .state) (m .cells) (m .tags) (o .cells) (o .tags) c
-      (of-every (λ c. unfetched (effectOn (m .state) c .registers) ≡ true) listed c
-      (every (λ c. unfetched (effectOn (m .state) c .registers)) (λ c. unfetched (effectOn (m .state) c .registers) ≡ true) (λ c u. u) listed (listed-unfetched (m .state))) i)
+      (of-every (λ c. blind c ≡ true) listed c (every blind (λ c. blind c ≡ true) (λ c u. u) listed listed-blind) i)
       ∙ ap (λ s. ruled s c (o .cells) (o .tags) .answer) e
       ∙ ap (λ x. x .answer) (sym (standing-ruled o v f c q))
 

@@ -47,7 +47,7 @@ module _ (b : Arrays) (f : Formed b) where
 
   module _ (cells tags : List ℕ) where
     -- A call that changes the claims alone: refused, or the new claims written.
-    module _ (call : Call) (k : ℕ) (e : k ≡ first (reasonsOn (stateOf b) call)) (y : Claims) (g : effectOn (stateOf b) call ≡ claimsChange (stateOf b .core) y) where
+    module _ (call : Call) (k : ℕ) (e : k ≡ first (reasonsOn (stateOf b) call cells tags)) (y : Claims) (g : effectOn (stateOf b) call cells tags ≡ claimsChange (stateOf b .core) y) where
       claims-left : (put cleared principals counts : List ℕ) → (k ≡ 0 → claimNumbers y ≡ put) → (k ≡ 0 → laid (y .counts) ≡ cleared)
           → principals ≡ pick (eqb k 0) put (b .principals) → counts ≡ pick (eqb k 0) cleared (b .counts)
           → leaving (answer k empty) (withClaims b principals counts) cells tags ≡ leftOf (ruled (stateOf b) call cells tags)
@@ -59,11 +59,11 @@ module _ (b : Arrays) (f : Formed b) where
               ap (λ (n : List ℕ). leaving (answer k empty) (withClaims b n counts) cells tags) (u ∙ pick-yes (eqb k 0) put (b .principals) q ∙ sym (p z))
               ∙ ap (λ (n : List ℕ). leaving (answer k empty) (withClaims b (claimNumbers y) n) cells tags) (w ∙ pick-yes (eqb k 0) cleared (b .counts) q ∙ sym (l z))
               ∙ ap (λ (n : ℕ). leaving (answer n empty) (withClaims b (claimNumbers y) (laid (y .counts))) cells tags) z
-              ∙ cored b f call k e cells tags (core (stateOf b .core .pages) (stateOf b .core .table) (stateOf b .core .place) y) _ z g (put-claims b (f .kept) y)
+              ∙ cored b f call cells tags k e (core (stateOf b .core .pages) (stateOf b .core .table) (stateOf b .core .place) y) _ z g (put-claims b (f .kept) y)
           go false q =
               ap (λ (n : List ℕ). leaving (answer k empty) (withClaims b n counts) cells tags) (u ∙ pick-no (eqb k 0) put (b .principals) q)
               ∙ ap (λ (n : List ℕ). leaving (answer k empty) (withClaims b (b .principals) n) cells tags) (w ∙ pick-no (eqb k 0) cleared (b .counts) q)
-              ∙ down b f call k e cells tags (eqb-false k 0 q)
+              ∙ down b f call cells tags k e (eqb-false k 0 q)
 
     -- 12.
     module _ (party parent child limit holder : ℕ) where
@@ -72,7 +72,7 @@ module _ (b : Arrays) (f : Formed b) where
 
       pub create-unnamed : (unnamed party || unnamed holder) ≡ true → leaving (answer 4 empty) b cells tags ≡ leftOf (ruled (stateOf b) create cells tags)
       unfolding reasons first
-      create-unnamed u = down b f create 4 (sym (pick-yes (unnamed party || unnamed holder) 4 _ u)) cells tags (λ z. omega arith)
+      create-unnamed u = down b f create cells tags 4 (sym (pick-yes (unnamed party || unnamed holder) 4 _ u)) (λ z. omega arith)
 
       pub create-left : (unnamed party || unnamed holder) ≡ false → (k : ℕ) → k ≡ first (createReasons (claimsIn (b .principals) (b .counts)) party parent child limit)
           → (principals : List ℕ) → principals ≡ pick (eqb k 0) (createdIn (b .principals) parent child limit holder) (b .principals)
@@ -98,11 +98,11 @@ module _ (b : Arrays) (f : Formed b) where
 
       pub claim-early : (early ≡ 0 → ⊥) → leaving (answer early empty) b cells tags ≡ leftOf (ruled (stateOf b) (Claim party p page) cells tags)
       unfolding reasons first stateOf coreOf
-      claim-early n = down b f (Claim party p page) early (early-code 4 12 early _ (unnamed party) (leb (b .nums .v) (page .0)) early-is n) cells tags n
+      claim-early n = down b f (Claim party p page) cells tags early (early-code 4 12 early _ (unnamed party) (leb (b .nums .v) (page .0)) early-is n) n
 
       pub release-early : (early ≡ 0 → ⊥) → leaving (answer early empty) b cells tags ≡ leftOf (ruled (stateOf b) (Release party p page) cells tags)
       unfolding reasons first stateOf coreOf
-      release-early n = down b f (Release party p page) early (early-code 4 12 early _ (unnamed party) (leb (b .nums .v) (page .0)) early-is n) cells tags n
+      release-early n = down b f (Release party p page) cells tags early (early-code 4 12 early _ (unnamed party) (leb (b .nums .v) (page .0)) early-is n) n
 
       module _ (z : early ≡ 0) (at : ℕ) (is : (at ≡ page .0) × (at < 256)) (k : ℕ) (principals counts : List ℕ) where
         low : page .0 < 256
@@ -150,7 +150,7 @@ module _ (b : Arrays) (f : Formed b) where
     module _ (party p : ℕ) where
       pub destroy-unnamed : unnamed party ≡ true → leaving (answer 4 empty) b cells tags ≡ leftOf (ruled (stateOf b) (Destroy party p) cells tags)
       unfolding reasons first
-      destroy-unnamed u = down b f (Destroy party p) 4 (sym (pick-yes (unnamed party) 4 _ u)) cells tags (λ z. omega arith)
+      destroy-unnamed u = down b f (Destroy party p) cells tags 4 (sym (pick-yes (unnamed party) 4 _ u)) (λ z. omega arith)
 
       sized : sizedIn (b .principals) (b .counts) ≡ true
       unfolding soundIn

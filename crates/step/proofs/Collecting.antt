@@ -187,7 +187,7 @@ module _ (b : Arrays) (f : Formed b) where
     unfolding collectReasons first stateOf coreOf
     rest-is = ap (λ (x : Bool). pick (x || not (leb (16 * b .nums .f) (b .nums .place))) 11 0) (sym (still-cached b f))
 
-    code-is : k ≡ first (reasonsOn (stateOf b) (Collect p))
+    code-is : k ≡ first (reasonsOn (stateOf b) (Collect p) cells tags)
     unfolding reasons first
     code-is = e ∙ ap (λ (x : ℕ). pick (unnamed p) 4 (pick (notManager p) 5 x)) rest-is
 
@@ -195,9 +195,9 @@ module _ (b : Arrays) (f : Formed b) where
     clear z = sym rest-is ∙ pick-clear 5 (notManager p) _ (λ x. omega arith) (pick-clear 4 (unnamed p) _ (λ x. omega arith) (sym e ∙ z) .1) .1
 
     pub collect-down : (k ≡ 0 → ⊥) → leaving (answer k empty) b cells tags ≡ leftOf (ruled (stateOf b) (Collect p) cells tags)
-    collect-down = down b f (Collect p) k code-is cells tags
+    collect-down = down b f (Collect p) cells tags k code-is
 
-    effect-is : k ≡ 0 → effectOn (stateOf b) (Collect p) ≡ effectOf (collected (stateOf b .core)) collectRegisters collectMailboxes keepMemory empty
+    effect-is : k ≡ 0 → effectOn (stateOf b) (Collect p) cells tags ≡ effectOf (collected (stateOf b .core)) collectRegisters collectMailboxes keepMemory empty
     unfolding effect collectOf
     effect-is z =
         ap (λ (x : Core). effectOf x collectRegisters collectMailboxes keepMemory empty)
@@ -207,5 +207,5 @@ module _ (b : Arrays) (f : Formed b) where
     collect-done z =
         let run = not-false (running (stateOf b .core)) (collect-clear (stateOf b .core) (clear z) .0) in
         wrote 0 empty (collectedState (stateOf b)) _ cells tags (put-collected run)
-        ∙ ap leftOf (ruled-done (stateOf b) (Collect p) k code-is z cells tags _
+        ∙ ap leftOf (ruled-done (stateOf b) (Collect p) cells tags k code-is z _
         (done-collect (stateOf b) (collected (stateOf b .core)) cells tags ∙ sym (ap (λ y. done (stateOf b) y cells tags) (effect-is z))))

@@ -57,19 +57,19 @@ module _ (b : Arrays) (f : Formed b) (p early : ℕ) (ee : early ≡ pick (unnam
   -- The refusals 4 and 5 of each.
   pub map-early : (page : VirtualPage) (frame : Frame) → (early ≡ 0 → ⊥) → leaving (answer early empty) b cells tags ≡ leftOf (ruled (stateOf b) (Map p page frame) cells tags)
   unfolding reasons first
-  map-early page frame n = down b f (Map p page frame) early (early-code 4 5 early (first (mapReasons s page frame)) (unnamed p) (notManager p) ee n) cells tags n
+  map-early page frame n = down b f (Map p page frame) cells tags early (early-code 4 5 early (first (mapReasons s page frame)) (unnamed p) (notManager p) ee n) n
 
   pub unmap-early : (page : VirtualPage) → (early ≡ 0 → ⊥) → leaving (answer early empty) b cells tags ≡ leftOf (ruled (stateOf b) (Unmap p page) cells tags)
   unfolding reasons first
-  unmap-early page n = down b f (Unmap p page) early (early-code 4 5 early (first (unmapReasons s page (claimed (stateOf b .core .claims) (page .0)))) (unnamed p) (notManager p) ee n) cells tags n
+  unmap-early page n = down b f (Unmap p page) cells tags early (early-code 4 5 early (first (unmapReasons s page (claimed (stateOf b .core .claims) (page .0)))) (unnamed p) (notManager p) ee n) n
 
   pub zero-early : (frame : Frame) → (early ≡ 0 → ⊥) → leaving (answer early empty) b cells tags ≡ leftOf (ruled (stateOf b) (Zero p frame) cells tags)
   unfolding reasons first
-  zero-early frame n = down b f (Zero p frame) early (early-code 4 5 early (first (dirtyReasons s frame)) (unnamed p) (notManager p) ee n) cells tags n
+  zero-early frame n = down b f (Zero p frame) cells tags early (early-code 4 5 early (first (dirtyReasons s frame)) (unnamed p) (notManager p) ee n) n
 
   -- A call that changes pages and frames alone: refused, or its one page and one frame put.
-  module _ (call : Call) (k : ℕ) (e : k ≡ first (reasonsOn (stateOf b) call)) (at on : ℕ) (x : PageState) (y : FrameState)
-      (g : k ≡ 0 → effectOn (stateOf b) call ≡ effectOf (with-layer (withFrame (withPage s at x) on y)) keepRegisters keepMailboxes keepMemory empty) where
+  module _ (call : Call) (k : ℕ) (e : k ≡ first (reasonsOn (stateOf b) call cells tags)) (at on : ℕ) (x : PageState) (y : FrameState)
+      (g : k ≡ 0 → effectOn (stateOf b) call cells tags ≡ effectOf (with-layer (withFrame (withPage s at x) on y)) keepRegisters keepMailboxes keepMemory empty) where
     paged-left : (pages frames : List ℕ) → pages ≡ pick (eqb k 0) (set (b .pages) at (pageCode x)) (b .pages) → frames ≡ pick (eqb k 0) (set (b .frames) on (frameCode y)) (b .frames)
         → leaving (answer k empty) (withPages b pages frames) cells tags ≡ leftOf (ruled (stateOf b) call cells tags)
     paged-left pages frames u w = go (eqb k 0) refl
@@ -80,11 +80,11 @@ module _ (b : Arrays) (f : Formed b) (p early : ℕ) (ee : early ≡ pick (unnam
             ap (λ (l : List ℕ). leaving (answer k empty) (withPages b l frames) cells tags) (u ∙ pick-yes (eqb k 0) (set (b .pages) at (pageCode x)) (b .pages) q)
             ∙ ap (λ (l : List ℕ). leaving (answer k empty) (withPages b (set (b .pages) at (pageCode x)) l) cells tags) (w ∙ pick-yes (eqb k 0) (set (b .frames) on (frameCode y)) (b .frames) q)
             ∙ ap (λ (n : ℕ). leaving (answer n empty) (withPages b (set (b .pages) at (pageCode x)) (set (b .frames) on (frameCode y))) cells tags) z
-            ∙ cored b f call k e cells tags (with-layer (withFrame (withPage s at x) on y)) _ z (g z) (put-both b (f .kept) at on x y)
+            ∙ cored b f call cells tags k e (with-layer (withFrame (withPage s at x) on y)) _ z (g z) (put-both b (f .kept) at on x y)
         go false q =
             ap (λ (l : List ℕ). leaving (answer k empty) (withPages b l frames) cells tags) (u ∙ pick-no (eqb k 0) (set (b .pages) at (pageCode x)) (b .pages) q)
             ∙ ap (λ (l : List ℕ). leaving (answer k empty) (withPages b (b .pages) l) cells tags) (w ∙ pick-no (eqb k 0) (set (b .frames) on (frameCode y)) (b .frames) q)
-            ∙ down b f call k e cells tags (eqb-false k 0 q)
+            ∙ down b f call cells tags k e (eqb-false k 0 q)
 
   module _ (v h : ℕ) (ev : b .nums .v ≡ v) (eh : b .nums .f ≡ h) (z : early ≡ 0) (k : ℕ) where
     layer-is : layerOf v h (b .pages) (b .frames) ≡ s
@@ -95,11 +95,11 @@ module _ (b : Arrays) (f : Formed b) (p early : ℕ) (ee : early ≡ pick (unnam
       map-told : k ≡ first (mapReasons s page frame)
       map-told = e ∙ ap (λ n. first (mapReasons n page frame)) layer-is
 
-      map-code : k ≡ first (reasonsOn (stateOf b) (Map p page frame))
+      map-code : k ≡ first (reasonsOn (stateOf b) (Map p page frame) cells tags)
       unfolding reasons first
       map-code = late (unnamed p) (notManager p) early k ee z ∙ ap (λ n. pick (unnamed p) 4 (pick (notManager p) 5 n)) map-told
 
-      map-effect : k ≡ 0 → effectOn (stateOf b) (Map p page frame) ≡ effectOf (with-layer (withFrame (withPage s (page .0) (Mapped frame)) (frame .0) Shown)) keepRegisters keepMailboxes keepMemory empty
+      map-effect : k ≡ 0 → effectOn (stateOf b) (Map p page frame) cells tags ≡ effectOf (with-layer (withFrame (withPage s (page .0) (Mapped frame)) (frame .0) Shown)) keepRegisters keepMailboxes keepMemory empty
       unfolding effect mapOf mapped
       map-effect o =
           ap (λ n. effectOf (with-layer n) keepRegisters keepMailboxes keepMemory empty)
@@ -118,14 +118,14 @@ module _ (b : Arrays) (f : Formed b) (p early : ℕ) (ee : early ≡ pick (unnam
       unmap-told : k ≡ first (unmapReasons s page held)
       unmap-told = e ∙ ap (λ n. first (unmapReasons n page told)) layer-is ∙ ap (λ t. first (unmapReasons s page t)) (seen ∙ ap (anyCounts 32 (b .counts)) (is .0) ∙ sym (claimed-is b f (page .0) (subst (λ n. n < 256) (is .0) (is .1))))
 
-      unmap-code : k ≡ first (reasonsOn (stateOf b) (Unmap p page))
+      unmap-code : k ≡ first (reasonsOn (stateOf b) (Unmap p page) cells tags)
       unfolding reasons first
       unmap-code = late (unnamed p) (notManager p) early k ee z ∙ ap (λ n. pick (unnamed p) 4 (pick (notManager p) 5 n)) unmap-told
 
       abbrev shown : ℕ
       shown = frameNumber (pageFrom (getD (b .pages) (page .0) 0))
 
-      unmap-effect : k ≡ 0 → effectOn (stateOf b) (Unmap p page) ≡ effectOf (with-layer (withFrame (withPage s (page .0) Freed) shown Dirty)) keepRegisters keepMailboxes keepMemory empty
+      unmap-effect : k ≡ 0 → effectOn (stateOf b) (Unmap p page) cells tags ≡ effectOf (with-layer (withFrame (withPage s (page .0) Freed) shown Dirty)) keepRegisters keepMailboxes keepMemory empty
       unfolding effect unmapOf stateOf coreOf
       unmap-effect o =
           let none : first (unmapReasons s page held) ≡ 0 = sym unmap-told ∙ o in
@@ -150,7 +150,7 @@ module _ (b : Arrays) (f : Formed b) (p early : ℕ) (ee : early ≡ pick (unnam
         e ∙ zero-reasons (layerOf (b .nums .v) h (b .pages) (b .frames)) frame (length cells) (length tags) lc lt
         ∙ ap (λ n. first (dirtyReasons (layerOf (b .nums .v) n (b .pages) (b .frames)) frame)) (sym eh)
 
-    zero-code : k ≡ first (reasonsOn (stateOf b) call)
+    zero-code : k ≡ first (reasonsOn (stateOf b) call cells tags)
     unfolding reasons first
     zero-code = late (unnamed p) (notManager p) early k ee z ∙ ap (λ n. pick (unnamed p) 4 (pick (notManager p) 5 n)) zero-told
 
@@ -160,7 +160,7 @@ module _ (b : Arrays) (f : Formed b) (p early : ℕ) (ee : early ≡ pick (unnam
     put-frame : withPages b (b .pages) (set (b .frames) (frame .0) (frameCode Free)) ≡ arraysOf (withCore (stateOf b) after)
     put-frame = ap (λ a. withPages a (a .pages) (set (a .frames) (frame .0) (frameCode Free))) (sym (f .kept)) ∙ sym (write-frame (stateOf b) (frame .0) Free)
 
-    zero-effect : effectOn (stateOf b) call ≡ effectOf after keepRegisters keepMailboxes (clearFrame frame) empty
+    zero-effect : effectOn (stateOf b) call cells tags ≡ effectOf after keepRegisters keepMailboxes (clearFrame frame) empty
     unfolding effect
     zero-effect = refl
 
@@ -168,7 +168,7 @@ module _ (b : Arrays) (f : Formed b) (p early : ℕ) (ee : early ≡ pick (unnam
     zero-done o =
         ap (λ (n : ℕ). leaving (answer n empty) (withPages b (b .pages) (set (b .frames) (frame .0) (frameCode Free))) (cleared frame cells) (cleared frame tags)) o
         ∙ wrote 0 empty (withCore (stateOf b) after) _ (cleared frame cells) (cleared frame tags) put-frame
-        ∙ ap leftOf (ruled-done (stateOf b) call k zero-code o cells tags _ (done-clear (stateOf b) after empty cells tags frame ∙ sym (ap (λ y. done (stateOf b) y cells tags) zero-effect)))
+        ∙ ap leftOf (ruled-done (stateOf b) call cells tags k zero-code o _ (done-clear (stateOf b) after empty cells tags frame ∙ sym (ap (λ y. done (stateOf b) y cells tags) zero-effect)))
 
     pub zero-left : (frames cells′ tags′ : List ℕ) → frames ≡ pick (eqb k 0) (set (b .frames) (frame .0) (frameCode Free)) (b .frames)
         → cells′ ≡ pick (eqb k 0) (cleared frame cells) cells → tags′ ≡ pick (eqb k 0) (cleared frame tags) tags
@@ -185,4 +185,4 @@ module _ (b : Arrays) (f : Formed b) (p early : ℕ) (ee : early ≡ pick (unnam
             ap (λ (l : List ℕ). leaving (answer k empty) (withPages b (b .pages) l) cells′ tags′) (u ∙ pick-no (eqb k 0) (set (b .frames) (frame .0) (frameCode Free)) (b .frames) q)
             ∙ ap (λ (l : List ℕ). leaving (answer k empty) (withPages b (b .pages) (b .frames)) l tags′) (w ∙ pick-no (eqb k 0) (cleared frame cells) cells q)
             ∙ ap (λ (l : List ℕ). leaving (answer k empty) (withPages b (b .pages) (b .frames)) (cells) l) (x ∙ pick-no (eqb k 0) (cleared frame tags) tags q)
-            ∙ down b f call k zero-code cells tags (eqb-false k 0 q)
+            ∙ down b f call cells tags k zero-code (eqb-false k 0 q)

@@ -28,21 +28,21 @@ module _ (b : Arrays) (f : Formed b) (p s off len mask d : ℕ) (from : Slot) (e
   from-is : from ≡ registerOf (stateOf b .registers) p s
   from-is = e1 ∙ sym (register-read b f p s)
 
-  code-is : first (narrowReasons p s d from off len) ≡ first (reasonsOn (stateOf b) call)
+  code-is : (cells tags : List ℕ) → first (narrowReasons p s d from off len) ≡ first (reasonsOn (stateOf b) call cells tags)
   unfolding reasons
-  code-is = ap (λ w. first (narrowReasons p s d w off len)) from-is
+  code-is cells tags = ap (λ w. first (narrowReasons p s d w off len)) from-is
 
-  effect-is : effectOn (stateOf b) call ≡ effectOf (stateOf b .core) (putRegister p d (slot (narrowed (from .cell) off len mask) true)) keepMailboxes keepMemory empty
+  effect-is : (cells tags : List ℕ) → effectOn (stateOf b) call cells tags ≡ effectOf (stateOf b .core) (putRegister p d (slot (narrowed (from .cell) off len mask) true)) keepMailboxes keepMemory empty
   unfolding effect
-  effect-is = sym (ap (λ w. effectOf (stateOf b .core) (putRegister p d (slot (narrowed (w .cell) off len mask) true)) keepMailboxes keepMemory empty) from-is)
+  effect-is cells tags = sym (ap (λ w. effectOf (stateOf b .core) (putRegister p d (slot (narrowed (w .cell) off len mask) true)) keepMailboxes keepMemory empty) from-is)
 
   module _ (k : ℕ) (e : k ≡ first (narrowReasons p s d from off len)) (cells tags : List ℕ) where
     pub narrow-down : (k ≡ 0 → ⊥) → leaving (answer k empty) b cells tags ≡ leftOf (ruled (stateOf b) call cells tags)
-    narrow-down = down b f call k (e ∙ code-is) cells tags
+    narrow-down = down b f call cells tags k (e ∙ code-is cells tags)
 
     pub narrow-done : k ≡ 0 → (n : ℕ) → n ≡ narrowed (from .cell) off len mask
         → leaving (answer 0 empty) (withWords b (set (b .words) (8 * p + d) n) (set (b .marks) (8 * p + d) 1)) cells tags
         ≡ leftOf (ruled (stateOf b) call cells tags)
     narrow-done z n x =
         ap (λ (y : ℕ). leaving (answer 0 empty) (withWords b (set (b .words) (8 * p + d) y) (set (b .marks) (8 * p + d) 1)) cells tags) x
-        ∙ registered b f call k (e ∙ code-is) cells tags p d (slot (narrowed (from .cell) off len mask) true) empty z effect-is
+        ∙ registered b f call cells tags k (e ∙ code-is cells tags) p d (slot (narrowed (from .cell) off len mask) true) empty z (effect-is cells tags)

@@ -147,15 +147,15 @@ module _ (b : Arrays) (f : Formed b) (count : ℕ) (ec : b .nums .count ≡ coun
       pub revoke-rest : k ≡ 0 → rest ≡ 0
       revoke-rest z = pick-clear 5 (notManager p) rest (λ x. omega arith) (pick-clear 4 (unnamed p) (pick (notManager p) 5 rest) (λ x. omega arith) (sym e ∙ z) .1) .1
 
-      code-is : k ≡ first (reasonsOn (stateOf b) call)
+      code-is : (cells tags : List ℕ) → k ≡ first (reasonsOn (stateOf b) call cells tags)
       unfolding reasons first
-      code-is = e ∙ ap (λ n. pick (unnamed p) 4 (pick (notManager p) 5 n)) rest-is
+      code-is cells tags = e ∙ ap (λ n. pick (unnamed p) 4 (pick (notManager p) 5 n)) rest-is
 
       module _ (cells tags : List ℕ) where
         pub revoke-down : (k ≡ 0 → ⊥) → leaving (answer k empty) b cells tags ≡ leftOf (ruled (stateOf b) call cells tags)
-        revoke-down = down b f call k code-is cells tags
+        revoke-down = down b f call cells tags k (code-is cells tags)
 
-        effect-is : k ≡ 0 → effectOn (stateOf b) call ≡ effectOf (revokeAt (stateOf b .core) at) keepRegisters keepMailboxes keepMemory empty
+        effect-is : k ≡ 0 → effectOn (stateOf b) call cells tags ≡ effectOf (revokeAt (stateOf b .core) at) keepRegisters keepMailboxes keepMemory empty
         unfolding effect revokeOf
         effect-is z =
             let r : first (revokeReasons (stateOf b .core) p base) ≡ 0 = sym rest-is ∙ revoke-rest z in
@@ -166,7 +166,7 @@ module _ (b : Arrays) (f : Formed b) (count : ℕ) (ec : b .nums .count ≡ coun
             → leaving (answer 0 empty) (around b (numbersRevoking (b .nums) row) (putAt (b .rows) at (rowCode (revokingRow row))) (filled (row .base / 16) (row .base / 16 + row .length / 16) 1 (b .pages))) cells tags
             ≡ leftOf (ruled (stateOf b) call cells tags)
         unfolding putAt
-        revoke-done z = cored b f call k code-is cells tags (revokeAt (stateOf b .core) at) _ z (effect-is z) (go at refl)
+        revoke-done z = cored b f call cells tags k (code-is cells tags) (revokeAt (stateOf b .core) at) _ z (effect-is z) (go at refl)
           where
             r0 : rest ≡ 0
             r0 = revoke-rest z

@@ -55,17 +55,17 @@ module _ (b : Arrays) (f : Formed b) (p n k : ℕ) (e : k ≡ pick (unnamed p) 4
   abbrev call : Call
   call = Sweep p n
 
-  code-is : k ≡ first (reasonsOn (stateOf b) call)
+  code-is : k ≡ first (reasonsOn (stateOf b) call cells tags)
   unfolding reasons first
   code-is = e ∙ ap (λ (x : Bool). pick (unnamed p) 4 (pick (notManager p) 5 (pick x 11 0))) (sym (still-cached b f))
 
   pub sweep-down : (k ≡ 0 → ⊥) → leaving (answer k empty) b cells tags ≡ leftOf (ruled (stateOf b) call cells tags)
-  sweep-down = down b f call k code-is cells tags
+  sweep-down = down b f call cells tags k code-is
 
   abbrev next : ℕ
   next = sweptTo (stateOf b .core) n
 
-  effect-is : effectOn (stateOf b) call
+  effect-is : effectOn (stateOf b) call cells tags
       ≡ effectOf (core (stateOf b .core .pages) (stateOf b .core .table) next (stateOf b .core .claims)) keepRegisters keepMailboxes (sweepCells (revoked (stateOf b .core)) (stateOf b .core .place) next) (slot (16 * stateOf b .core .pages .f - next) false)
   unfolding effect
   effect-is = refl
@@ -90,5 +90,5 @@ module _ (b : Arrays) (f : Formed b) (p n k : ℕ) (e : k ≡ pick (unnamed p) 4
       d ∙ ap (λ (l : List ℕ). sweepOf (layerOf (b .nums .v) (b .nums .f) (b .pages) l) (cachedRange b) (b .nums .place) n cells tags) (sym ef) ∙ passes u v in
       ap (λ (y : Passed). leaving (answer 0 (slot (y .answer .left) false)) (withNumbers b (placed (b .nums) (y .answer .place))) cells (y .tags)) went
       ∙ wrote 0 w (withCore (stateOf b) x) _ cells t (ap (λ (a : Arrays). withNumbers a (placed (a .nums) next)) (sym (f .kept)) ∙ write-place (stateOf b) next)
-      ∙ ap leftOf (ruled-done (stateOf b) call k code-is z cells tags _
+      ∙ ap leftOf (ruled-done (stateOf b) call cells tags k code-is z _
       (done-sweep (stateOf b) x w cells tags (revoked (stateOf b .core)) (stateOf b .core .place) next ∙ sym (ap (λ y. done (stateOf b) y cells tags) effect-is)))

@@ -45,7 +45,7 @@ use Rattle.arrays.proofs.Ruling.{down, cored, core-registered}
 
 -- A call that 4 refuses or else a rule on the table judges; refused, the table stays, and the Revoking reservations always do.
 pub record Judges (s : State) (call : Call) (unknown : Bool) (rule : Tabled) : Type 0 where
-  pub told : first (reasonsOn s call) ≡ pick unknown 4 (rule .code)
+  pub told : (cells tags : List ℕ) → first (reasonsOn s call cells tags) ≡ pick unknown 4 (rule .code)
   pub kept : (rule .code ≡ 0 → ⊥) → rule .table ≡ s .core .table
   pub still : dyings (live (rule .table)) ≡ dyings (live (s .core .table))
 
@@ -55,14 +55,14 @@ own-written b f = kept-written (b .rows) (b .nums .count) (ap (λ (a : Arrays). 
 
 module _ (b : Arrays) (f : Formed b) (call : Call) (unknown : Bool) (rule : Tabled) (j : Judges (stateOf b) call unknown rule) (cells tags : List ℕ) where
   pub unknown-down : unknown ≡ true → leaving (answer 4 empty) b cells tags ≡ leftOf (ruled (stateOf b) call cells tags)
-  unknown-down e = down b f call 4 (sym (j .told ∙ pick-yes unknown 4 (rule .code) e)) cells tags (λ z. omega arith)
+  unknown-down e = down b f call cells tags 4 (sym (j .told cells tags ∙ pick-yes unknown 4 (rule .code) e)) (λ z. omega arith)
 
   module _ (rows : List ℕ) (code n : ℕ) (d : Leaves (b .rows) rows code n rule) (known : unknown ≡ false) where
     abbrev new : Core
     new = core (stateOf b .core .pages) (rule .table) (stateOf b .core .place) (stateOf b .core .claims)
 
-    code-is : code ≡ first (reasonsOn (stateOf b) call)
-    code-is = d .answers ∙ sym (j .told ∙ pick-no unknown 4 (rule .code) known)
+    code-is : code ≡ first (reasonsOn (stateOf b) call cells tags)
+    code-is = d .answers ∙ sym (j .told cells tags ∙ pick-no unknown 4 (rule .code) known)
 
     rows-are : withTable b (counted (b .nums) n) rows ≡ arraysOf (withCore (stateOf b) new)
     rows-are =
@@ -76,10 +76,10 @@ module _ (b : Arrays) (f : Formed b) (call : Call) (unknown : Bool) (rule : Tabl
         let same : n ≡ b .nums .count = ap (λ (t : Table). t .count) (d .reads ∙ j .kept (λ z. h (d .answers ∙ z))) in
         ap (λ k. leaving (answer code empty) (withTable b (counted (b .nums) k) rows) cells tags) same
         ∙ ap (λ l. leaving (answer code empty) (withTable b (b .nums) l) cells tags) (d .keeps h)
-        ∙ down b f call code code-is cells tags h
+        ∙ down b f call cells tags code code-is h
 
     -- Granted or refused, where the rule's table is all that changes.
-    pub table-judged : effectOn (stateOf b) call ≡ tableChange (stateOf b .core) (rule .table)
+    pub table-judged : effectOn (stateOf b) call cells tags ≡ tableChange (stateOf b .core) (rule .table)
         → leaving (answer code empty) (withTable b (counted (b .nums) n) rows) cells tags ≡ leftOf (ruled (stateOf b) call cells tags)
     table-judged g = go (eqb code 0) refl
       where
@@ -87,14 +87,14 @@ module _ (b : Arrays) (f : Formed b) (call : Call) (unknown : Bool) (rule : Tabl
         go true e =
             let z = eqb-true code 0 e in
             ap (λ k. leaving (answer k empty) (withTable b (counted (b .nums) n) rows) cells tags) z
-            ∙ cored b f call code code-is cells tags new (withTable b (counted (b .nums) n) rows) z g rows-are
+            ∙ cored b f call cells tags code code-is new (withTable b (counted (b .nums) n) rows) z g rows-are
         go false e = table-down (eqb-false code 0 e)
 
     -- Granted, where a register changes too.
-    pub table-registered : (p r : ℕ) (x w : Slot) → code ≡ 0 → effectOn (stateOf b) call ≡ effectOf new (putRegister p r x) keepMailboxes keepMemory w
+    pub table-registered : (p r : ℕ) (x w : Slot) → code ≡ 0 → effectOn (stateOf b) call cells tags ≡ effectOf new (putRegister p r x) keepMailboxes keepMemory w
         → leaving (answer 0 w) (withWords (withTable b (counted (b .nums) n) rows) (set (b .words) (8 * p + r) (x .cell)) (set (b .marks) (8 * p + r) (byteOf (x .tag)))) cells tags
         ≡ leftOf (ruled (stateOf b) call cells tags)
-    table-registered p r x w z g = core-registered b f call code code-is cells tags new (withTable b (counted (b .nums) n) rows) rows-are p r x w z g
+    table-registered p r x w z g = core-registered b f call cells tags code code-is new (withTable b (counted (b .nums) n) rows) rows-are p r x w z g
 
 -- The calls on the table.
 module _ (b : Arrays) (f : Formed b) where
@@ -114,22 +114,22 @@ module _ (b : Arrays) (f : Formed b) where
   take-judges : (p base reg mask : ℕ) → Judges (stateOf b) (TakeMasked p base reg mask) (unnamed p || unnamed reg) (tabledOf (takeOf (stateOf b .core .table) p base))
   unfolding reasons first takeOf
   take-judges p base reg mask =
-      record { told = refl; kept = refused _ _ refl _ t; still = take-still (16 * stateOf b .core .pages .v) t sound p base }
+      record { told = λ cells tags. refl; kept = refused _ _ refl _ t; still = take-still (16 * stateOf b .core .pages .v) t sound p base }
 
   split-judges : (p base len : ℕ) → Judges (stateOf b) (Split p base len) (unnamed p) (splitOf (stateOf b .core .table) p base len)
   unfolding reasons first splitOf
   split-judges p base len =
-      record { told = refl; kept = refused _ _ refl _ t; still = split-still (16 * stateOf b .core .pages .v) t sound p base len }
+      record { told = λ cells tags. refl; kept = refused _ _ refl _ t; still = split-still (16 * stateOf b .core .pages .v) t sound p base len }
 
   merge-judges : (p base : ℕ) → Judges (stateOf b) (Merge p base) (unnamed p) (mergeOf (stateOf b .core .table) p base)
   unfolding reasons first mergeOf
   merge-judges p base =
-      record { told = refl; kept = refused _ _ refl _ t; still = merge-still (16 * stateOf b .core .pages .v) t sound p base }
+      record { told = λ cells tags. refl; kept = refused _ _ refl _ t; still = merge-still (16 * stateOf b .core .pages .v) t sound p base }
 
   give-judges : (p base to : ℕ) → Judges (stateOf b) (Give p base to) (unnamed p || unnamed to) (giveOf (stateOf b .core .table) p base to)
   unfolding reasons first giveOf
   give-judges p base to =
-      record { told = refl; kept = refused _ _ refl _ t; still = give-still (16 * stateOf b .core .pages .v) t sound p base to }
+      record { told = λ cells tags. refl; kept = refused _ _ refl _ t; still = give-still (16 * stateOf b .core .pages .v) t sound p base to }
 
 -- 11.
 module _ (b : Arrays) (f : Formed b) (count : ℕ) (ec : b .nums .count ≡ count) (p base reg mask : ℕ) (cells tags : List ℕ) where
@@ -148,7 +148,7 @@ module _ (b : Arrays) (f : Formed b) (count : ℕ) (ec : b .nums .count ≡ coun
         ap (λ k. leaving (answer code empty) (withTable b (counted (b .nums) k) rows) cells tags) ec
         ∙ table-down b f took _ _ (take-judges b f p base reg mask) cells tags rows code count own known h
 
-    effect-is : effectOn (stateOf b) took
+    effect-is : effectOn (stateOf b) took cells tags
         ≡ effectOf (core (stateOf b .core .pages) (takeOf (stateOf b .core .table) p base .table) (stateOf b .core .place) (stateOf b .core .claims))
         (putRegister p reg (slot (capability base (takeOf (stateOf b .core .table) p base .length) (permitted mask)) true)) keepMailboxes keepMemory (slot (takeOf (stateOf b .core .table) p base .length) false)
     unfolding effect

@@ -33,22 +33,19 @@ pastEnd a off = leb (lengthOf (a .cell)) off
 abbrev pub badNarrow : Slot → ℕ → ℕ → Bool
 badNarrow s off len = (eqb len 0 || ltb (lengthOf (s .cell)) (off + len)) || ltb 65535 (baseOf (s .cell) + off)
 
--- 0B load: the register a, and the place of the cell at base + off. 15: "The register that must hold a capability (a, or s of
--- narrow and grant) is untagged." 18: "The addressed page is not Mapped, or lies at V or beyond."
+-- 15 to 18, of the cell at base + off of the word in a, which shows a place; whether 16 applies is told. 15: "The register that must hold
+-- a capability (a, or s of narrow and grant) is untagged." 18: "The addressed page is not Mapped, or lies at V or beyond."
+abbrev pub cellReasons : Bool → Slot → ℕ → Place → List Reason
+cellReasons denied a off place =
+    reason 15 (not (a .tag)) ∷ reason 16 denied ∷ reason 17 (pastEnd a off) ∷ reason 18 (nowhere place) ∷ []
+
+-- 0B load: the register a, and the place.
 abbrev pub loadReasons : ℕ → ℕ → ℕ → Slot → ℕ → Place → List Reason
-loadReasons p a d from off place =
-    reason 4 ((unnamed p || unnamed a) || unnamed d)
-    ∷ reason 15 (not (from .tag))
-    ∷ reason 16 (mayNotLoad from)
-    ∷ reason 17 (pastEnd from off) ∷ reason 18 (nowhere place) ∷ []
+loadReasons p a d from off place = reason 4 ((unnamed p || unnamed a) || unnamed d) ∷ cellReasons (mayNotLoad from) from off place
 
 -- 0C store: the registers a and s, and the place.
 abbrev pub storeReasons : ℕ → ℕ → ℕ → Slot → Slot → ℕ → Place → List Reason
-storeReasons p a s to from off place =
-    reason 4 ((unnamed p || unnamed a) || unnamed s)
-    ∷ reason 15 (not (to .tag))
-    ∷ reason 16 (mayNotStore to from)
-    ∷ reason 17 (pastEnd to off) ∷ reason 18 (nowhere place) ∷ []
+storeReasons p a s to from off place = reason 4 ((unnamed p || unnamed a) || unnamed s) ∷ cellReasons (mayNotStore to from) to off place
 
 -- 0D narrow: the register s.
 abbrev pub narrowReasons : ℕ → ℕ → ℕ → Slot → ℕ → ℕ → List Reason

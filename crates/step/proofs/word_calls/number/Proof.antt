@@ -22,7 +22,7 @@ unfolding first reasons
 returns c =
     let a = c .before .before .before .before .before .args in
     λ m f cells tags. rw (c .refused .ensures)
-    (down (withWords m (a .words .now) (a .marks .now)) f (Number (a .party) (a .d) (a .value)) _ (c .before .before .first .ensures) cells tags (c .before .if1 .taken))
+    (down (withWords m (a .words .now) (a .marks .now)) f (Number (a .party) (a .d) (a .value)) cells tags _ (c .before .before .first .ensures) (c .before .if1 .taken))
 
 mul-at : tie.Need-mul-at
 mul-at c = search needs
@@ -51,7 +51,7 @@ returns-2 c =
     let a = c .before .before .before .before .before .before .before .before .before .before .before .before .before .args in
     let put = c .before .before .before .before .before .before .put-word .ensures in
     λ m f cells tags. rw (c .granted .ensures, c .before .empty .ensures, put .0, put .1)
-    (registered (withWords m (a .words .now) (a .marks .now)) f (Number (a .party) (a .d) (a .value)) _ (c .before .before .before .before .before .before .before .before .before .before .first .ensures) cells tags
+    (registered (withWords m (a .words .now) (a .marks .now)) f (Number (a .party) (a .d) (a .value)) cells tags _ (c .before .before .before .before .before .before .before .before .before .before .first .ensures)
     (a .party) (a .d) (slot (a .value) false) empty (c .before .before .before .before .before .before .before .before .before .if1 .left) refl)
 
 pub number-spec : {M : Type 1} → statement M
