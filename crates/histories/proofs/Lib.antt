@@ -8,8 +8,8 @@ pub mod Findings
 pub mod Calls
 pub mod Showing
 pub mod Held
-pub mod Origins
 pub mod Always
+pub mod Origins
 pub mod Crossing
 pub mod Confining
 pub mod Lending

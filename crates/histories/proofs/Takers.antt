@@ -19,7 +19,7 @@ use Rattle.reservations.specs.Revocation.{revoked, freshCore}
 use Rattle.reservations.proofs.Starts.{whole}
 use Rattle.calls.specs.declared.Call.{Call}
 use Rattle.machine.specs.Formed.{fresh, startOf}
-use Rattle.machine.specs.Roles.{Role, takes, collects, fills, stores, grants, plain, asked, roleOf, callerOf, IsTake}
+use Rattle.machine.specs.Roles.{Role, takes, collects, fills, stores, grants, receives, plain, asked, roleOf, callerOf, IsTake}
 use Rattle.machine.specs.Step.{effectOn}
 use Rattle.machine.proofs.Deeds.{deed}
 use Rattle.histories.specs.Runs.{Machine, outcome, next, run, begun, Granted}
@@ -113,9 +113,10 @@ takes-or-had m c p cell had low e =
         ⊎-elim (λ (h, own). inr (subst (λ q. Takes m c q cell) own (record { base = base; reg = reg; permissions = permissions; is = ap (asked (callerOf c)) is; granted = g; has = h }))) inl
         (pick-either (inside (namedRange m (callerOf c) base) cell) (callerOf c) had p z)
     by-role g collects is z = ⊎-elim (λ (h, none). absurd (omega arith)) inl (pick-either (inside (revoked (m .state .core)) cell) noTaker had p z)
-    by-role g (fills from) is z = inl z
+    by-role g (fills from d) is z = inl z
     by-role g (stores a off x) is z = inl z
-    by-role g (grants x) is z = inl z
+    by-role g (grants x to) is z = inl z
+    by-role g (receives d) is z = inl z
     by-role g plain is z = inl z
 
 -- A cell stays a party's after each of the calls.

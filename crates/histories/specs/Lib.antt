@@ -1,6 +1,7 @@
 -- Every order of calls: a history, what is live in it, what holds after it, and the theorems.
 pub mod Runs
 pub mod Live
+pub mod Origins
 pub mod Inv
 pub mod Crossing
 pub mod Confining

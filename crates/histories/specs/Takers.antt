@@ -14,7 +14,7 @@ use Rattle.table.specs.Table.{Table}
 use Rattle.table.specs.Rows.{isOpen, isTaken, isRevoking, noTaker, severalTakers, rangeOf, live}
 use Rattle.reservations.specs.Revocation.{revoked}
 use Rattle.calls.specs.declared.Call.{Call}
-use Rattle.machine.specs.Roles.{Role, takes, collects, fills, stores, grants, plain, roleOf, callerOf, IsTake}
+use Rattle.machine.specs.Roles.{Role, takes, collects, fills, stores, grants, receives, plain, roleOf, callerOf, IsTake}
 use Rattle.histories.specs.Runs.{Machine, Granted, outcome, next, run, begun, Begins}
 use Rattle.histories.specs.Lending.{namedRange}
 use Rattle.histories.specs.Inv.{rowAt}
@@ -24,9 +24,10 @@ use Rattle.histories.specs.Inv.{rowAt}
 abbrev pub takerBy : Machine → ℕ → Role → ℕ → ℕ → ℕ
 takerBy m p (takes base reg permissions) cell before = pick (inside (namedRange m p base) cell) p before
 takerBy m p collects cell before = pick (inside (revoked (m .state .core)) cell) noTaker before
-takerBy m p (fills from) cell before = before
+takerBy m p (fills from d) cell before = before
 takerBy m p (stores a off x) cell before = before
-takerBy m p (grants x) cell before = before
+takerBy m p (grants x to) cell before = before
+takerBy m p (receives d) cell before = before
 takerBy m p plain cell before = before
 
 -- A refused call takes nothing.

@@ -28,7 +28,7 @@ use Rattle.words.specs.declared.Slot.{Slot}
 use Rattle.words.specs.Words.{slot, empty, registerOf, mailboxOf, placeNumber, stored}
 use Rattle.words.specs.WordReasons.{unnamed, notManager, mayNotLoad, mayNotStore, cellReasons}
 use Rattle.machine.specs.State.{State}
-use Rattle.machine.specs.Roles.{Sources, fromNone, fromOne, fromCell, Role, takes, collects, fills, stores, grants, plain, Asked, asked, plainPermissions, roleOf, IsTake}
+use Rattle.machine.specs.Roles.{Sources, fromNone, fromOne, fromCell, Role, takes, collects, fills, stores, grants, receives, plain, Asked, asked, plainPermissions, roleOf, IsTake}
 use Rattle.machine.specs.Reasons.{addressed, fetched, found, takingReasons, reasons}
 use Rattle.machine.specs.Effects.{keepRegisters, putRegister, collectRegisters, keepMailboxes, putMailbox, collectMailboxes, keepMemory, write, writeWords, clearFrame, sweepCells, Effect, effectOf, withTable, withPages, withClaims, sweptTo, taking, effect}
 use Rattle.machine.specs.Step.{reasonsOn, effectOn}
@@ -109,10 +109,10 @@ pub data Deed (s : State) (cells tags : List ℕ) : Asked → Effect → Type 0 
   collectedAll : (p : ℕ) → first (collectReasons (s .core)) ≡ 0 → Deed s cells tags (asked p collects) (collecting (s .core))
   zeroed : (p : ℕ) (frame : Frame) → first (dirtyReasons (s .core .pages) frame) ≡ 0 → Deed s cells tags (asked p plain) (zeroing (s .core) frame)
   filled : (p d : ℕ) (from : Sources) (w answer : Slot) → d < 8 → Filling s cells tags p from w answer
-      → Deed s cells tags (asked p (fills from)) (putting (s .core) p d w answer)
+      → Deed s cells tags (asked p (fills from d)) (putting (s .core) p d w answer)
   wrote : (p a off x : ℕ) → p < 8 → a < 8 → Addressing (s .core) (registerOf (s .registers) p a) off → Deed s cells tags (asked p (stores a off x)) (storing s p a off x)
-  mailed : (p x to : ℕ) → registerOf (s .registers) p x .tag ≡ true → Deed s cells tags (asked p (grants x)) (granting s p x to)
-  received : (p d : ℕ) → d < 8 → Deed s cells tags (asked p plain) (receiving s p d)
+  mailed : (p x to : ℕ) → registerOf (s .registers) p x .tag ≡ true → Deed s cells tags (asked p (grants x to)) (granting s p x to)
+  received : (p d : ℕ) → d < 8 → Deed s cells tags (asked p (receives d)) (receiving s p d)
 
 -- A take, of either kind.
 taking-deed : (s : State) (cells tags : List ℕ) (p base reg permissions : ℕ) → permissions ≤ 15 → first (takingReasons (s .core) p base reg) ≡ 0
@@ -152,7 +152,7 @@ deed s (Zero p frame) cells tags z = zeroed p frame (after-five (unnamed p) (not
 deed s (Load p a off d) cells tags z =
     let from = registerOf (s .registers) p a in
     let free = first-clear 4 ((unnamed p || unnamed a) || unnamed d) _ (λ x. omega arith) z .1 in
-    subst (λ w. Deed s cells tags (asked p (fills (fromCell a off))) (putting (s .core) p d w w)) (sym (found-fetched (s .core) cells tags from off free))
+    subst (λ w. Deed s cells tags (asked p (fills (fromCell a off) d)) (putting (s .core) p d w w)) (sym (found-fetched (s .core) cells tags from off free))
     (filled p d _ _ _ (low-three p a d _ z .2) (loads a off (addressing (s .core) from off (mayNotLoad from) free)))
 deed s (Store p a off x) cells tags z =
     let w = registerOf (s .registers) p a in
@@ -194,9 +194,10 @@ pub record Collected (s : State) (e : Effect) : Type 0 where
 abbrev Known : State → ℕ → Role → Effect → Type 0
 Known s p (takes base reg permissions) e = Taken s p base reg permissions e
 Known s p collects e = Collected s e
-Known s p (fills from) e = Unit {0}
+Known s p (fills from d) e = Unit {0}
 Known s p (stores a off x) e = Unit {0}
-Known s p (grants x) e = Unit {0}
+Known s p (grants x to) e = Unit {0}
+Known s p (receives d) e = Unit {0}
 Known s p plain e = Unit {0}
 
 known : (s : State) {cells tags : List ℕ} {a : Asked} {e : Effect} → Deed s cells tags a e → Known s (a .caller) (a .role) e

@@ -14,18 +14,20 @@ pub data Sources : Type 0 where
   fromTwo : ℕ → ℕ → Sources
   fromCell : ℕ → ℕ → Sources
 
--- What a call is, besides its caller. The registers named here are the caller's.
+-- What a call is, besides its caller: what it reads, and where what it moves goes. The registers named here are the caller's.
 pub data Role : Type 0 where
   -- A take of the reservation at base, into a register, with these permissions.
   takes : ℕ → ℕ → ℕ → Role
   -- A collect.
   collects : Role
-  -- A load, narrow or number: it reads these and changes one of the caller's registers.
-  fills : Sources → Role
+  -- A load, narrow or number: it reads these and fills register d.
+  fills : Sources → ℕ → Role
   -- A store through register a, at an offset, of register s.
   stores : ℕ → ℕ → ℕ → Role
-  -- A grant of register s.
-  grants : ℕ → Role
+  -- A grant of register s to a party.
+  grants : ℕ → ℕ → Role
+  -- A receive into register d.
+  receives : ℕ → Role
   -- Any other call. It reads no register.
   plain : Role
 
@@ -51,12 +53,12 @@ roleOf (Collect p) = asked p collects
 roleOf (Map p page frame) = asked p plain
 roleOf (Unmap p page) = asked p plain
 roleOf (Zero p frame) = asked p plain
-roleOf (Load p a off d) = asked p (fills (fromCell a off))
+roleOf (Load p a off d) = asked p (fills (fromCell a off) d)
 roleOf (Store p a off s) = asked p (stores a off s)
-roleOf (Narrow p s off len mask d) = asked p (fills (fromOne s))
-roleOf (Number p d value) = asked p (fills fromNone)
-roleOf (Grant p s to) = asked p (grants s)
-roleOf (Receive p d) = asked p plain
+roleOf (Narrow p s off len mask d) = asked p (fills (fromOne s) d)
+roleOf (Number p d value) = asked p (fills fromNone d)
+roleOf (Grant p s to) = asked p (grants s to)
+roleOf (Receive p d) = asked p (receives d)
 roleOf (TakeMasked p base reg mask) = asked p (takes base reg (permitted mask))
 -- Document 02, 2026-02: "The privacy rule counts these as calls that agree."
 roleOf (Create p parent child limit holder) = asked p plain
@@ -80,7 +82,8 @@ IsCollect c p = roleOf c ≡ asked p collects
 abbrev pub sourcesOf : Role → Sources
 sourcesOf (takes base reg permissions) = fromNone
 sourcesOf collects = fromNone
-sourcesOf (fills from) = from
+sourcesOf (fills from d) = from
 sourcesOf (stores a off s) = fromTwo a s
-sourcesOf (grants s) = fromOne s
+sourcesOf (grants s to) = fromOne s
+sourcesOf (receives d) = fromNone
 sourcesOf plain = fromNone

@@ -10,7 +10,7 @@ use Rattle.capabilities.specs.Lists.{pick}
 use Rattle.capabilities.proofs.Choice.{pick-yes, pick-no, and-left, and-right}
 use Rattle.calls.specs.declared.Call.{Call}
 use Rattle.machine.specs.State.{State}
-use Rattle.machine.specs.Roles.{Role, takes, collects, fills, stores, grants, plain, roleOf, callerOf}
+use Rattle.machine.specs.Roles.{Role, takes, collects, fills, stores, grants, receives, plain, roleOf, callerOf}
 use Rattle.histories.specs.Runs.{Machine, outcome, next, run}
 use Rattle.privacy.specs.Rule.{collecting, strikes, housed, private, Time, lasting, over, ending, until, timeAfter, struck, Left, remaining, left, indiscreet, discreet, told, heard}
 
@@ -23,9 +23,10 @@ struck-housed house over m c e = absurd (false≢true e)
 strikes-going : (r : Range) (s : State) (p : ℕ) (role : Role) → strikes r s p role ≡ true → collecting role ≡ false
 strikes-going r s p (takes base reg permissions) e = refl
 strikes-going r s p collects e = absurd (false≢true e)
-strikes-going r s p (fills from) e = refl
+strikes-going r s p (fills from d) e = refl
 strikes-going r s p (stores a off x) e = refl
-strikes-going r s p (grants x) e = refl
+strikes-going r s p (grants x to) e = refl
+strikes-going r s p (receives d) e = refl
 strikes-going r s p plain e = refl
 
 pub struck-going : (house : ℕ) (t : Time) (m : Machine) (c : Call) → struck house t m c ≡ true → until t m c ≡ t

@@ -144,9 +144,9 @@ module _ (house : ℕ) (r : Range) (m : Machine) (h : Housed house r m) where
           (both (not (housed house c && private r s c)) (betrays r s c) (ap not unstruck) e)) ∙ q))
       go false e = e
 
-  grant-apart : (p x : ℕ) → Quiet (asked p (grants x)) → (b : Bool) → eqb p house ≡ b → Apart r (registerOf (s .registers) p x)
-  grant-apart p x q true e = test-apart r (registerOf (s .registers) p x) (q e refl)
-  grant-apart p x q false e = other-apart p x (eqb-false p house e)
+  grant-apart : (p x to : ℕ) → Quiet (asked p (grants x to)) → (b : Bool) → eqb p house ≡ b → Apart r (registerOf (s .registers) p x)
+  grant-apart p x to q true e = test-apart r (registerOf (s .registers) p x) (q e refl)
+  grant-apart p x to q false e = other-apart p x (eqb-false p house e)
 
   -- What is put into mailboxes.
   pub mailbox-safe : {cells tags : List ℕ} {a : Asked} {e : Effect} → Deed s cells tags a e → Quiet a → MailboxSafe r (e .mailboxes)
@@ -157,7 +157,7 @@ module _ (house : ℕ) (r : Range) (m : Machine) (h : Housed house r m) where
   mailbox-safe (zeroed p frame z) q = tt
   mailbox-safe (filled p d from w answer low g) q = tt
   mailbox-safe (wrote p a off x low-p low-a g) q = tt
-  mailbox-safe (mailed p x to t) q = grant-apart p x q (eqb p house) refl
+  mailbox-safe (mailed p x to t) q = grant-apart p x to q (eqb p house) refl
   mailbox-safe (received p d low) q = empty-apart r
 
   -- An aimed store that is granted hits a cell of the range.

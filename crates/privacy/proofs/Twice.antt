@@ -21,7 +21,7 @@ use Rattle.calls.specs.declared.Call.{Call}
 use Rattle.words.specs.declared.Slot.{Slot}
 use Rattle.words.specs.Words.{empty, registerOf, wordAt, placeNumber, loaded}
 use Rattle.words.specs.WordReasons.{mayNotLoad, cellReasons}
-use Rattle.machine.specs.Roles.{Sources, fromNone, fromOne, fromTwo, fromCell, Role, takes, collects, fills, stores, grants, plain, Asked, roleOf, callerOf, sourcesOf}
+use Rattle.machine.specs.Roles.{Sources, fromNone, fromOne, fromTwo, fromCell, Role, takes, collects, fills, stores, grants, receives, plain, Asked, roleOf, callerOf, sourcesOf}
 use Rattle.machine.specs.Reasons.{Reads, reading, addressed, fetched, found, wordsIn, reads, reasons}
 use Rattle.machine.specs.Step.{reasonsOn, effectOn}
 use Rattle.machine.proofs.Dependence.{formedBy, formed-by}
@@ -81,9 +81,10 @@ until-refused over m c e = refl
 collects-by : (x : Role) → collecting x ≡ true → x ≡ collects
 collects-by (takes base reg permissions) e = absurd (false≢true e)
 collects-by collects e = refl
-collects-by (fills from) e = absurd (false≢true e)
+collects-by (fills from d) e = absurd (false≢true e)
 collects-by (stores a off x) e = absurd (false≢true e)
-collects-by (grants x) e = absurd (false≢true e)
+collects-by (grants x to) e = absurd (false≢true e)
+collects-by (receives d) e = absurd (false≢true e)
 collects-by plain e = absurd (false≢true e)
 
 hides-by : (r : Range) (m : Machine) (c : Call) (v at : ℕ) → coreSound (m .state .core) ≡ true → first (reasonsOn (m .state) c (m .cells) (m .tags)) ≡ 0 → ending r m c ≡ true
@@ -139,9 +140,10 @@ module _ (house : ℕ) (t : Time) (g h : Machine) (own : (r : Range) → t ≡ l
   seen-by : (p : ℕ) (x : Role) → ((r : Range) → t ≡ lasting r → eqb p house && strikes r (g .state) p x ≡ false) → Seen p (sourcesOf x)
   seen-by p (takes base reg permissions) s = tt
   seen-by p collects s = tt
-  seen-by p (fills from) s = filling-seen p from s
+  seen-by p (fills from d) s = filling-seen p from s
   seen-by p (stores a off x) s = tt
-  seen-by p (grants x) s = tt
+  seen-by p (grants x to) s = tt
+  seen-by p (receives d) s = tt
   seen-by p plain s = tt
 
   -- A word that is read through equal registers and is not hidden is equal; where the load is refused, none is read.

@@ -21,7 +21,7 @@ use Rattle.words.specs.declared.Slot.{Slot}
 use Rattle.words.specs.Words.{empty, named, registerOf, mailboxOf, wordAt, stored}
 use Rattle.machine.specs.State.{Answered}
 use Rattle.machine.specs.State.{State}
-use Rattle.machine.specs.Roles.{Role, takes, collects, fills, stores, grants, plain, roleOf, callerOf}
+use Rattle.machine.specs.Roles.{Role, takes, collects, fills, stores, grants, receives, plain, roleOf, callerOf}
 use Rattle.machine.specs.Reasons.{reads}
 use Rattle.histories.specs.Runs.{Machine, outcome, next}
 
@@ -49,9 +49,10 @@ contains outer inner = leb (outer .base) (inner .base) && leb (inner .base + inn
 abbrev pub collecting : Role → Bool
 collecting (takes base reg permissions) = false
 collecting collects = true
-collecting (fills from) = false
+collecting (fills from d) = false
 collecting (stores a off x) = false
-collecting (grants x) = false
+collecting (grants x to) = false
+collecting (receives d) = false
 collecting plain = false
 
 abbrev pub isCollect : Call → Bool
@@ -91,9 +92,10 @@ aimed r s p a off =
 abbrev pub strikes : Range → State → ℕ → Role → Bool
 strikes r s p (takes base reg permissions) = false
 strikes r s p collects = false
-strikes r s p (fills from) = true
+strikes r s p (fills from d) = true
 strikes r s p (stores a off x) = aimed r s p a off
-strikes r s p (grants x) = false
+strikes r s p (grants x to) = false
+strikes r s p (receives d) = false
 strikes r s p plain = false
 
 abbrev pub private : Range → State → Call → Bool
@@ -135,11 +137,12 @@ left house t m (c ∷ l) =
 abbrev pub handsOut : Range → State → ℕ → Role → Bool
 handsOut r s p (takes base reg permissions) = false
 handsOut r s p collects = false
-handsOut r s p (fills from) = false
+handsOut r s p (fills from d) = false
 handsOut r s p (stores a off x) =
     capabilityInto r (stored (s .core) (registerOf (s .registers) p x))
     && not (inside r (baseOf (registerOf (s .registers) p a .cell) + off))
-handsOut r s p (grants x) = capabilityInto r (registerOf (s .registers) p x)
+handsOut r s p (grants x to) = capabilityInto r (registerOf (s .registers) p x)
+handsOut r s p (receives d) = false
 handsOut r s p plain = false
 
 abbrev pub betrays : Range → State → Call → Bool
