@@ -3,5 +3,6 @@ pub mod Lists
 pub mod Members
 pub mod Flatten
 pub mod Refusals
+pub mod Ordered
 pub mod Capabilities
 pub mod Codes

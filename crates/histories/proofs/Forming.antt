@@ -17,13 +17,12 @@ use Rattle.reservations.specs.Revocation.{freshCore, coreSound}
 use Rattle.reservations.proofs.CoreKept.{CoreFacts, core-facts}
 use Rattle.calls.specs.declared.Call.{Call}
 use Rattle.machine.specs.Formed.{startOf, fresh}
-use Rattle.machine.specs.Reasons.{lastRefusal}
 use Rattle.machine.specs.Step.{reasonsOn, stepOf, judged, ruled}
 use Rattle.machine.proofs.Keeps.{facts, step-keeps, start-formed}
 use Rattle.machine.proofs.Lengths.{step-sized}
 use Rattle.machine.proofs.Sizes.{Same}
 use Rattle.machine.proofs.Unchanged.{step-same}
-use Rattle.machine.proofs.Lowest.{first-within, reasons-rise, ruled-code}
+use Rattle.machine.proofs.Order.{late-code, ruled-code}
 use Rattle.histories.specs.Runs.{Machine, outcome, next, run, begun, Begins}
 use Rattle.histories.specs.Forming.{Standing, AlwaysFormed, NeverUnformed}
 
@@ -98,4 +97,4 @@ standing-code m v f c k = ap (λ o. o .answer .code) (standing-ruled m v f c k) 
 pub never-unformed : NeverUnformed
 never-unformed m r c =
     let e = standing-code m (r .v) (r .f) c (always-formed m r) in
-    ⊎-elim (λ z. inl (e ∙ z)) (λ z. inr (subst (λ n. 3 < n) (sym e) (z .0))) (first-within 3 lastRefusal (reasonsOn (m .state) c (m .cells) (m .tags)) (reasons-rise (m .state) c (m .cells) (m .tags)) .1)
+    ⊎-elim (λ z. inl (e ∙ z)) (λ z. inr (subst (λ n. 3 < n) (sym e) z)) (late-code (m .state) c (m .cells) (m .tags))

@@ -16,7 +16,7 @@ use Rattle.machine.specs.Reasons.{lastRefusal}
 use Rattle.machine.specs.Step.{Outcome, left, refused, stepOf}
 use Rattle.machine.specs.Command.{Ran, used, onReading, commandJudged, commandOf}
 use Rattle.machine.proofs.Judging.{pick-by, judged-step, refused-keeps}
-use Rattle.machine.proofs.Lowest.{code-at-most}
+use Rattle.machine.proofs.Order.{code-at-most}
 use Rattle.machine.proofs.Lengths.{Sized, refused-sized, step-sized}
 use Rattle.machine.proofs.Keeps.{step-keeps}
 

@@ -22,7 +22,7 @@ use Rattle.machine.specs.Formed.{mailboxSound, mailboxesSound, formedBar
 use Rattle.machine.specs.Reasons.{reads, reasons}
 use Rattle.machine.specs.Effects.{effect}
 use Rattle.machine.specs.Step.{reasonsOn, effectOn, stepOf}
-use Rattle.machine.proofs.Lowest.{step-code}
+use Rattle.machine.proofs.Order.{step-code}
 
 -- Whether a state is well formed depends on the core, the mailboxes and how many registers there are.
 unfoldable pub formedBy : Core → List Slot → ℕ → Bool

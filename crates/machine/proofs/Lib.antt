@@ -2,7 +2,7 @@ pub mod Ruled
 pub mod Judging
 pub mod Found
 pub mod Deeds
-pub mod Lowest
+pub mod Order
 pub mod Written
 pub mod Dependence
 pub mod Lists

@@ -19,10 +19,9 @@ use Rattle.calls.specs.declared.Reading.the-variants.{Read}
 use Rattle.calls.proofs.RoundTrip.{round-trip}
 use Rattle.machine.specs.State.{State}
 use Rattle.machine.specs.Formed.{wellFormed}
-use Rattle.machine.specs.Reasons.{lastRefusal}
 use Rattle.machine.specs.Step.{refused, reasonsOn, ruled, judged, stepOf}
 use Rattle.machine.specs.Command.{used, onReading, commandJudged, commandOf}
-use Rattle.machine.proofs.Lowest.{first-within, reasons-rise, ruled-code}
+use Rattle.machine.proofs.Order.{late-code, ruled-code}
 
 -- The bytes that a command of n bytes uses, by the code that is answered: none under refusals 1 and 2.
 abbrev pub usedUnder : ℕ → ℕ → ℕ
@@ -30,11 +29,11 @@ usedUnder code n = pick (eqb code 1 || eqb code 2) 0 n
 
 -- A call judged by its own reasons answers neither 1 nor 2.
 late : (s : State) (c : Call) (cells tags : List ℕ) (n : ℕ) → usedUnder (ruled s c cells tags .answer .code) n ≡ n
-late s c cells tags n = rw (ruled-code s c cells tags) (go (first-within 3 lastRefusal (reasonsOn s c cells tags) (reasons-rise s c cells tags) .1))
+late s c cells tags n = rw (ruled-code s c cells tags) (go (late-code s c cells tags))
   where
-    go : (first (reasonsOn s c cells tags) ≡ 0) ⊎ ((3 < first (reasonsOn s c cells tags)) × (first (reasonsOn s c cells tags) ≤ lastRefusal)) → usedUnder (first (reasonsOn s c cells tags)) n ≡ n
+    go : (first (reasonsOn s c cells tags) ≡ 0) ⊎ (3 < first (reasonsOn s c cells tags)) → usedUnder (first (reasonsOn s c cells tags)) n ≡ n
     go (inl z) = rw z
-    go (inr p) = rw (ne-eqb (first (reasonsOn s c cells tags)) 1 (λ z. omega (arith, p .0)), ne-eqb (first (reasonsOn s c cells tags)) 2 (λ z. omega (arith, p .0)))
+    go (inr p) = rw (ne-eqb (first (reasonsOn s c cells tags)) 1 (λ z. omega (arith, p)), ne-eqb (first (reasonsOn s c cells tags)) 2 (λ z. omega (arith, p)))
 
 -- Whatever stands before and after it, a call that was written runs as that call; it uses the bytes that were written,
 -- or none under refusals 1 and 2.

@@ -5,6 +5,7 @@ pub mod Roles
 pub mod Reasons
 pub mod Effects
 pub mod Step
+pub mod Order
 pub mod Cost
 pub mod Undoing
 pub mod Forgetting
