@@ -17,7 +17,6 @@ use Rattle.table.proofs.Inverse.{blank-is}
 use Rattle.table.proofs.Numbers.{Sized}
 use Rattle.table.proofs.Takers.{taker-small}
 use Rattle.table.proofs.Tiled.{tiles-begin, row-holder}
-use Rattle.reservations.specs.Revocation.{core}
 use Rattle.reservations.proofs.CoreKept.{core-facts}
 use Rattle.machine.specs.State.{State}
 use Rattle.machine.specs.Formed as rules

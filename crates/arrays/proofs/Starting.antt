@@ -22,7 +22,8 @@ use Rattle.table.specs.Numbers.{rowCode}
 use Rattle.claims.specs.Claims.{Claims}
 use Rattle.claims.specs.Sound.{freshClaims}
 use Rattle.claims.proofs.RoundTrip.{fresh-numbers, fresh-counts, blank-numbers, blank-counts}
-use Rattle.reservations.specs.Revocation.{core, freshCore, revoked}
+use Rattle.reservations.specs.Core.{core}
+use Rattle.reservations.specs.Revocation.{freshCore, revoked}
 use Rattle.words.specs.Words.{empty}
 use Rattle.machine.specs.State.{State}
 use Rattle.machine.specs.Formed.{fresh}

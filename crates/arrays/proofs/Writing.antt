@@ -13,8 +13,8 @@ use Rattle.table.specs.Table.{Table}
 use Rattle.claims.specs.Claims.{Claims}
 use Rattle.claims.specs.Numbers.{laid}
 use Rattle.claims.specs.Numbers.{numbersOf as claimNumbers}
-use Rattle.reservations.specs.Core.{Core}
-use Rattle.reservations.specs.Revocation.{core, revoked}
+use Rattle.reservations.specs.Core.{Core, withPages as corePages, withTable as coreTable, withClaims as coreClaims}
+use Rattle.reservations.specs.Revocation.{revoked}
 use Rattle.words.specs.declared.Slot.{Slot}
 use Rattle.words.specs.Words.{byteOf}
 use Rattle.machine.specs.State.{State}
@@ -57,28 +57,28 @@ module _ (s : State) where
       rw (map-set (λ (z : Slot). z .cell) (s .registers) i x, map-set (λ (z : Slot). byteOf (z .tag)) (s .registers) i x, map-set (λ (z : Slot). z .cell) (s .mailboxes) j y, map-set (λ (z : Slot). byteOf (z .tag)) (s .mailboxes) j y)
 
   pub write-page : (p : ℕ) (x : PageState)
-      → arraysOf (withCore s (core (withPage (s .core .pages) p x) (s .core .table) (s .core .place) (s .core .claims)))
+      → arraysOf (withCore s (corePages (s .core) (withPage (s .core .pages) p x)))
       ≡ withPages (arraysOf s) (set (arraysOf s .pages) p (pageCode x)) (arraysOf s .frames)
   unfolding arraysOf withCore withPage numbersOf revoked
   write-page p x = rw (map-set (λ (e : PageEntry). pageCode (e .state)) (s .core .pages .pages) p (pageEntry x))
 
   pub write-frame : (k : ℕ) (x : FrameState)
-      → arraysOf (withCore s (core (withFrame (s .core .pages) k x) (s .core .table) (s .core .place) (s .core .claims)))
+      → arraysOf (withCore s (corePages (s .core) (withFrame (s .core .pages) k x)))
       ≡ withPages (arraysOf s) (arraysOf s .pages) (set (arraysOf s .frames) k (frameCode x))
   unfolding arraysOf withCore withFrame numbersOf revoked
   write-frame k x = rw (map-set (λ (e : FrameEntry). frameCode (e .state)) (s .core .pages .frames) k (frameEntry x))
 
   -- A whole table, where the revoked range stays.
   pub write-table : (t : Table)
-      → revoked (core (s .core .pages) t (s .core .place) (s .core .claims)) ≡ revoked (s .core)
-      → arraysOf (withCore s (core (s .core .pages) t (s .core .place) (s .core .claims)))
+      → revoked (coreTable (s .core) t) ≡ revoked (s .core)
+      → arraysOf (withCore s (coreTable (s .core) t))
       ≡ withTable (arraysOf s) (counted (arraysOf s .nums) (t .count)) (map rowCode (t .rows))
   unfolding arraysOf withCore numbersOf
   write-table t e = rw e
 
   -- Other claims.
   pub write-claims : (x : Claims)
-      → arraysOf (withCore s (core (s .core .pages) (s .core .table) (s .core .place) x)) ≡ withClaims (arraysOf s) (claimNumbers x) (laid (x .counts))
+      → arraysOf (withCore s (coreClaims (s .core) x)) ≡ withClaims (arraysOf s) (claimNumbers x) (laid (x .counts))
   unfolding arraysOf withCore numbersOf revoked
   write-claims x = refl
 
@@ -113,20 +113,20 @@ module _ (a : Arrays) (e : arraysOf (stateOf a) ≡ a) where
   abbrev c : Core
   c = stateOf a .core
 
-  pub put-table : (t : Table) → revoked (core (c .pages) t (c .place) (c .claims)) ≡ revoked c
-      → withTable a (counted (a .nums) (t .count)) (map rowCode (t .rows)) ≡ arraysOf (withCore (stateOf a) (core (c .pages) t (c .place) (c .claims)))
+  pub put-table : (t : Table) → revoked (coreTable c t) ≡ revoked c
+      → withTable a (counted (a .nums) (t .count)) (map rowCode (t .rows)) ≡ arraysOf (withCore (stateOf a) (coreTable c t))
   put-table t k = ap (λ b. withTable b (counted (b .nums) (t .count)) (map rowCode (t .rows))) (sym e) ∙ sym (write-table (stateOf a) t k)
 
   -- A page and a frame: the two one after the other.
   pub put-both : (p k : ℕ) (x : PageState) (y : FrameState)
       → withPages a (set (a .pages) p (pageCode x)) (set (a .frames) k (frameCode y))
-      ≡ arraysOf (withCore (stateOf a) (core (withFrame (withPage (c .pages) p x) k y) (c .table) (c .place) (c .claims)))
+      ≡ arraysOf (withCore (stateOf a) (corePages c (withFrame (withPage (c .pages) p x) k y)))
   put-both p k x y =
-      let s = withCore (stateOf a) (core (withPage (c .pages) p x) (c .table) (c .place) (c .claims)) in
+      let s = withCore (stateOf a) (corePages c (withPage (c .pages) p x)) in
       ap (λ b. withPages b (set (b .pages) p (pageCode x)) (set (b .frames) k (frameCode y))) (sym e)
       ∙ ap (λ b. withPages b (b .pages) (set (b .frames) k (frameCode y))) (sym (write-page (stateOf a) p x))
       ∙ sym (unfold withCore in write-frame s k y)
 
   pub put-claims : (x : Claims)
-      → withClaims a (claimNumbers x) (laid (x .counts)) ≡ arraysOf (withCore (stateOf a) (core (c .pages) (c .table) (c .place) x))
+      → withClaims a (claimNumbers x) (laid (x .counts)) ≡ arraysOf (withCore (stateOf a) (coreClaims c x))
   put-claims x = ap (λ b. withClaims b (claimNumbers x) (laid (x .counts))) (sym e) ∙ sym (write-claims (stateOf a) x)

@@ -4,8 +4,8 @@ use mathlib.Core.Bool.{Bool, true}
 use mathlib.Core.List.{List, map}
 use mathlib.Core.Path.{_≡_}
 use Rattle.table.specs.Rows.{table}
-use Rattle.reservations.specs.Core.{Core}
-use Rattle.reservations.specs.Revocation.{core, revoked}
+use Rattle.reservations.specs.Core.{Core, core}
+use Rattle.reservations.specs.Revocation.{revoked}
 use Rattle.words.specs.declared.Slot.{Slot}
 use Rattle.words.specs.Words.{byteOf}
 use Rattle.machine.specs.State.{State}

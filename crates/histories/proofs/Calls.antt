@@ -34,7 +34,7 @@ use Rattle.table.proofs.Tiled.{tiled-some}
 use Rattle.table.proofs.Unrevoked.{alike-still}
 use Rattle.table.proofs.Truth.{and-yes}
 use Rattle.reservations.specs.Core.{Core}
-use Rattle.reservations.specs.Revocation.{core, revoked, dying, revokeReasons, revokeOf, collectReasons, collectOf, coreSound}
+use Rattle.reservations.specs.Revocation.{revoked, dying, revokeReasons, revokeOf, collectReasons, collectOf, coreSound}
 use Rattle.reservations.proofs.CoreAfter.{dying-inside}
 use Rattle.reservations.proofs.CoreKept.{CoreFacts, core-facts}
 use Rattle.words.specs.declared.Slot.{Slot}
@@ -88,8 +88,8 @@ module _ (s : State) (cells tags : List ℕ) (inv : Inv (machine s cells tags)) 
         let n = no-shared-cell size t (k .row) i (baseOf x + off) (facts .rows) (k .used) b mine e in
         true≢false (sym o ∙ sym (ap (λ j. isOpen (rowAt t j .state)) n) ∙ k .lent)
 
-    table-change : (u : Table) → Carried t u → ((cell : ℕ) → dying (core (c .pages) u (c .place) (c .claims)) cell ≡ dying c cell)
-        → Inv (machine (record { core = core (c .pages) u (c .place) (c .claims); registers = s .registers; mailboxes = s .mailboxes }) cells tags)
+    table-change : (u : Table) → Carried t u → ((cell : ℕ) → dying (withTable c u) cell ≡ dying c cell)
+        → Inv (machine (record { core = withTable c u; registers = s .registers; mailboxes = s .mailboxes }) cells tags)
     table-change u k d =
         record {
           registers = λ i. carried-sound t u (getD (s .registers) i empty) k (inv .registers i);
@@ -99,11 +99,11 @@ module _ (s : State) (cells tags : List ℕ) (inv : Inv (machine s cells tags)) 
 
     -- 01 take.
     take-change : (p base reg x i : ℕ) (u : Table) (n : ℕ) → x ≤ 15 → isOpen (rowAt t i .state) ≡ true → Replaced t u p base i 1 (takenRow (rowAt t i) p ∷ []) → n ≡ rowAt t i .length
-        → Inv (machine (record { core = core (c .pages) u (c .place) (c .claims); registers = set (s .registers) (8 * p + reg) (slot (capability base n x) true); mailboxes = s .mailboxes }) cells tags)
+        → Inv (machine (record { core = withTable c u; registers = set (s .registers) (8 * p + reg) (slot (capability base n x) true); mailboxes = s .mailboxes }) cells tags)
     take-change p base reg x i u n few o r e =
         let k = take-carried t u p base i o r in
         let h : i < length (live t) = omega (arith, r .within) in
-        let d = dies-same c (core (c .pages) u (c .place) (c .claims)) (dyings-one t u i (takenRow (rowAt t i) p ∷ []) h (r .now) (open-still (rowAt t i .state) o) (open-no-dying (takenRow (rowAt t i) p) refl)) in
+        let d = dies-same c (withTable c u) (dyings-one t u i (takenRow (rowAt t i) p ∷ []) h (r .now) (open-still (rowAt t i .state) o) (open-no-dying (takenRow (rowAt t i) p) refl)) in
         let j = table-change u k d in
         let (used, row) = row-first t u p base i 1 (takenRow (rowAt t i) p) [] r in
         let start : rowAt t i .base ≡ base = eqb-true (rowAt t i .base) base (and-left (eqb (rowAt t i .base) base) (held (rowAt t i) p) (r .named)) in
@@ -133,7 +133,7 @@ module _ (s : State) (cells tags : List ℕ) (inv : Inv (machine s cells tags)) 
         let (i, o, r) = split-after size t (facts .rows) p base len code in
         let h : i < length (live t) = omega (arith, r .within) in
         table-change u (split-kept c ok p base len code)
-        (dies-same c (core (c .pages) u (c .place) (c .claims))
+        (dies-same c (withTable c u)
         (dyings-one t u i (lowerPart (rowAt t i) len ∷ upperPart (rowAt t i) len ∷ []) h (r .now) (open-still (rowAt t i .state) o) (unfold dyings in refl)))
 
     keep-merge : (p base : ℕ) → first (mergeReasons t p base) ≡ 0 → Inv (after (coreAlone (withTable c (mergeOf t p base .table))))
@@ -145,7 +145,7 @@ module _ (s : State) (cells tags : List ℕ) (inv : Inv (machine s cells tags)) 
         let h : i + 1 < length (live t) = omega (arith, r .within) in
         let still = alike-still (rowAt t i .state) (rowAt t (i + 1) .state) same in
         table-change u (merge-kept c ok p base code)
-        (dies-same c (core (c .pages) u (c .place) (c .claims))
+        (dies-same c (withTable c u)
         (dyings-two t u i (joined (rowAt t i) (rowAt t (i + 1)) ∷ []) h (r .now) (still .0) (still .1) (open-no-dying (joined (rowAt t i) (rowAt t (i + 1))) (still .0))))
 
     keep-give : (p base to : ℕ) → first (giveReasons t p base) ≡ 0 → Inv (after (coreAlone (withTable c (giveOf t p base to .table))))
@@ -157,7 +157,7 @@ module _ (s : State) (cells tags : List ℕ) (inv : Inv (machine s cells tags)) 
         let h : i < length (live t) = omega (arith, r .within) in
         let still = open-still (rowAt t i .state) o in
         table-change u (give-kept c ok p base to code)
-        (dies-same c (core (c .pages) u (c .place) (c .claims)) (dyings-one t u i (givenRow (rowAt t i) to ∷ []) h (r .now) still (open-no-dying (givenRow (rowAt t i) to) still)))
+        (dies-same c (withTable c u) (dyings-one t u i (givenRow (rowAt t i) to ∷ []) h (r .now) still (open-no-dying (givenRow (rowAt t i) to) still)))
 
     -- 0B, 0D, 0E, 0F, 10: registers and mailboxes alone.
     confined : Holds (Confined t) s
@@ -199,7 +199,7 @@ module _ (s : State) (cells tags : List ℕ) (inv : Inv (machine s cells tags)) 
     keep-swept n = record { registers = inv .registers; mailboxes = inv .mailboxes; memory = keep-sweep c cells tags (inv .memory) layer of-cells of-tags (sweptTo c n) }
 
     -- 08 map, 09 unmap, 0A zero.
-    page-change : (q : Pages) → Memory (core q t (c .place) (c .claims)) cells tags → Inv (machine (record { core = core q t (c .place) (c .claims); registers = s .registers; mailboxes = s .mailboxes }) cells tags)
+    page-change : (q : Pages) → Memory (withPages c q) cells tags → Inv (machine (record { core = withPages c q; registers = s .registers; mailboxes = s .mailboxes }) cells tags)
     page-change q m = record { registers = inv .registers; mailboxes = inv .mailboxes; memory = m }
 
     keep-map : (page : VirtualPage) (frame : Frame) → first (mapReasons (c .pages) page frame) ≡ 0 → Inv (after (coreAlone (withPages c (mapOf (c .pages) page frame .pages))))
@@ -207,7 +207,7 @@ module _ (s : State) (cells tags : List ℕ) (inv : Inv (machine s cells tags)) 
     keep-map page frame z =
         let k = mappable (c .pages) page frame z in
         page-change (mapOf (c .pages) page frame .pages)
-        (subst (λ q. Memory (core q t (c .place) (c .claims)) cells tags) (sym (map-done (c .pages) page frame z))
+        (subst (λ q. Memory (withPages c q) cells tags) (sym (map-done (c .pages) page frame z))
         (keep-pages c cells tags (inv .memory) (mapped (c .pages) page frame)
         (λ v at e. ⊎-elim inl (λ q. inr (subst (Blank cells tags) (sym (q .1)) (inv .memory .free (frame .0) (v % 16) (k .free-frame) (omega arith)))) (map-view (c .pages) layer page frame k v at e))
         (map-free (c .pages) layer page frame k)))
@@ -217,7 +217,7 @@ module _ (s : State) (cells tags : List ℕ) (inv : Inv (machine s cells tags)) 
     keep-unmap page claimed z =
         let k = unmappable (c .pages) page claimed z in
         page-change (unmapOf (c .pages) page claimed .pages)
-        (subst (λ q. Memory (core q t (c .place) (c .claims)) cells tags) (sym (unmap-done (c .pages) page claimed z))
+        (subst (λ q. Memory (withPages c q) cells tags) (sym (unmap-done (c .pages) page claimed z))
         (keep-pages c cells tags (inv .memory) (unmapped (c .pages) page) (λ v at e. inl (unmap-view (c .pages) layer page k v at e)) (unmap-free (c .pages) layer page k)))
 
     keep-zero : (frame : Frame) → first (dirtyReasons (c .pages) frame) ≡ 0
@@ -239,7 +239,7 @@ module _ (s : State) (cells tags : List ℕ) (inv : Inv (machine s cells tags)) 
         record {
           registers = λ i. carried-sound t u (getD (s .registers) i empty) k (inv .registers i);
           mailboxes = λ i. carried-sound t u (getD (s .mailboxes) i empty) k (inv .mailboxes i);
-          memory = subst (λ x. Memory x cells tags) (sym (revoke-parts c p base code)) (keep-begun (core (freedOf (c .pages) range) t (c .place) (c .claims)) cells tags pages u k);
+          memory = subst (λ x. Memory x cells tags) (sym (revoke-parts c p base code)) (keep-begun (withPages c (freedOf (c .pages) range)) cells tags pages u k);
         }
 
     collect-change : (k : Ends c)
@@ -254,7 +254,7 @@ module _ (s : State) (cells tags : List ℕ) (inv : Inv (machine s cells tags)) 
           mailboxes = λ j. subst (Sound u) (sym (collected-mailboxes c (s .mailboxes) j)) (mail (getD (s .mailboxes) j empty) (inv .mailboxes j));
           memory =
               subst (λ x. Memory x cells tags) (sym (k .parts))
-              (keep-ended (core after-pages t (c .place) (c .claims)) cells tags u (k .row) (k .used) (k .now)
+              (keep-ended (withPages c after-pages) cells tags u (k .row) (k .used) (k .now)
               (keep-pages c cells tags (inv .memory) after-pages (λ v at e. inl (old v at e)) (released-free (c .pages) layer (revoked c)))
               (λ v e. gone v e (lookupOf after-pages v) refl)
               (λ v at e h.

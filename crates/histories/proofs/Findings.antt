@@ -27,8 +27,8 @@ use Rattle.table.proofs.Unrevoked.{with-live}
 use Rattle.table.proofs.Finding.{found-at}
 use Rattle.table.proofs.Kept.{row-live}
 use Rattle.table.proofs.Sound.{sound}
-use Rattle.reservations.specs.Core.{Core}
-use Rattle.reservations.specs.Revocation.{core, running, revoked, wholePages, revokeReasons, revokeAt, revokeOf, collectReasons, collectedRow, collected, collectOf, coreSound, revocationSound}
+use Rattle.reservations.specs.Core.{Core, unswept}
+use Rattle.reservations.specs.Revocation.{running, revoked, wholePages, revokeReasons, revokeAt, revokeOf, collectReasons, collectedRow, collected, collectOf, coreSound, revocationSound}
 use Rattle.reservations.proofs.CoreKept.{CoreFacts, core-facts}
 use Rattle.reservations.proofs.Revocations.{collected-at, collect-clear, freed-while}
 use Rattle.histories.specs.Inv.{rowAt, Confined}
@@ -97,11 +97,11 @@ pub take-length : (t : Table) (p base : ℕ) → takeOf t p base .code ≡ 0 →
 unfolding takeOf
 take-length t p base z = pick-yes (eqb (first (takeReasons t p base)) 0) (rowOf t (findOf t p base) .length) 0 (eq-eqb (first (takeReasons t p base)) 0 z)
 
-pub revoke-parts : (c : Core) (p base : ℕ) → revokeOf c p base .code ≡ 0 → revokeOf c p base .core ≡ core (freedOf (c .pages) (rangeOf (rowOf (c .table) (findOf (c .table) p base)))) (revokeOf c p base .core .table) 0 (c .claims)
+pub revoke-parts : (c : Core) (p base : ℕ) → revokeOf c p base .code ≡ 0 → revokeOf c p base .core ≡ unswept c (freedOf (c .pages) (rangeOf (rowOf (c .table) (findOf (c .table) p base)))) (revokeOf c p base .core .table)
 unfolding revokeOf revokeAt
 revoke-parts c p base z =
     let e = pick-yes (eqb (first (revokeReasons c p base)) 0) (revokeAt c (findOf (c .table) p base)) c (eq-eqb (first (revokeReasons c p base)) 0 z) in
-    e ∙ ap (λ x. core (freedOf (c .pages) (rangeOf (rowOf (c .table) (findOf (c .table) p base)))) x 0 (c .claims)) (sym (ap (λ x. x .table) e))
+    e ∙ ap (λ x. unswept c (freedOf (c .pages) (rangeOf (rowOf (c .table) (findOf (c .table) p base)))) x) (sym (ap (λ x. x .table) e))
 
 revoked-row : (c : Core) → revoked c ≡ rangeOf (rowOf (c .table) (revokingOf (c .table)))
 unfolding revoked
@@ -134,7 +134,7 @@ pub record Ends (c : Core) : Type 0 where
   pub dies : isRevoking (rowAt (c .table) row .state) ≡ true
   pub range : revoked c ≡ rangeOf (rowAt (c .table) row)
   pub now : live (collectOf c .core .table) ≡ take row (live (c .table)) ++ collectedRow (rowAt (c .table) row) ∷ drop (row + 1) (live (c .table))
-  pub parts : collectOf c .core ≡ core (releasedOf (c .pages) (revoked c)) (collectOf c .core .table) 0 (c .claims)
+  pub parts : collectOf c .core ≡ unswept c (releasedOf (c .pages) (revoked c)) (collectOf c .core .table)
   pub over : 16 * c .pages .f ≤ c .place
   pub whole-base : rowAt (c .table) row .base % 16 ≡ 0
   pub whole-length : rowAt (c .table) row .length % 16 ≡ 0
@@ -150,7 +150,7 @@ collect-parts : (c : Core) → collectOf c .code ≡ 0 → collectOf c .core ≡
 unfolding collectOf
 collect-parts c z = pick-yes (eqb (first (collectReasons c)) 0) (collected c) c (eq-eqb (first (collectReasons c)) 0 z)
 
-collected-parts : (c : Core) → collected c ≡ core (releasedOf (c .pages) (revoked c)) (collected c .table) 0 (c .claims)
+collected-parts : (c : Core) → collected c ≡ unswept c (releasedOf (c .pages) (revoked c)) (collected c .table)
 unfolding collected
 collected-parts c = refl
 
@@ -172,7 +172,7 @@ ends c ok z =
       now =
           ap (λ x. live (x .table)) (p ∙ collected-at c (Row i) (k .found)) ∙ ap (λ r. live (withRow t (Row i) (collectedRow r))) (row-live t i (k .used))
           ∙ with-live (16 * c .pages .v) t (sound (16 * c .pages .v) t (facts .rows)) i (k .used) (collectedRow (rowAt t i));
-      parts = p ∙ collected-parts c ∙ ap (λ x. core (releasedOf (c .pages) (revoked c)) (x .table) 0 (c .claims)) (sym p);
+      parts = p ∙ collected-parts c ∙ ap (λ x. unswept c (releasedOf (c .pages) (revoked c)) (x .table)) (sym p);
       over = clear .1;
       whole-base = eqb-true (rowAt t i .base % 16) 0 (and-left (eqb (rowAt t i .base % 16) 0) (eqb (rowAt t i .length % 16) 0) whole);
       whole-length = eqb-true (rowAt t i .length % 16) 0 (and-right (eqb (rowAt t i .base % 16) 0) (eqb (rowAt t i .length % 16) 0) whole);

@@ -29,8 +29,8 @@ use Rattle.sweep.proofs.Sweeps.{swept-less, swept-clean}
 use Rattle.table.specs.Table.{Table}
 use Rattle.table.specs.Rows.{isOpen, live, rangeOf}
 use Rattle.table.proofs.Cells.{inside-made}
-use Rattle.reservations.specs.Core.{Core}
-use Rattle.reservations.specs.Revocation.{core, running, revoked, dying, collectedRow}
+use Rattle.reservations.specs.Core.{Core, withPages, withTable, withPlace, unswept}
+use Rattle.reservations.specs.Revocation.{running, revoked, dying, collectedRow}
 use Rattle.reservations.proofs.CoreAfter.{dying-inside}
 use Rattle.words.specs.declared.Slot.{Slot}
 use Rattle.words.specs.Words.{slot, empty, byteOf, tagOf, wordAt}
@@ -82,7 +82,7 @@ module _ (c : Core) (cells tags : List ℕ) (m : Memory c cells tags) where
   place-sound v at e = subst (Sound (c .table)) (shown-at (c .pages) cells tags v at e) (m .confined v)
 
   -- Another table.
-  pub keep-table : (u : Table) → Carried (c .table) u → ((cell : ℕ) → dying (core (c .pages) u (c .place) (c .claims)) cell ≡ dying c cell) → Memory (core (c .pages) u (c .place) (c .claims)) cells tags
+  pub keep-table : (u : Table) → Carried (c .table) u → ((cell : ℕ) → dying (withTable c u) cell ≡ dying c cell) → Memory (withTable c u) cells tags
   keep-table u k d =
       record {
         confined = λ v. carried-sound (c .table) u (shown (c .pages) cells tags v) k (m .confined v);
@@ -93,7 +93,7 @@ module _ (c : Core) (cells tags : List ℕ) (m : Memory c cells tags) where
       }
 
   -- Another table, and the sweep at its beginning.
-  pub keep-begun : (u : Table) → Carried (c .table) u → Memory (core (c .pages) u 0 (c .claims)) cells tags
+  pub keep-begun : (u : Table) → Carried (c .table) u → Memory (unswept c (c .pages) u) cells tags
   keep-begun u k =
       record {
         confined = λ v. carried-sound (c .table) u (shown (c .pages) cells tags v) k (m .confined v);
@@ -105,7 +105,7 @@ module _ (c : Core) (cells tags : List ℕ) (m : Memory c cells tags) where
 
   -- Other pages: what they show was shown, or is blank; what is Free was.
   pub keep-pages : (p : Pages) → ((v at : ℕ) → lookupOf p v ≡ At at → (lookupOf (c .pages) v ≡ At at) ⊎ Blank cells tags at) → ((k : ℕ) → frameAt p k ≡ Free → frameAt (c .pages) k ≡ Free)
-      → Memory (core p (c .table) (c .place) (c .claims)) cells tags
+      → Memory (withPages c p) cells tags
   unfolding dying running revoked
   keep-pages p was free =
       record {
@@ -195,7 +195,7 @@ module _ (c : Core) (cells tags : List ℕ) (m : Memory c cells tags) where
     clear-word f low dirty v at e = word-same cells tags (cleared f cells) (cleared f tags) at (clear-other f low dirty cells of-cells v at e) (clear-other f low dirty tags of-tags v at e)
 
     -- A Dirty frame cleared and Free.
-    pub keep-clear : (f : Frame) → f .0 < c .pages .f → frameAt (c .pages) (f .0) ≡ Dirty → Memory (core (withFrame (c .pages) (f .0) Free) (c .table) (c .place) (c .claims)) (cleared f cells) (cleared f tags)
+    pub keep-clear : (f : Frame) → f .0 < c .pages .f → frameAt (c .pages) (f .0) ≡ Dirty → Memory (withPages c (withFrame (c .pages) (f .0) Free)) (cleared f cells) (cleared f tags)
     unfolding dying running revoked
     keep-clear f low dirty =
         record {
@@ -249,7 +249,7 @@ module _ (c : Core) (cells tags : List ℕ) (m : Memory c cells tags) where
         untagged q = unfold wordAt in ap (λ n. slot (getD cells at 0) (tagOf n)) q
 
     -- Cells swept up to a further place.
-    pub keep-sweep : (upto : ℕ) → Memory (core (c .pages) (c .table) upto (c .claims)) cells (sweptTags (c .pages .frames) (revoked c) (c .place) upto cells tags)
+    pub keep-sweep : (upto : ℕ) → Memory (withPlace c upto) cells (sweptTags (c .pages .frames) (revoked c) (c .place) upto cells tags)
     unfolding dying running revoked
     keep-sweep upto =
         record {
@@ -302,7 +302,7 @@ collect-sound t u i h now w s out e =
 pub keep-ended : (c : Core) (cells tags : List ℕ) (u : Table) (i : ℕ) (h : i < length (live (c .table))) (now : live u ≡ take i (live (c .table)) ++ collectedRow (rowAt (c .table) i) ∷ drop (i + 1) (live (c .table)))
     → Memory c cells tags → ((v : ℕ) → inside (rangeOf (rowAt (c .table) i)) v ≡ true → lookupOf (c .pages) v ≡ Nowhere)
     → ((v at : ℕ) → lookupOf (c .pages) v ≡ At at → wordAt cells tags at .tag ≡ true → inside (rangeOf (rowAt (c .table) i)) (baseOf (wordAt cells tags at .cell)) ≡ false)
-    → Memory (core (c .pages) u 0 (c .claims)) cells tags
+    → Memory (unswept c (c .pages) u) cells tags
 keep-ended c cells tags u i h now m gone alive =
     record {
       confined = λ v.

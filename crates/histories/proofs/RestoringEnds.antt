@@ -30,8 +30,8 @@ use Rattle.table.proofs.Kept.{cut-one, row-live}
 use Rattle.table.proofs.Sound.{sound}
 use Rattle.table.proofs.Tiled.{revokings-append, revokings-first}
 use Rattle.sweep.specs.Sweep.{passed}
-use Rattle.reservations.specs.Core.{Core}
-use Rattle.reservations.specs.Revocation.{core, running, wholePages, revokeReasons, revokeReasonsAt, revokeOf, revokingRow, collectReasons, collectedRow, collectOf, coreSound, revokingTaker}
+use Rattle.reservations.specs.Core.{Core, withPlace}
+use Rattle.reservations.specs.Revocation.{running, wholePages, revokeReasons, revokeReasonsAt, revokeOf, revokingRow, collectReasons, collectedRow, collectOf, coreSound, revokingTaker}
 use Rattle.reservations.proofs.CoreAfter.{revoke-after}
 use Rattle.reservations.proofs.CoreKept.{core-facts}
 use Rattle.calls.specs.declared.Call.the-variants.{Revoke, Sweep, Collect}
@@ -74,7 +74,7 @@ collect-free : (c : Core) (mail : List Slot) (r : Reads) → running c ≡ true 
 unfolding reasons first collectReasons
 collect-free c mail r e over = rw (e, le-leb (16 * c .pages .f) (c .place) over)
 
-same-running : (c : Core) (place : ℕ) → running (core (c .pages) (c .table) place (c .claims)) ≡ running c
+same-running : (c : Core) (place : ℕ) → running (withPlace c place) ≡ running c
 unfolding running
 same-running c place = refl
 
@@ -91,7 +91,7 @@ module _ (m : Machine) (v f : ℕ) (k : Standing m v f) (e : running (m .state .
   n₁ = next m (Sweep 0 cells)
 
   abbrev c₁ : Core
-  c₁ = core (c .pages) (c .table) (16 * c .pages .f) (c .claims)
+  c₁ = withPlace c (16 * c .pages .f)
 
   sweep-goes : Granted m (Sweep 0 cells)
   sweep-goes = standing-code m v f (Sweep 0 cells) k ∙ sweep-free c (m .state .mailboxes) _ cells e
@@ -100,7 +100,7 @@ module _ (m : Machine) (v f : ℕ) (k : Standing m v f) (e : running (m .state .
   unfolding effect done
   swept-core =
       ap (λ n. n .state .core) (went-next m (Sweep 0 cells) (went m (Sweep 0 cells) sweep-goes))
-      ∙ ap (λ place. core (c .pages) (c .table) place (c .claims)) (all-swept c cells (standing-facts m v f k .place) (omega (arith, k .of-f)))
+      ∙ ap (λ place. withPlace c place) (all-swept c cells (standing-facts m v f k .place) (omega (arith, k .of-f)))
 
   collect-goes : Granted n₁ (Collect 0)
   collect-goes =

@@ -19,8 +19,8 @@ use Rattle.pages.specs.Mapping.{noPage, mapReasons, mapOf, unmapReasons, unmapO
 use Rattle.table.specs.Operations.{takeReasons, splitReasons, splitOf, mergeReasons, mergeOf, giveReasons, giveOf}
 use Rattle.claims.specs.Claims.{Claims, claimed}
 use Rattle.claims.specs.Operations.{createReasons, createOf, claimReasons, claimOf, releaseReasons, releaseOf, destroyReasons, destroyOf}
-use Rattle.reservations.specs.Core.{Core}
-use Rattle.reservations.specs.Revocation.{core, running, revoked, revokeReasons, revokeOf, collectReasons, collectOf}
+use Rattle.reservations.specs.Core.{Core, withPlace}
+use Rattle.reservations.specs.Revocation.{running, revoked, revokeReasons, revokeOf, collectReasons, collectOf}
 use Rattle.sweep.specs.Sweep.{cellsLeft}
 use Rattle.calls.specs.declared.Call.{Call}
 use Rattle.calls.specs.declared.Call.the-variants.{Take, Split, Merge, Give, Revoke, Sweep, Collect, Map, Unmap, Zero, Load, Store, Narrow, Number, Grant, Receive, TakeMasked, Create, Claim, Release, Destroy}
@@ -41,7 +41,7 @@ coreAlone k = effectOf k keepRegisters keepMailboxes keepMemory empty
 -- 06, 07, 0A.
 abbrev pub sweeping : Core → ℕ → Effect
 sweeping c n =
-    effectOf (core (c .pages) (c .table) (sweptTo c n) (c .claims)) keepRegisters keepMailboxes (sweepCells (revoked c) (c .place) (sweptTo c n))
+    effectOf (withPlace c (sweptTo c n)) keepRegisters keepMailboxes (sweepCells (revoked c) (c .place) (sweptTo c n))
     (slot (cellsLeft (c .pages) (sweptTo c n)) false)
 
 abbrev pub collecting : Core → Effect

@@ -21,8 +21,8 @@ use Rattle.table.proofs.Truth.{both}
 use Rattle.table.proofs.Forgetting.{pick-like, granted-like, table-twice, take-reasons, take-length, take-forgets, split-reasons, split-forgets, merge-reasons, merge-forgets, give-reasons, give-forgets}
 use Rattle.claims.specs.Claims.{Claims}
 use Rattle.claims.specs.Sound.{claimsSound}
-use Rattle.reservations.specs.Core.{Core}
-use Rattle.reservations.specs.Revocation.{core, forgetCore, freshCore, coreSound}
+use Rattle.reservations.specs.Core.{Core, core, withTable, withPlace}
+use Rattle.reservations.specs.Revocation.{forgetCore, freshCore, coreSound}
 use Rattle.reservations.proofs.Forgetting.{core-twice, running-forgets, revoked-forgets, dying-forgets, revoke-reasons, revoke-forgets, collect-reasons, collect-forgets, core-forgets}
 use Rattle.calls.specs.declared.Call.{Call}
 use Rattle.calls.specs.declared.Call.the-variants.{Take, Split, Merge, Give, Revoke, Sweep, Collect, Map, Unmap, Zero, Load, Store, Narrow, Number, Grant, Receive, TakeMasked, Create, Claim, Release, Destroy}
@@ -78,7 +78,7 @@ module _ (c : Core) (mail : List Slot) (r : Reads) where
   taking-forgets : (p base reg permissions : ℕ) → forgetEffect (taking (forgetCore c) p base reg permissions) ≡ forgetEffect (taking c p base reg permissions)
   taking-forgets p base reg permissions =
       like (tabled (take-forgets (c .table) p base))
-      ∙ ap (λ n. forgetEffect (effectOf (core (c .pages) (takeOf (c .table) p base .table) (c .place) (c .claims)) (putRegister p reg (slot (capability base n permissions) true)) keepMailboxes keepMemory (slot n false)))
+      ∙ ap (λ n. forgetEffect (effectOf (withTable c (takeOf (c .table) p base .table)) (putRegister p reg (slot (capability base n permissions) true)) keepMailboxes keepMemory (slot n false)))
       (take-length (c .table) p base)
 
   -- A call has the same effect, but for the takers that it leaves.
@@ -92,7 +92,7 @@ module _ (c : Core) (mail : List Slot) (r : Reads) where
   effect-forgets (Revoke p base) = like (revoke-forgets c p base)
   effect-forgets (Sweep p n) =
       like (tabled (table-twice (c .table)))
-      ∙ ap (λ x. forgetEffect (effectOf (core (c .pages) (c .table) (sweptTo c n) (c .claims)) keepRegisters keepMailboxes (sweepCells x (c .place) (sweptTo c n)) (slot (cellsLeft (c .pages) (sweptTo c n)) false)))
+      ∙ ap (λ x. forgetEffect (effectOf (withPlace c (sweptTo c n)) keepRegisters keepMailboxes (sweepCells x (c .place) (sweptTo c n)) (slot (cellsLeft (c .pages) (sweptTo c n)) false)))
       (revoked-forgets c)
   effect-forgets (Collect p) = like (collect-forgets c)
   effect-forgets (Map p page frame) = like (tabled (table-twice (c .table)))
@@ -218,7 +218,7 @@ agree-none : (s : State) → s .core .table ≡ noRows → Agree s
 unfolding wellFormed live takersSound
 agree-none s e =
     ap (λ t. formedBare s && takersSound (live t)) e ∙ and-true (formedBare s)
-    ∙ ap (λ t. formedBare (record { core = core (s .core .pages) t (s .core .place) (s .core .claims); registers = s .registers; mailboxes = s .mailboxes })) (e ∙ sym (ap forgetTable e))
+    ∙ ap (λ t. formedBare (record { core = withTable (s .core) t; registers = s .registers; mailboxes = s .mailboxes })) (e ∙ sym (ap forgetTable e))
 
 pub agree-start : (v f : ℕ) → Agree (startOf v f .state)
 unfolding startOf fresh freshCore freshTable

@@ -16,8 +16,9 @@ use Rattle.table.specs.Table.{Table}
 use Rattle.table.specs.Operations.{takeOf, splitOf, mergeOf, giveOf}
 use Rattle.claims.specs.Claims.{Claims, claimed}
 use Rattle.claims.specs.Operations.{createOf, claimOf, releaseOf, destroyOf}
-use Rattle.reservations.specs.Core.{Core}
-use Rattle.reservations.specs.Revocation.{core, revoked, revokeOf, collectOf}
+use Rattle.reservations.specs.Core.{Core, withPlace}
+pub use Rattle.reservations.specs.Core.{withTable, withPages, withClaims}
+use Rattle.reservations.specs.Revocation.{revoked, revokeOf, collectOf}
 use Rattle.calls.specs.declared.Call.{Call}
 use Rattle.calls.specs.declared.Call.the-variants.{Take, Split, Merge, Give, Revoke, Sweep, Collect, Map, Unmap, Zero, Load, Store, Narrow, Number, Grant, Receive, TakeMasked, Create, Claim, Release, Destroy}
 use Rattle.words.specs.declared.Slot.{Slot}
@@ -64,15 +65,6 @@ pub record Effect : Type 0 where
 abbrev pub effectOf : Core → RegisterChange → MailboxChange → MemoryChange → Slot → Effect
 effectOf c r m l w = record { core = c; registers = r; mailboxes = m; memory = l; answer = w }
 
-abbrev pub withTable : Core → Table → Core
-withTable c t = core (c .pages) t (c .place) (c .claims)
-
-abbrev pub withPages : Core → Pages → Core
-withPages c p = core p (c .table) (c .place) (c .claims)
-
-abbrev pub withClaims : Core → Claims → Core
-withClaims c x = core (c .pages) (c .table) (c .place) x
-
 -- "An answer is a code, a number and a tag .. number and tag are 0 where nothing above names them."
 abbrev pub tableChange : Core → Table → Effect
 tableChange c t = effectOf (withTable c t) keepRegisters keepMailboxes keepMemory empty
@@ -106,7 +98,7 @@ effect c mail r (Give p base to) = tableChange c (giveOf (c .table) p base to .t
 effect c mail r (Revoke p base) = effectOf (revokeOf c p base .core) keepRegisters keepMailboxes keepMemory empty
 -- 06 sweep: "Passes the next n cells of lent memory .. Answers the cells left."
 effect c mail r (Sweep p n) =
-    effectOf (core (c .pages) (c .table) (sweptTo c n) (c .claims)) keepRegisters keepMailboxes (sweepCells (revoked c) (c .place) (sweptTo c n))
+    effectOf (withPlace c (sweptTo c n)) keepRegisters keepMailboxes (sweepCells (revoked c) (c .place) (sweptTo c n))
     (slot (cellsLeft (c .pages) (sweptTo c n)) false)
 -- 07 collect: "Clears, in all registers and mailboxes, the tag of capabilities with base in the range."
 effect c mail r (Collect p) = effectOf (collectOf c .core) collectRegisters collectMailboxes keepMemory empty

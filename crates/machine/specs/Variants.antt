@@ -17,8 +17,8 @@ use Rattle.sweep.specs.Sweep.{Passed}
 use Rattle.table.specs.Table.{Table, Tabled}
 use Rattle.table.specs.Table.{Taken as Took}
 use Rattle.claims.specs.Claims.{Claims, claimed}
-use Rattle.reservations.specs.Core.{Core, Cored}
-use Rattle.reservations.specs.Revocation.{core, revoked}
+use Rattle.reservations.specs.Core.{Core, Cored, withPlace}
+use Rattle.reservations.specs.Revocation.{revoked}
 use Rattle.calls.specs.declared.Call.{Call}
 use Rattle.calls.specs.Commands.{page, operandsOf}
 use Rattle.calls.specs.Commands.{byteOf as kindOf}
@@ -54,7 +54,7 @@ sweepBy sweep =
     instead 0x06
     (λ s c cells tags o.
     let p = sweep (s .core .pages) (revoked (s .core)) (s .core .place) (operand c 1) cells tags in
-    let after = withCore s (core (s .core .pages) (s .core .table) (p .answer .place) (s .core .claims)) in
+    let after = withCore s (withPlace (s .core) (p .answer .place)) in
     left (answered (p .answer .code) (slot (p .answer .left) false) after) cells (p .tags))
 
 unfoldable pub takeBy : (Table → ℕ → ℕ → Took) → Rule

@@ -29,8 +29,8 @@ use Rattle.table.specs.Operations.{tabled, takeOf, splitOf, mergeOf}
 use Rattle.table.specs.Numbers.{numbersOf as rowNumbers}
 use Rattle.claims.specs.Claims.{claimed, withUnspent}
 use Rattle.claims.specs.Operations.{createOf, claimReasons, withCount, claimOf, releaseOf, destroyReasons, destroyOf}
-use Rattle.reservations.specs.Core.{Core, Cored}
-use Rattle.reservations.specs.Revocation.{core, running, dying, revokeOf, collectOf}
+use Rattle.reservations.specs.Core.{Core, Cored, withTable}
+use Rattle.reservations.specs.Revocation.{running, dying, revokeOf, collectOf}
 use Rattle.calls.specs.declared.Call.{Call}
 use Rattle.calls.specs.declared.Call.the-variants.{Take, Split, Merge, Give, Revoke, Sweep, Collect, Map, Unmap, Zero, Load, Store, Number, Grant, TakeMasked, Create, Claim, Release, Destroy}
 use Rattle.calls.specs.Commands.{page, frame}
@@ -121,7 +121,7 @@ joinsOwn t party base =
 -- A revoke and a collect that leave the taker as it was: 9 in the one that was Open, the party's in the one that is.
 abbrev pub leavesIn : Core → Found → Cored → Cored
 leavesIn c f r =
-    record { code = r .code; core = core (r .core .pages) (withTaker (r .core .table) f (rowOf (c .table) f .taker)) (r .core .place) (r .core .claims) }
+    record { code = r .code; core = withTable (r .core) (withTaker (r .core .table) f (rowOf (c .table) f .taker)) }
 
 unfoldable pub revokesForNobody : Core → ℕ → ℕ → Cored
 revokesForNobody c party base = leavesIn c (findOf (c .table) party base) (revokeOf c party base)

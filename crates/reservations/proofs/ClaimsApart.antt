@@ -2,12 +2,12 @@
 use Prim.Native.Nat.{ℕ}
 use mathlib.Core.Path.{_≡_, refl}
 use Rattle.claims.specs.Claims.{Claims}
-use Rattle.reservations.specs.Core.{Core}
-use Rattle.reservations.specs.Revocation.{core, running, revoked, dying, revocationSound, coreSound}
+use Rattle.reservations.specs.Core.{Core, withClaims}
+use Rattle.reservations.specs.Revocation.{running, revoked, dying, revocationSound, coreSound}
 
 module _ (c : Core) (x : Claims) where
   abbrev other : Core
-  other = core (c .pages) (c .table) (c .place) x
+  other = withClaims c x
 
   pub running-apart : running other ≡ running c
   unfolding running

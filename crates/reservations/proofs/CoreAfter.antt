@@ -26,7 +26,7 @@ use Rattle.table.proofs.Cells.{inside-bounds, none-lost}
 use Rattle.table.proofs.Unrevoked.{with-live}
 use Rattle.table.proofs.After.{Replaced}
 use Rattle.reservations.specs.Core.{Core}
-use Rattle.reservations.specs.Revocation.{core, running, revoked, dying, revokeReasonsAt, revokeReasons, revokingRow, revokeAt, revokeOf, collectReasons, collectedRow, collected, collectOf, coreSound}
+use Rattle.reservations.specs.Revocation.{running, revoked, dying, revokeReasonsAt, revokeReasons, revokingRow, revokeAt, revokeOf, collectReasons, collectedRow, collected, collectOf, coreSound}
 use Rattle.reservations.proofs.CoreKept.{core-facts}
 use Rattle.reservations.proofs.Revocations.{Revokes, revoke-clear, collect-clear, collected-at, core-revoke, core-collect}
 

@@ -23,8 +23,8 @@ use Rattle.table.proofs.Truth.{both}
 use Rattle.table.proofs.Dying.{dyings, none, firstOf, revoking-row, revoking-none}
 use Rattle.table.proofs.Sound.{sound}
 use Rattle.table.proofs.Kept.{take-kept, give-kept, split-kept, merge-kept}
-use Rattle.reservations.specs.Core.{Core}
-use Rattle.reservations.specs.Revocation.{core, running, revoked, wholePages, revocationSound, coreSound}
+use Rattle.reservations.specs.Core.{Core, withTable}
+use Rattle.reservations.specs.Revocation.{running, revoked, wholePages, revocationSound, coreSound}
 
 -- A well-formed core as plain facts.
 pub record CoreFacts (c : Core) : Type 0 where
@@ -66,38 +66,38 @@ dying-sound c =
     ∙ ap (λ r. pick (not (none (dyings (live (c .table))))) (wholePages r && allFreed (c .pages) (rangeOf r)) (eqb (c .place) 0)) (revoking-row (c .table))
 
 -- The revoked range is said by the Revoking reservations alone.
-pub revoked-kept : (c : Core) (t : Table) → dyings (live t) ≡ dyings (live (c .table)) → revoked (core (c .pages) t (c .place) (c .claims)) ≡ revoked c
+pub revoked-kept : (c : Core) (t : Table) → dyings (live t) ≡ dyings (live (c .table)) → revoked (withTable c t) ≡ revoked c
 unfolding revoked
 revoked-kept c t same = ap rangeOf (revoking-row t ∙ ap firstOf same ∙ sym (revoking-row (c .table)))
 
 -- A table with the same Revoking reservations may stand in place of the old one.
-pub table-kept : (c : Core) (t : Table) → coreSound c ≡ true → tableSound (16 * c .pages .v) t ≡ true → dyings (live t) ≡ dyings (live (c .table)) → coreSound (core (c .pages) t (c .place) (c .claims)) ≡ true
+pub table-kept : (c : Core) (t : Table) → coreSound c ≡ true → tableSound (16 * c .pages .v) t ≡ true → dyings (live t) ≡ dyings (live (c .table)) → coreSound (withTable c t) ≡ true
 table-kept c t ok rows same =
     let f = core-facts c ok in
-    core-made (core (c .pages) t (c .place) (c .claims)) (f .layer) rows (f .place)
-    (dying-sound (core (c .pages) t (c .place) (c .claims)) ∙ ap (dyingSound (c .pages) (c .place)) same ∙ sym (dying-sound c) ∙ f .revocation)
+    core-made (withTable c t) (f .layer) rows (f .place)
+    (dying-sound (withTable c t) ∙ ap (dyingSound (c .pages) (c .place)) same ∙ sym (dying-sound c) ∙ f .revocation)
 
 -- 01 to 04 keep the core well formed, granted or refused.
 module _ (c : Core) (ok : coreSound c ≡ true) where
   abbrev facts : CoreFacts c
   facts = core-facts c ok
 
-  pub core-take : (party base : ℕ) → coreSound (core (c .pages) (takeOf (c .table) party base .table) (c .place) (c .claims)) ≡ true
+  pub core-take : (party base : ℕ) → coreSound (withTable c (takeOf (c .table) party base .table)) ≡ true
   core-take party base =
       table-kept c (takeOf (c .table) party base .table) ok (take-kept (16 * c .pages .v) (c .table) (facts .rows) party base)
       (take-still (16 * c .pages .v) (c .table) (facts .rows) party base)
 
-  pub core-give : (party base to : ℕ) → to ≤ 7 → coreSound (core (c .pages) (giveOf (c .table) party base to .table) (c .place) (c .claims)) ≡ true
+  pub core-give : (party base to : ℕ) → to ≤ 7 → coreSound (withTable c (giveOf (c .table) party base to .table)) ≡ true
   core-give party base to h =
       table-kept c (giveOf (c .table) party base to .table) ok (give-kept (16 * c .pages .v) (c .table) (facts .rows) party base to h)
       (give-still (16 * c .pages .v) (c .table) (facts .rows) party base to)
 
-  pub core-split : (party base len : ℕ) → coreSound (core (c .pages) (splitOf (c .table) party base len .table) (c .place) (c .claims)) ≡ true
+  pub core-split : (party base len : ℕ) → coreSound (withTable c (splitOf (c .table) party base len .table)) ≡ true
   core-split party base len =
       table-kept c (splitOf (c .table) party base len .table) ok (split-kept (16 * c .pages .v) (c .table) (facts .rows) (facts .fits) party base len)
       (split-still (16 * c .pages .v) (c .table) (facts .rows) party base len)
 
-  pub core-merge : (party base : ℕ) → coreSound (core (c .pages) (mergeOf (c .table) party base .table) (c .place) (c .claims)) ≡ true
+  pub core-merge : (party base : ℕ) → coreSound (withTable c (mergeOf (c .table) party base .table)) ≡ true
   core-merge party base =
       table-kept c (mergeOf (c .table) party base .table) ok (merge-kept (16 * c .pages .v) (c .table) (facts .rows) (facts .fits) party base)
       (merge-still (16 * c .pages .v) (c .table) (facts .rows) party base)

@@ -13,14 +13,14 @@ use Rattle.pages.specs.Freed.{allFreed}
 use Rattle.pages.specs.Mapping.{anyMapped, freedOf, releasedOf}
 use Rattle.table.specs.Rows.{isRevoking, rangeOf, forgetTable}
 use Rattle.table.specs.Find.{missing, findOf, revokingOf, rowOf, withRow}
-use Rattle.reservations.specs.Core.{Core}
-use Rattle.reservations.specs.Revocation.{core, forgetCore, running, revoked, dying, wholePages, revokeReasonsAt, revokeReasons, revokingRow, revokeAt, revokeOf, collectReasons, collectedRow, collected, collectOf, revocationSound, coreSound}
+use Rattle.reservations.specs.Core.{Core, withTable, unswept}
+use Rattle.reservations.specs.Revocation.{forgetCore, running, revoked, dying, wholePages, revokeReasonsAt, revokeReasons, revokingRow, revokeAt, revokeOf, collectReasons, collectedRow, collected, collectOf, revocationSound, coreSound}
 use Rattle.reservations.proofs.CoreKept.{core-facts, core-made}
 use Rattle.table.proofs.Forgetting.{granted-like, table-twice, find-forgets, revoking-forgets, row-forgets, put-by, sound-forgets}
 
 module _ (c : Core) where
   pub core-twice : forgetCore (forgetCore c) ≡ forgetCore c
-  core-twice = ap (λ t. core (c .pages) t (c .place) (c .claims)) (table-twice (c .table))
+  core-twice = ap (λ t. withTable c t) (table-twice (c .table))
 
   pub running-forgets : running (forgetCore c) ≡ running c
   unfolding running
@@ -49,10 +49,10 @@ module _ (c : Core) where
       let t = c .table in
       let f = findOf t party base in
       granted-like forgetCore (revoke-reasons party base)
-      (ap (λ u. core (freedOf (c .pages) (rangeOf (rowOf (forgetTable t) (findOf (forgetTable t) party base)))) u 0 (c .claims))
+      (ap (λ u. unswept c (freedOf (c .pages) (rangeOf (rowOf (forgetTable t) (findOf (forgetTable t) party base)))) u)
       (put-by t revokingRow (λ r. refl) (findOf (forgetTable t) party base) f (find-forgets t party base))
-      ∙ ap (λ x. core (freedOf (c .pages) (rangeOf (rowOf (forgetTable t) x))) (forgetTable (withRow t f (revokingRow (rowOf t f)))) 0 (c .claims)) (find-forgets t party base)
-      ∙ ap (λ r. core (freedOf (c .pages) (rangeOf r)) (forgetTable (withRow t f (revokingRow (rowOf t f)))) 0 (c .claims)) (row-forgets t f))
+      ∙ ap (λ x. unswept c (freedOf (c .pages) (rangeOf (rowOf (forgetTable t) x))) (forgetTable (withRow t f (revokingRow (rowOf t f))))) (find-forgets t party base)
+      ∙ ap (λ r. unswept c (freedOf (c .pages) (rangeOf r)) (forgetTable (withRow t f (revokingRow (rowOf t f))))) (row-forgets t f))
       core-twice
 
   pub collect-reasons : collectReasons (forgetCore c) ≡ collectReasons c
@@ -64,8 +64,8 @@ module _ (c : Core) where
   collect-forgets =
       let t = c .table in
       granted-like forgetCore collect-reasons
-      (ap (λ u. core (releasedOf (c .pages) (revoked (forgetCore c))) u 0 (c .claims)) (put-by t collectedRow (λ r. refl) (revokingOf (forgetTable t)) (revokingOf t) (revoking-forgets t))
-      ∙ ap (λ r. core (releasedOf (c .pages) r) (forgetTable (withRow t (revokingOf t) (collectedRow (rowOf t (revokingOf t))))) 0 (c .claims)) revoked-forgets)
+      (ap (λ u. unswept c (releasedOf (c .pages) (revoked (forgetCore c))) u) (put-by t collectedRow (λ r. refl) (revokingOf (forgetTable t)) (revokingOf t) (revoking-forgets t))
+      ∙ ap (λ r. unswept c (releasedOf (c .pages) r) (forgetTable (withRow t (revokingOf t) (collectedRow (rowOf t (revokingOf t)))))) revoked-forgets)
       core-twice
 
   revocation-forgets : revocationSound (forgetCore c) ≡ revocationSound c

@@ -30,8 +30,8 @@ use Rattle.table.proofs.Tiled.{row-some, tiled-row, tiled-fits, revokings-appen
 use Rattle.table.proofs.Sound.{sound}
 use Rattle.table.proofs.Kept.{cut-one, row-live, row-kept}
 use Rattle.table.proofs.Unrevoked.{after-dyings}
-use Rattle.reservations.specs.Core.{Core}
-use Rattle.reservations.specs.Revocation.{core, running, revoked, wholePages, revokeReasonsAt, revokeReasons, revokingRow, revokeAt, revokeOf}
+use Rattle.reservations.specs.Core.{Core, withPlace, unswept}
+use Rattle.reservations.specs.Revocation.{running, revoked, wholePages, revokeReasonsAt, revokeReasons, revokingRow, revokeAt, revokeOf}
 use Rattle.reservations.specs.Revocation.{collectReasons, collectedRow, collected, collectOf, revocationSound, coreSound}
 use Rattle.reservations.proofs.CoreKept.{CoreFacts, core-facts, core-made, dyingSound, dying-sound}
 
@@ -87,9 +87,9 @@ freed-while c facts run =
     and-right (wholePages r) (allFreed (c .pages) (revoked c))
     (sym (pick-yes (running c) (wholePages r && allFreed (c .pages) (revoked c)) (eqb (c .place) 0) run) ∙ (unfold revocationSound in facts .revocation))
 
-pub collected-at : (c : Core) (f : Found) → revokingOf (c .table) ≡ f → collected c ≡ core (releasedOf (c .pages) (revoked c)) (withRow (c .table) f (collectedRow (rowOf (c .table) f))) 0 (c .claims)
+pub collected-at : (c : Core) (f : Found) → revokingOf (c .table) ≡ f → collected c ≡ unswept c (releasedOf (c .pages) (revoked c)) (withRow (c .table) f (collectedRow (rowOf (c .table) f)))
 unfolding collected
-collected-at c f e = ap (λ f. core (releasedOf (c .pages) (revoked c)) (withRow (c .table) f (collectedRow (rowOf (c .table) f))) 0 (c .claims)) e
+collected-at c f e = ap (λ f. unswept c (releasedOf (c .pages) (revoked c)) (withRow (c .table) f (collectedRow (rowOf (c .table) f)))) e
 
 -- What a granted collect has found: a revocation runs, and no cell is left.
 pub collect-clear : (c : Core) → first (collectReasons c) ≡ 0 → (not (running c) ≡ false) × (16 * c .pages .f ≤ c .place)
@@ -135,7 +135,7 @@ module _ (c : Core) (ok : coreSound c ≡ true) where
       let sound-n = zero-row (getD l i blank) n (tiled-row cells l 0 i (s .tiled) h) (ap (λ x. x .length) row) refl in
       let zero = none-revoking c (k .free) in
       let rows = row-kept cells t s i n h (ap (λ x. x .base) row) (ap (λ x. x .length) row) sound-n (omega arith) in
-      let x = core (freedOf (c .pages) (rangeOf r)) (withRow t (At i) n) 0 (c .claims) in
+      let x = unswept c (freedOf (c .pages) (rangeOf r)) (withRow t (At i) n) in
       core-made x (freed-keeps (c .pages) (rangeOf r) fit (facts .layer)) rows (omega arith)
       (dying-sound x ∙ ap (dyingSound (x .pages) 0) (revoking-dies i h (k .free)) ∙ (unfold dyingSound in both (wholePages r) (allFreed (freedOf (c .pages) (rangeOf r)) (rangeOf r)) (k .whole) (freed-all (c .pages) (rangeOf r) (k .unmapped))))
   revoke-at-kept party base Nowhere e k = absurd (true≢false (k .found))
@@ -179,7 +179,7 @@ module _ (c : Core) (ok : coreSound c ≡ true) where
       let rows = row-kept cells t s i n h (ap (λ x. x .base) row) (ap (λ x. x .length) row) sound-n (omega (arith, s .single)) in
       let range = revoked c in
       let freed : allFreed (c .pages) range ≡ true = freed-while c facts run in
-      let x = core (releasedOf (c .pages) range) (withRow t (At i) n) 0 (c .claims) in
+      let x = unswept c (releasedOf (c .pages) range) (withRow t (At i) n) in
       let now : dyings (live (withRow t (At i) n)) ≡ [] =
       after-dyings cells t s i h n ∙ ap (λ d. d ++ dyings (n ∷ q)) (silent (take i l) (omega (arith, s .single)))
       ∙ dyings-not n q refl ∙ silent q (omega (arith, s .single)) in
@@ -199,14 +199,14 @@ module _ (c : Core) (ok : coreSound c ≡ true) where
   sweep-place : (n place : ℕ) → place ≤ 16 * c .pages .f → place + min n (16 * c .pages .f - place) ≤ 16 * c .pages .f
   sweep-place n place h = omega arith
 
-  moved-kept : (place : ℕ) → place ≤ 16 * c .pages .f → running c ≡ true → coreSound (core (c .pages) (c .table) place (c .claims)) ≡ true
+  moved-kept : (place : ℕ) → place ≤ 16 * c .pages .f → running c ≡ true → coreSound (withPlace c place) ≡ true
   moved-kept place h run =
       let facts = core-facts c ok in
-      let x = core (c .pages) (c .table) place (c .claims) in
+      let x = withPlace c place in
       core-made x (facts .layer) (facts .rows) h
       (dying-sound x
       ∙ any-place (c .pages) place (c .place) (dyings (live (c .table))) (sym (revoking-none (c .table)) ∙ not-true (missing (revokingOf (c .table))) (unfold running in run))
       ∙ sym (dying-sound c) ∙ facts .revocation)
 
-  pub core-sweep : (n : ℕ) → running c ≡ true → coreSound (core (c .pages) (c .table) (reached (c .pages) (c .place) n) (c .claims)) ≡ true
+  pub core-sweep : (n : ℕ) → running c ≡ true → coreSound (withPlace c (reached (c .pages) (c .place) n)) ≡ true
   core-sweep n run = moved-kept (reached (c .pages) (c .place) n) (unfold passed in sweep-place n (c .place) (core-facts c ok .place)) run

@@ -8,27 +8,21 @@ use Rattle.capabilities.specs.Capability.{baseOf}
 use Rattle.capabilities.specs.Lists.{pick}
 use Rattle.capabilities.specs.Range.{inside}
 use Rattle.capabilities.specs.Refusals.{Reason, reason, first}
-use Rattle.pages.specs.Pages.{Pages}
 use Rattle.pages.specs.Freed.{allFreed}
 use Rattle.pages.specs.Layer.{wellFormed, inRange, freshOf}
 use Rattle.pages.specs.Mapping.{anyMapped, freedOf, releasedOf}
 use Rattle.table.specs.declared.Reservation.{Reservation}
 use Rattle.table.specs.declared.ReservationState.the-variants.{Open, Revoking}
-use Rattle.table.specs.Table.{Table}
 use Rattle.table.specs.declared.Found.{Found}
 use Rattle.table.specs.Rows.{isOpen, isRevoking, noTaker, reservation, rangeOf, forgetTable}
 use Rattle.table.specs.Find.{missing, findOf, revokingOf, rowOf, withRow}
 use Rattle.table.specs.Tiling.{tableSound, freshTable}
-use Rattle.claims.specs.Claims.{Claims}
 use Rattle.claims.specs.Sound.{freshClaims}
-use Rattle.reservations.specs.Core.{Core, Cored}
-
-abbrev pub core : Pages → Table → ℕ → Claims → Core
-core pages table place claims = record { pages = pages; table = table; place = place; claims = claims }
+use Rattle.reservations.specs.Core.{Core, Cored, core, withTable, unswept}
 
 -- A core without takers.
 abbrev pub forgetCore : Core → Core
-forgetCore c = core (c .pages) (forgetTable (c .table)) (c .place) (c .claims)
+forgetCore c = withTable c (forgetTable (c .table))
 
 -- "A fresh start, given V and F, has one Open reservation held by party 0", and principal 0 alone; all is 0 for V or F out of range.
 unfoldable pub freshCore : ℕ → ℕ → Core
@@ -76,7 +70,7 @@ revokingRow r = reservation (r .base) (r .length) Revoking 0 (revokingTaker r)
 unfoldable pub revokeAt : Core → Found → Core
 revokeAt c f =
     let r = rowOf (c .table) f in
-    core (freedOf (c .pages) (rangeOf r)) (withRow (c .table) f (revokingRow r)) 0 (c .claims)
+    unswept c (freedOf (c .pages) (rangeOf r)) (withRow (c .table) f (revokingRow r))
 
 unfoldable pub revokeOf : Core → ℕ → ℕ → Cored
 revokeOf c party base = cored (first (revokeReasons c party base)) c (revokeAt c (findOf (c .table) party base))
@@ -92,7 +86,7 @@ collectedRow r = reservation (r .base) (r .length) Open 0 noTaker
 unfoldable pub collected : Core → Core
 collected c =
     let f = revokingOf (c .table) in
-    core (releasedOf (c .pages) (revoked c)) (withRow (c .table) f (collectedRow (rowOf (c .table) f))) 0 (c .claims)
+    unswept c (releasedOf (c .pages) (revoked c)) (withRow (c .table) f (collectedRow (rowOf (c .table) f)))
 
 unfoldable pub collectOf : Core → Cored
 collectOf c = cored (first (collectReasons c)) c (collected c)

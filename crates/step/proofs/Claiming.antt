@@ -17,7 +17,7 @@ use Rattle.claims.specs.Numbers.{claimsIn, laid, sizedIn, soundIn}
 use Rattle.claims.specs.Numbers.{numbersOf as claimNumbers}
 use Rattle.claims.specs.Lent.{countIn, createdIn, claimedIn, releasedIn, destroyedIn, clearedIn, anyCounts}
 use Rattle.claims.proofs.OnNumbers.{create-put, create-laid, claim-put, claim-laid, release-put, release-laid, destroy-put, destroy-laid, claimed-in}
-use Rattle.reservations.specs.Revocation.{core}
+use Rattle.reservations.specs.Core.{withClaims as coreClaims}
 use Rattle.calls.specs.declared.Call.{Call}
 use Rattle.calls.specs.declared.Call.the-variants.{Create, Claim, Release, Destroy}
 use Rattle.words.specs.Words.{empty}
@@ -59,7 +59,7 @@ module _ (b : Arrays) (f : Formed b) where
               ap (λ (n : List ℕ). leaving (answer k empty) (withClaims b n counts) cells tags) (u ∙ pick-yes (eqb k 0) put (b .principals) q ∙ sym (p z))
               ∙ ap (λ (n : List ℕ). leaving (answer k empty) (withClaims b (claimNumbers y) n) cells tags) (w ∙ pick-yes (eqb k 0) cleared (b .counts) q ∙ sym (l z))
               ∙ ap (λ (n : ℕ). leaving (answer n empty) (withClaims b (claimNumbers y) (laid (y .counts))) cells tags) z
-              ∙ cored b f call cells tags k e (core (stateOf b .core .pages) (stateOf b .core .table) (stateOf b .core .place) y) _ z g (put-claims b (f .kept) y)
+              ∙ cored b f call cells tags k e (coreClaims (stateOf b .core) y) _ z g (put-claims b (f .kept) y)
           go false q =
               ap (λ (n : List ℕ). leaving (answer k empty) (withClaims b n counts) cells tags) (u ∙ pick-no (eqb k 0) put (b .principals) q)
               ∙ ap (λ (n : List ℕ). leaving (answer k empty) (withClaims b (b .principals) n) cells tags) (w ∙ pick-no (eqb k 0) cleared (b .counts) q)

@@ -32,7 +32,7 @@ use Rattle.table.proofs.Unrevoked.{after-dyings, before-dyings}
 use Rattle.table.specs.Numbers.{rowFrom, rowCode, tableOf}
 use Rattle.table.specs.Lent.{putAt}
 use Rattle.reservations.specs.Core.{Core}
-use Rattle.reservations.specs.Revocation.{core, running, revoked, dying, wholePages, collectReasons, collectedRow, collected, collectOf, revocationSound}
+use Rattle.reservations.specs.Revocation.{running, revoked, dying, wholePages, collectReasons, collectedRow, collected, collectOf, revocationSound}
 use Rattle.reservations.proofs.CoreKept.{CoreFacts, core-facts}
 use Rattle.reservations.proofs.Revocations.{collected-at, collect-clear}
 use Rattle.calls.specs.declared.Call.the-variants.{Collect}

@@ -25,8 +25,7 @@ use Rattle.pages.proofs.Reading.{page-read}
 use Rattle.pages.proofs.OnNumbers.{unmap-put, zero-reasons}
 use Rattle.claims.specs.Claims.{claimed}
 use Rattle.claims.specs.Lent.{anyCounts}
-use Rattle.reservations.specs.Core.{Core}
-use Rattle.reservations.specs.Revocation.{core}
+use Rattle.reservations.specs.Core.{Core, withPages as corePages}
 use Rattle.calls.specs.declared.Call.{Call}
 use Rattle.calls.specs.declared.Call.the-variants.{Map, Unmap, Zero}
 use Rattle.words.specs.Words.{empty}
@@ -52,7 +51,7 @@ module _ (b : Arrays) (f : Formed b) (p early : ℕ) (ee : early ≡ pick (unnam
   s = stateOf b .core .pages
 
   abbrev with-layer : Pages → Core
-  with-layer n = core n (stateOf b .core .table) (stateOf b .core .place) (stateOf b .core .claims)
+  with-layer n = corePages (stateOf b .core) n
 
   -- The refusals 4 and 5 of each.
   pub map-early : (page : VirtualPage) (frame : Frame) → (early ≡ 0 → ⊥) → leaving (answer early empty) b cells tags ≡ leftOf (ruled (stateOf b) (Map p page frame) cells tags)

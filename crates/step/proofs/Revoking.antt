@@ -26,7 +26,7 @@ use Rattle.table.proofs.Kept.{row-live}
 use Rattle.table.proofs.Tiled.{tiled-some}
 use Rattle.table.proofs.Dying.{firstOf, revoking-row}
 use Rattle.reservations.specs.Core.{Core}
-use Rattle.reservations.specs.Revocation.{core, running, revoked, wholePages, revokingRow, revokeReasonsAt, revokeReasons, revokeAt, revokeOf}
+use Rattle.reservations.specs.Revocation.{running, revoked, wholePages, revokingRow, revokeReasonsAt, revokeReasons, revokeAt, revokeOf}
 use Rattle.reservations.proofs.CoreKept.{CoreFacts, core-facts}
 use Rattle.reservations.proofs.Revocations.{Revokes, revoke-clear, revoking-dies}
 use Rattle.calls.specs.declared.Call.{Call}

@@ -14,8 +14,8 @@ use Rattle.pages.specs.Numbers.{layerOf}
 use Rattle.sweep.specs.declared.Swept.{Swept}
 use Rattle.sweep.specs.Sweep.{Passed, sweptTags, swept, passing, sweepOf}
 use Rattle.table.proofs.Truth.{both}
-use Rattle.reservations.specs.Core.{Core}
-use Rattle.reservations.specs.Revocation.{core, running, revoked}
+use Rattle.reservations.specs.Core.{Core, withPlace}
+use Rattle.reservations.specs.Revocation.{running, revoked}
 use Rattle.calls.specs.declared.Call.{Call}
 use Rattle.calls.specs.declared.Call.the-variants.{Sweep}
 use Rattle.words.specs.Words.{slot, empty}
@@ -38,7 +38,7 @@ use Rattle.step.proofs.Cached.{cachedRange, revoked-cached}
 abbrev pub placed : Numbers → ℕ → Numbers
 placed n place = record { v = n .v; f = n .f; count = n .count; place = place; base = n .base; length = n .length }
 
-write-place : (s : State) (q : ℕ) → withNumbers (arraysOf s) (placed (arraysOf s .nums) q) ≡ arraysOf (withCore s (core (s .core .pages) (s .core .table) q (s .core .claims)))
+write-place : (s : State) (q : ℕ) → withNumbers (arraysOf s) (placed (arraysOf s .nums) q) ≡ arraysOf (withCore s (withPlace (s .core) q))
 unfolding arraysOf numbersOf withCore revoked
 write-place s q = refl
 
@@ -66,7 +66,7 @@ module _ (b : Arrays) (f : Formed b) (p n k : ℕ) (e : k ≡ pick (unnamed p) 4
   next = sweptTo (stateOf b .core) n
 
   effect-is : effectOn (stateOf b) call cells tags
-      ≡ effectOf (core (stateOf b .core .pages) (stateOf b .core .table) next (stateOf b .core .claims)) keepRegisters keepMailboxes (sweepCells (revoked (stateOf b .core)) (stateOf b .core .place) next) (slot (16 * stateOf b .core .pages .f - next) false)
+      ≡ effectOf (withPlace (stateOf b .core) next) keepRegisters keepMailboxes (sweepCells (revoked (stateOf b .core)) (stateOf b .core .place) next) (slot (16 * stateOf b .core .pages .f - next) false)
   unfolding effect
   effect-is = refl
 
@@ -83,7 +83,7 @@ module _ (b : Arrays) (f : Formed b) (p n k : ℕ) (e : k ≡ pick (unnamed p) 4
       → passing r tags′ ≡ sweepOf (layerOf (b .nums .v) (b .nums .f) (b .pages) frames) (cachedRange b) (b .nums .place) n cells tags
       → leaving (answer 0 (slot (r .left) false)) (withNumbers b (placed (b .nums) (r .place))) cells tags′ ≡ leftOf (ruled (stateOf b) call cells tags)
   sweep-done z u v frames ef r tags′ d =
-      let x : Core = core (stateOf b .core .pages) (stateOf b .core .table) next (stateOf b .core .claims) in
+      let x : Core = withPlace (stateOf b .core) next in
       let w = slot (16 * stateOf b .core .pages .f - next) false in
       let t = sweptTags (stateOf b .core .pages .frames) (revoked (stateOf b .core)) (stateOf b .core .place) next cells tags in
       let went : passing r tags′ ≡ passing (swept 0 (16 * stateOf b .core .pages .f - next) next) t =

@@ -19,8 +19,7 @@ use Rattle.table.specs.Tiling.{tableSound}
 use Rattle.table.proofs.Answers.{refused}
 use Rattle.table.proofs.Dying.{dyings}
 use Rattle.table.proofs.Unrevoked.{take-still, give-still, split-still, merge-still}
-use Rattle.reservations.specs.Core.{Core}
-use Rattle.reservations.specs.Revocation.{core}
+use Rattle.reservations.specs.Core.{Core, withTable as coreTable}
 use Rattle.reservations.proofs.CoreKept.{core-facts, revoked-kept}
 use Rattle.calls.specs.declared.Call.{Call}
 use Rattle.calls.specs.declared.Call.the-variants.{Take, Split, Merge, Give, TakeMasked}
@@ -59,7 +58,7 @@ module _ (b : Arrays) (f : Formed b) (call : Call) (unknown : Bool) (rule : Tabl
 
   module _ (rows : List ℕ) (code n : ℕ) (d : Leaves (b .rows) rows code n rule) (known : unknown ≡ false) where
     abbrev new : Core
-    new = core (stateOf b .core .pages) (rule .table) (stateOf b .core .place) (stateOf b .core .claims)
+    new = coreTable (stateOf b .core) (rule .table)
 
     code-is : code ≡ first (reasonsOn (stateOf b) call cells tags)
     code-is = d .answers ∙ sym (j .told cells tags ∙ pick-no unknown 4 (rule .code) known)
@@ -149,7 +148,7 @@ module _ (b : Arrays) (f : Formed b) (count : ℕ) (ec : b .nums .count ≡ coun
         ∙ table-down b f took _ _ (take-judges b f p base reg mask) cells tags rows code count own known h
 
     effect-is : effectOn (stateOf b) took cells tags
-        ≡ effectOf (core (stateOf b .core .pages) (takeOf (stateOf b .core .table) p base .table) (stateOf b .core .place) (stateOf b .core .claims))
+        ≡ effectOf (coreTable (stateOf b .core) (takeOf (stateOf b .core .table) p base .table))
         (putRegister p reg (slot (capability base (takeOf (stateOf b .core .table) p base .length) (permitted mask)) true)) keepMailboxes keepMemory (slot (takeOf (stateOf b .core .table) p base .length) false)
     unfolding effect
     effect-is = refl
