@@ -32,11 +32,7 @@ pub mod RestoringPages
 pub mod RestoringEnds
 pub mod Restoring
 pub mod Frames
-pub mod Examples
 pub mod PageAfter
 pub mod Cleaning
 pub mod LettingGo
 pub mod Sharing
-pub mod RestoringExamples
-pub mod TakersExamples
-pub mod SharingExamples

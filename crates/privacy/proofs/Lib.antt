@@ -1,6 +1,3 @@
-pub mod Pairs
-pub mod Examples
-pub mod Needed
 pub mod Glue
 pub mod Fate
 pub mod Words

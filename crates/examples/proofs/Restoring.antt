@@ -13,9 +13,9 @@ use Rattle.calls.specs.declared.Call.the-variants.{Take, Split, Merge, Give, Re
 use Rattle.calls.specs.Commands.{page, frame}
 use Rattle.machine.specs.State.{Answered}
 use Rattle.machine.proofs.Computing.{computing}
 use Rattle.histories.specs.Runs.{Machine, outcome, next, run, answers, begun}
 use Rattle.histories.specs.Restoring.{eachBelow, manyBelow, ending, finishing, taking, merging, destroying, releasing, unmapping, revoking, _andThen_, restoring}
-use Rattle.histories.proofs.Examples.{start}
+use Rattle.examples.proofs.Histories.{start}
 
 -- A revocation in its middle: the sweep has passed five cells.
 pub swept : Machine

@@ -9,9 +9,9 @@ use Rattle.table.specs.Rows.{noTaker, live, reservation}
 use Rattle.calls.specs.declared.Call.{Call}
 use Rattle.calls.specs.declared.Call.the-variants.{Take, Split, Merge, Give, Revoke, Sweep, Collect, TakeMasked}
 use Rattle.machine.proofs.Computing.{computing}
 use Rattle.histories.specs.Runs.{outcome, next, run, answers, begun}
 use Rattle.histories.specs.Takers.{takerAfter, takenBy}
-use Rattle.histories.proofs.Examples.{start}
+use Rattle.examples.proofs.Histories.{start}
 
 -- Two neighbours of 16 cells are given to two parties, who take them; party 0 joins them.
 pub shared : ℕ → ℕ → List Call

@@ -7,7 +7,7 @@ use Rattle.capabilities.specs.Lists.{all}
 use Rattle.calls.specs.Commands.{page, frame}
 use Rattle.calls.specs.declared.Call.the-variants.{Take, Split, Merge, Give, Revoke, Sweep, Collect, Map, Unmap, Zero, Load, Store, Narrow, Number, Grant, Receive, TakeMasked, Create, Claim, Release}
 use Rattle.machine.specs.Roles.{plainPermissions}
-use Rattle.privacy.proofs.Pairs.{Pair, inBoth, inOne, inTwo, same, says, fine, unnoticed, comparing, EachWithin, each-within}
+use Rattle.examples.proofs.Pairs.{Pair, inBoth, inOne, inTwo, same, says, fine, unnoticed, comparing, EachWithin, each-within}
 
 -- House 3 keeps 42, or 7 and its own capability, in its page; then the page is unmapped, the range revoked and collected,
 -- and party 5 takes it and looks.

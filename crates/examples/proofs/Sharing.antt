@@ -12,9 +12,9 @@ use Rattle.calls.specs.Commands.{page, frame}
 use Rattle.words.specs.Words.{byteOf}
 use Rattle.machine.specs.Step.{stepOf}
 use Rattle.machine.proofs.Computing.{computing}
 use Rattle.histories.specs.Runs.{Machine, begun}
 use Rattle.histories.specs.Sharing.{claimsIn, counts}
-use Rattle.histories.proofs.Examples.{Noted, note, History, start, follows, happens}
+use Rattle.examples.proofs.Histories.{Noted, note, History, start, follows, happens}
 
 -- How often principals 3 and 5 count page 1, what principal 0 has unspent, and whether page 1 shows frame 0.
 abbrev pub sharedPage : Machine → List ℕ
