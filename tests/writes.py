@@ -8,7 +8,7 @@ Their contract says the table and the number. That the number is a count is read
   it and leaves its answer there; nothing else sets it; and it is what the mover answers;
 - what a mover reads from a row goes into a write and nowhere else, so that what rows hold does not decide which places are written.
 
-Each of the faults listed below is put into a copy of the source and has to be found there.
+All is read in a copy, so that no other `rt` is disturbed; each of the faults listed below is put into it and has to be found there.
 """
 import pathlib
 import re
@@ -164,14 +164,14 @@ def faults(root):
 
 
 def main():
-    found = faults(ROOT)
-    for fault in found:
-        print(f"writes: {fault}")
     text = (ROOT / SOURCE).read_text()
     missed = 0
     with tempfile.TemporaryDirectory() as folder:
         shutil.copytree(ROOT / "crates", pathlib.Path(folder) / "crates")
         shutil.copy(ROOT / "crates.txt", folder)
+        found = faults(folder)
+        for fault in found:
+            print(f"writes: {fault}")
         for what, old, new in FAULTS:
             if text.count(old) != 1:
                 sys.exit(f"writes: the text for '{what}' stands {text.count(old)} times in {SOURCE}")
