@@ -1,5 +1,6 @@
 -- What well-formed arrays are known by: their lengths, and what stands in an entry of the state read. Assumes nothing.
 use Prim.Native.Nat.{ℕ, _*_, _≤_}
+use mathlib.Core.Bool.{true}
 use mathlib.Core.List.{List}
 use mathlib.Core.Path.{_≡_, sym, ap, _∙_}
 use lib.ListN.{length, getD, List·getD-map}
@@ -8,7 +9,8 @@ use Rattle.pages.specs.Pages.{FrameEntry}
 use Rattle.pages.specs.Layer.{pageAt, frameAt}
 use Rattle.table.proofs.Sound as sound
 use Rattle.reservations.proofs.CoreKept.{core-facts}
-use Rattle.claims.proofs.RoundTrip.{long-numbers, long-counts}
+use Rattle.claims.specs.Numbers.{soundIn}
+use Rattle.claims.proofs.RoundTrip.{long-numbers, long-counts, test-passes}
 use Rattle.words.specs.declared.Slot.{Slot}
 use Rattle.words.specs.Words.{byteOf}
 use Rattle.machine.proofs.Keeps.{facts, arrays}
@@ -50,6 +52,13 @@ lengths a f =
       counts = ap (λ b. length (b .counts)) (sym (f .kept)) ∙ long-counts _ (stateOf a .core .claims) ok;
       count = sound.sound (16 * stateOf a .core .pages .v) (stateOf a .core .table) (c .rows) .most;
     }
+
+-- The claims pass the test of their layer.
+pub claims-pass : (a : Arrays) → Formed a → soundIn (a .nums .v) (a .principals) (a .counts) ≡ true
+unfolding stateOf arraysOf coreOf
+claims-pass a f =
+    test-passes (a .nums .v) (a .principals) (a .counts) (ap (λ (b : Arrays). b .principals) (f .kept)) (ap (λ (b : Arrays). b .counts) (f .kept))
+    (facts (stateOf a) (f .well) .claims)
 
 -- What stands in an entry.
 module _ (n : Numbers) (rows pages frames principals counts : List ℕ) where

@@ -23,7 +23,7 @@ use Rattle.formed.specs.Fresh.{Start, starting, startIn}
 use Rattle.formed.proofs.Tested.{tested, passing}
 use Rattle.session_rules.specs.Session.{ending}
 use Rattle.step.specs.Entries.{Told, commandJudgedOn, commandOn}
-use Rattle.step.specs.Runs.{Run, answerNumbers, resting, preceded, runOn, runIn}
+use Rattle.entries.specs.Runs.{Run, answerNumbers, resting, preceded, runOn, runIn}
 use Rattle.step.proofs.Commanding.{command-unformed, command-formed}
 use Rattle.step.proofs.Running.{ran-formed}
 

@@ -23,7 +23,7 @@ use Rattle.formed.specs.Test.{formedOf, sized}
 use Rattle.formed.proofs.Tested.{tested, passing}
 use Rattle.cost.specs.Asked.{costOn}
 use Rattle.step.specs.Entries.{Told, commandOn}
-use Rattle.step.specs.Runs.{runIn}
+use Rattle.entries.specs.Runs.{runIn}
 use Rattle.step.proofs.Commanding.{command-unformed}
 use Rattle.cetomuhi.specs.Lent.{Lent, small, numbersFrom, arraysIn, arraysOver}
 use Rattle.cetomuhi.proofs.Fits.{command-formed-on, run-keeps}

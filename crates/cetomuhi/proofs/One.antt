@@ -13,9 +13,9 @@ use Rattle.arrays.specs.Steps.{answer, leaving}
 use Rattle.formed.specs.Test.{formedOf}
 use Rattle.formed.proofs.Tested.{tested}
 use Rattle.step.specs.Entries.{Told, telling, commandOn}
-use Rattle.step.specs.Runs.{Run, answerNumbers, running, runOn, runIn}
+use Rattle.entries.specs.Runs.{Run, answerNumbers, running, runOn, runIn}
 use Rattle.step.proofs.Commanding.{fits, command-none, command-unfit, command-unformed, command-formed}
-use Rattle.step.proofs.Composing.{once, run-one}
+use Rattle.entries.proofs.Composing.{once, run-one}
 use Rattle.cetomuhi.specs.Exports.{endCode}
 
 module _ (a : Arrays) (input : List ℕ) (at : ℕ) (cells tags : List ℕ) where

@@ -20,7 +20,7 @@ use Rattle.arrays.specs.Steps.{answer}
 use Rattle.formed.specs.Test.{sized}
 use Rattle.formed.specs.Fresh.{Start, starting, startIn}
 use Rattle.step.specs.Entries.{Told, commandOn}
-use Rattle.step.specs.Runs.{Run, answerNumbers, running, runIn}
+use Rattle.entries.specs.Runs.{Run, answerNumbers, running, runIn}
 use Rattle.cetomuhi.specs.Lent.{Lent, lent, numbersFrom, numbersOver, arraysIn, arraysOver}
 use Rattle.cetomuhi.proofs.Writing.{lent-back}
 use Rattle.cetomuhi.proofs.One.{run-of-one, command-ended}

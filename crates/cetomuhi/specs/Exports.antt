@@ -12,7 +12,7 @@ use Rattle.arrays.specs.Reading.{arraysOf}
 use Rattle.formed.specs.Test.{formedOf, sized}
 use Rattle.cost.specs.Asked.{costOn}
 use Rattle.step.specs.Entries.{Told, commandOn}
-use Rattle.step.specs.Runs.{answerNumbers, runIn}
+use Rattle.entries.specs.Runs.{answerNumbers, runIn}
 use Rattle.cetomuhi.specs.Lent.{Lent, arraysIn, arraysOver}
 
 -- The lengths of the ten lists of a state in their order, the numbers of an answer and those of a call; 0 past these.

@@ -20,9 +20,8 @@ use Rattle.table.specs.Tiling.{tableSound}
 use Rattle.table.proofs.Truth.{both}
 use Rattle.table.specs.Numbers.{rowFrom, rowCode, tableOf, allWritten}
 use Rattle.claims.specs.Sound.{claimsSound}
-use Rattle.claims.specs.Numbers.{claimsIn, laid, sizedIn, keptIn, soundIn}
-use Rattle.claims.specs.Numbers.{numbersOf as claimNumbers}
-use Rattle.claims.proofs.RoundTrip.{kept-numbers, kept-counts, test-passes}
+use Rattle.claims.specs.Numbers.{claimsIn, sizedIn, keptIn, soundIn}
+use Rattle.claims.proofs.RoundTrip.{kept-numbers, kept-counts}
 use Rattle.table.specs.Sound.{wholeTable, soundNumbers}
 use Rattle.table.proofs.RoundTrip.{reads-sized, numbers-back, rows-written}
 use Rattle.reservations.specs.Revocation.{revoked, revocationSound}
@@ -33,7 +32,7 @@ use Rattle.machine.specs.Formed as rules
 use Rattle.machine.proofs.Keeps.{facts, formed}
 use Rattle.arrays.specs.declared.Arrays.{Arrays}
 use Rattle.arrays.specs.Reading.{arrays, coreOf, numbersOf, stateOf, arraysOf, Formed}
-use Rattle.arrays.proofs.Facts.{lengths}
+use Rattle.arrays.proofs.Facts.{lengths, claims-pass}
 use Rattle.arrays.proofs.Writing.{same-arrays}
 use Rattle.arrays.proofs.Lists.{length-map}
 use Rattle.formed.specs.Test.{sized, canonical, cached, formedOf}
@@ -94,14 +93,6 @@ module _ (a : Arrays) (f : Formed a) where
   unfolding arraysOf stateOf coreOf
   kept-frames = ap (λ (b : Arrays). b .frames) (f .kept)
 
-  kept-principals : claimNumbers (claimsIn (a .principals) (a .counts)) ≡ a .principals
-  unfolding arraysOf stateOf coreOf
-  kept-principals = ap (λ (b : Arrays). b .principals) (f .kept)
-
-  kept-claims : laid (claimsIn (a .principals) (a .counts) .counts) ≡ a .counts
-  unfolding arraysOf stateOf coreOf
-  kept-claims = ap (λ (b : Arrays). b .counts) (f .kept)
-
   kept-base : a .nums .base ≡ revoked (coreOf (a .nums) (a .rows) (a .pages) (a .frames) (a .principals) (a .counts)) .base
   unfolding arraysOf stateOf numbersOf
   kept-base = sym (ap (λ (b : Arrays). b .nums .base) (f .kept))
@@ -133,7 +124,7 @@ module _ (a : Arrays) (f : Formed a) where
         mark-bits = subst (λ (x : List ℕ). each bit 0 x ≡ true) kept-marks (bytes-bits 0 (slotsOf (a .words) (a .marks)));
         flag-bits = subst (λ (x : List ℕ). each bit 0 x ≡ true) kept-flags (bytes-bits 0 (slotsOf (a .mail) (a .flags)));
         mailboxes = s .mailboxes;
-        claims = test-passes (n .v) (a .principals) (a .counts) kept-principals kept-claims (s .claims);
+        claims = claims-pass a f;
       }
 
 -- Arrays that have all of the parts are well formed.

@@ -1,5 +1,5 @@
 // A whole session of the machine: from input bytes to printed lines in a lent buffer.
-use step::printing::print;
+use printing::print;
 ghost use mathlib.Core.Path.{_≡_};
 ghost use Rattle.session_rules.specs.Session.{linesOf, printed, printOf};
 

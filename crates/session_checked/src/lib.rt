@@ -1,5 +1,5 @@
 // A whole session with the state tested at every command. It stands alone, so that the session without the test is compiled without it.
-use step::printing::print;
+use printing::print;
 ghost use mathlib.Core.Path.{_≡_};
 ghost use Rattle.session_rules.specs.Session.{linesOf, printed, printOf};
 

@@ -23,7 +23,8 @@ use Rattle.arrays.specs.Reading.{arraysOf}
 use Rattle.arrays.specs.Steps.{leftOf}
 use Rattle.arrays.proofs.RoundTrip.{state-back-again, written-formed}
 use Rattle.formed.proofs.Tested.{passing}
-use Rattle.step.specs.Entries.{judgedOn, stepOn, beginning, startOn}
+use Rattle.step.specs.Entries.{judgedOn, stepOn}
+use Rattle.entries.specs.ByValue.{beginning, startOn}
 use Rattle.short_histories.specs.Listed.{listed}
 use Rattle.short_histories.specs.Text.{bytesIn, hexLine, lineOf}
 use Rattle.short_histories.specs.Histories.{freshOne, grants, counts, text}

@@ -8,7 +8,7 @@ use crate::digits::low;
 use calls::Call;
 use calls::Written;
 use calls::write_call;
-use step::State;
+use entries::State;
 ghost use mathlib.Core.Path.{_≡_};
 ghost use mathlib.Core.List.{_++_};
 ghost use Prim.Native.Nat.{_+_, _*_, _≤_};

@@ -1,21 +1,24 @@
 -- What the entries promise: a call or a command on arrays is the rule on the state read, written back. Assumes nothing.
-use Prim.Native.Nat.{ℕ}
+use Prim.Native.Nat.{ℕ, _*_}
 use mathlib.Core.List.{List}
+use mathlib.Core.Path.{_≡_}
+use lib.ListN.{length}
 use Rattle.capabilities.specs.Lists.{pick}
 use Rattle.calls.specs.declared.Call.{Call}
 use Rattle.words.specs.Words.{empty}
-use Rattle.machine.specs.Formed.{startOf}
 use Rattle.machine.specs.Step.{left, ruled, judged}
 use Rattle.machine.specs.Command.{Ran, commandJudged}
 use Rattle.arrays.specs.declared.Arrays.{Arrays}
 use Rattle.arrays.specs.declared.Answer.{Answer}
 use Rattle.arrays.specs.declared.Numbers.{Numbers}
-use Rattle.step.specs.declared.Stepped.{Stepped}
-use Rattle.step.specs.declared.State.{State}
-use Rattle.step.specs.declared.Commanded.{Commanded}
-use Rattle.arrays.specs.Reading.{stateOf, arraysOf}
+use Rattle.calls_in_place.specs.declared.Stepped.{Stepped}
+use Rattle.arrays.specs.Reading.{stateOf, Formed}
 use Rattle.arrays.specs.Steps.{Left, answer, leaving, leftOf}
 use Rattle.formed.specs.Test.{formedOf}
+
+-- What is promised on well-formed arrays and lent memory of the right size, and on no other.
+abbrev pub OnFormed : Arrays → List ℕ → List ℕ → Type 0 → Type 0
+OnFormed a cells tags p = Formed a → (length cells ≡ 16 * a .nums .f) × (length tags ≡ 16 * a .nums .f) → p
 
 abbrev pub stepped : Answer → Numbers → Stepped
 stepped r n = record { answer = r; nums = n }
@@ -49,18 +52,3 @@ commandJudgedOn a input at cells tags = toldOf (commandJudged (stateOf a) input 
 unfoldable pub commandOn : Arrays → List ℕ → ℕ → List ℕ → List ℕ → Told
 commandOn a input at cells tags =
     pick (formedOf a) (commandJudgedOn a input at cells tags) (telling (leaving (answer 1 empty) a cells tags) 0)
-
--- A command by value: its answer, the bytes used and the state.
-abbrev pub commanding : Answer → ℕ → State → Commanded
-commanding r n s = record { answer = r; used = n; state = s }
-
--- A start: its answer, and the arrays that the state is written as.
-pub record Begun : Type 0 where
-  pub answer : Answer
-  pub arrays : Arrays
-
-abbrev pub beginning : Answer → Arrays → Begun
-beginning r a = record { answer = r; arrays = a }
-
-unfoldable pub startOn : ℕ → ℕ → Begun
-startOn v f = beginning (answer (startOf v f .code) empty) (arraysOf (startOf v f .state))

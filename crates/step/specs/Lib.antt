@@ -1,3 +1,1 @@
-pub mod Parts
 pub mod Entries
-pub mod Runs

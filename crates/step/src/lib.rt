@@ -1,82 +1,43 @@
-// The calls in place, over lent arrays of numbers; the state by value. The step and the command that stand here are private:
-// on arrays that are not well formed they promise nothing, so they are no entries.
-use crate::claim_calls::claim;
-use crate::claim_calls::create;
-use crate::claim_calls::destroy;
-use crate::claim_calls::release;
-use crate::collect_calls::collect;
-use crate::page_calls::map;
-use crate::page_calls::unmap;
-use crate::page_calls::zero;
-use crate::revoke_calls::revoke;
-use crate::sweep_calls::sweep;
-use crate::table_calls::PLAIN;
-use crate::table_calls::give;
-use crate::table_calls::merge;
-use crate::table_calls::split;
-use crate::table_calls::take;
-use crate::word_calls::grant;
-use crate::word_calls::load;
-use crate::word_calls::narrow;
-use crate::word_calls::number;
-use crate::word_calls::receive;
-use crate::word_calls::refused;
-use crate::word_calls::store;
+// The step that picks the call in place, and the command of bytes. On well-formed arrays and lent memory of the right size they do what
+// the rules say; on others they answer too, and promise nothing, so they are no entries.
 use arrays::Answer;
-use arrays::Arrays;
 use arrays::Numbers;
 use calls::Call;
 use calls::Reading;
 use calls::read_at;
+use calls_in_place::Stepped;
+use calls_in_place::claim_calls::claim;
+use calls_in_place::claim_calls::create;
+use calls_in_place::claim_calls::destroy;
+use calls_in_place::claim_calls::release;
+use calls_in_place::collect_calls::collect;
+use calls_in_place::page_calls::map;
+use calls_in_place::page_calls::unmap;
+use calls_in_place::page_calls::zero;
+use calls_in_place::revoke_calls::revoke;
+use calls_in_place::sweep_calls::sweep;
+use calls_in_place::table_calls::PLAIN;
+use calls_in_place::table_calls::give;
+use calls_in_place::table_calls::merge;
+use calls_in_place::table_calls::split;
+use calls_in_place::table_calls::take;
+use calls_in_place::word_calls::grant;
+use calls_in_place::word_calls::load;
+use calls_in_place::word_calls::narrow;
+use calls_in_place::word_calls::number;
+use calls_in_place::word_calls::receive;
+use calls_in_place::word_calls::refused;
+use calls_in_place::word_calls::store;
 ghost use mathlib.Core.Path.{_≡_};
-ghost use Prim.Native.Nat.{_*_};
-ghost use lib.ListN.{length};
-ghost use Rattle.arrays.specs.Reading.{arrays, Formed};
+ghost use Rattle.arrays.specs.Reading.{arrays};
 ghost use Rattle.arrays.specs.Steps.{leaving};
-ghost use Rattle.step.specs.Entries.{stepped, ruledOn, telling, commandJudgedOn};
+ghost use Rattle.step.specs.Entries.{OnFormed, stepped, ruledOn, telling, commandJudgedOn};
 
-mod by_value;
-mod claim_calls;
-mod collect_calls;
-pub mod entries;
-mod page_calls;
-pub mod printing;
-mod revoke_calls;
-pub mod runs;
-mod session;
-mod sweep_calls;
-mod table_calls;
-mod word_calls;
-
-// What a call in place hands back: its answer, and the small numbers. The arrays are changed where they lie.
-pub struct Stepped {
-    pub answer: Answer,
-    pub nums: Numbers,
-}
-
-// The same of a command, with how many bytes it used.
+// What a command hands back: its answer, the small numbers, and how many bytes it used. The arrays are changed where they lie.
 pub struct Ended {
     pub answer: Answer,
     pub nums: Numbers,
     pub used: usize,
-}
-
-// The whole state by value.
-pub struct State {
-    pub arrays: Arrays,
-}
-
-// An answer, and the whole state, changed or as given.
-pub struct Answered {
-    pub answer: Answer,
-    pub state: State,
-}
-
-// The same of a command, with how many bytes it used.
-pub struct Commanded {
-    pub answer: Answer,
-    pub used: usize,
-    pub state: State,
 }
 
 // What a call leaves that keeps the small numbers.
@@ -86,8 +47,8 @@ fn on(nums: Numbers, answer: Answer) -> Stepped
     Stepped { answer, nums }
 }
 
-// The arrays are known to be well formed, and lent memory to be of the right size. On others it promises nothing, so it is no entry.
-fn step(
+// One call.
+pub fn step(
     nums: Numbers,
     call: Call,
     words: &mut [u64],
@@ -102,9 +63,7 @@ fn step(
     cells: &mut [u64],
     tags: &mut [u8],
 ) -> Stepped
-    requires { ⌜ Formed (arrays nums (now words) (now marks) (now mail) (now flags) (now rows) (now pages) (now frames) (now principals) (now counts)) ⌝ }
-    requires { ⌜ (length (now cells) ≡ 16 * nums .f) × (length (now tags) ≡ 16 * nums .f) ⌝ }
-    ensures { λ r. ⌜ leaving (r .answer) (arrays (r .nums) (now (words .exit)) (now (marks .exit)) (now (mail .exit)) (now (flags .exit)) (now (rows .exit)) (now (pages .exit)) (now (frames .exit)) (now (principals .exit)) (now (counts .exit))) (now (cells .exit)) (now (tags .exit)) ≡ ruledOn (arrays nums (now (words .entry)) (now (marks .entry)) (now (mail .entry)) (now (flags .entry)) (now (rows .entry)) (now (pages .entry)) (now (frames .entry)) (now (principals .entry)) (now (counts .entry))) call (now (cells .entry)) (now (tags .entry)) ⌝ }
+    ensures { λ r. ⌜ OnFormed (arrays nums (now (words .entry)) (now (marks .entry)) (now (mail .entry)) (now (flags .entry)) (now (rows .entry)) (now (pages .entry)) (now (frames .entry)) (now (principals .entry)) (now (counts .entry))) (now (cells .entry)) (now (tags .entry)) (leaving (r .answer) (arrays (r .nums) (now (words .exit)) (now (marks .exit)) (now (mail .exit)) (now (flags .exit)) (now (rows .exit)) (now (pages .exit)) (now (frames .exit)) (now (principals .exit)) (now (counts .exit))) (now (cells .exit)) (now (tags .exit)) ≡ ruledOn (arrays nums (now (words .entry)) (now (marks .entry)) (now (mail .entry)) (now (flags .entry)) (now (rows .entry)) (now (pages .entry)) (now (frames .entry)) (now (principals .entry)) (now (counts .entry))) call (now (cells .entry)) (now (tags .entry))) ⌝ }
 {
     match call {
         Call::Take { party, base, reg } => take(nums, rows, words, marks, party, base, reg, PLAIN),
@@ -174,8 +133,8 @@ fn step(
     }
 }
 
-// The command at a place of the input, on well-formed arrays and lent memory of the right size.
-fn command(
+// The command at a place of the input.
+pub fn command(
     nums: Numbers,
     input: &[u8],
     at: usize,
@@ -191,9 +150,7 @@ fn command(
     cells: &mut [u64],
     tags: &mut [u8],
 ) -> Ended
-    requires { ⌜ Formed (arrays nums (now words) (now marks) (now mail) (now flags) (now rows) (now pages) (now frames) (now principals) (now counts)) ⌝ }
-    requires { ⌜ (length (now cells) ≡ 16 * nums .f) × (length (now tags) ≡ 16 * nums .f) ⌝ }
-    ensures { λ r. ⌜ telling (leaving (r .answer) (arrays (r .nums) (now (words .exit)) (now (marks .exit)) (now (mail .exit)) (now (flags .exit)) (now (rows .exit)) (now (pages .exit)) (now (frames .exit)) (now (principals .exit)) (now (counts .exit))) (now (cells .exit)) (now (tags .exit))) (r .used) ≡ commandJudgedOn (arrays nums (now (words .entry)) (now (marks .entry)) (now (mail .entry)) (now (flags .entry)) (now (rows .entry)) (now (pages .entry)) (now (frames .entry)) (now (principals .entry)) (now (counts .entry))) (now (input .entry)) at (now (cells .entry)) (now (tags .entry)) ⌝ }
+    ensures { λ r. ⌜ OnFormed (arrays nums (now (words .entry)) (now (marks .entry)) (now (mail .entry)) (now (flags .entry)) (now (rows .entry)) (now (pages .entry)) (now (frames .entry)) (now (principals .entry)) (now (counts .entry))) (now (cells .entry)) (now (tags .entry)) (telling (leaving (r .answer) (arrays (r .nums) (now (words .exit)) (now (marks .exit)) (now (mail .exit)) (now (flags .exit)) (now (rows .exit)) (now (pages .exit)) (now (frames .exit)) (now (principals .exit)) (now (counts .exit))) (now (cells .exit)) (now (tags .exit))) (r .used) ≡ commandJudgedOn (arrays nums (now (words .entry)) (now (marks .entry)) (now (mail .entry)) (now (flags .entry)) (now (rows .entry)) (now (pages .entry)) (now (frames .entry)) (now (principals .entry)) (now (counts .entry))) (now (input .entry)) at (now (cells .entry)) (now (tags .entry))) ⌝ }
 {
     match read_at(input, at) {
         Reading::Read { call, used } => {

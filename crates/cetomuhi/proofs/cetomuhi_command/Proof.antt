@@ -4,7 +4,7 @@ use mathlib.Core.Path.{refl, sym, subst}
 use lib.ListN.{take}
 use lib.Seq.{length-take-le}
 use Rattle.arrays.specs.Reading.{arrays}
-use Rattle.step.specs.Runs.{Run}
+use Rattle.entries.specs.Runs.{Run}
 use Rattle.cetomuhi.specs.Lent.{lent}
 use Rattle.cetomuhi.proofs.Fits.{Fits, run-fits}
 use Rattle.cetomuhi.proofs.Ways.{command-none, command-ran, command-turned}
@@ -17,7 +17,7 @@ use Rattle.cetomuhi.proofs.at_end.Reads as at-end-reads
 use Rattle.cetomuhi.proofs.numbers.numbers_from.Reads as numbers-from-reads
 use Rattle.cetomuhi.proofs.put_answer.Reads as put-answer-reads
 use Rattle.cetomuhi.proofs.put_numbers.Reads as put-numbers-reads
-use Rattle.step.proofs.runs.commands_in.Reads as commands-in-reads
+use Rattle.entries.proofs.runs.commands_in.Reads as commands-in-reads
 
 returns : tie.Need-returns
 returns c =

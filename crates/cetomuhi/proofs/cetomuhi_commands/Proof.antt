@@ -1,7 +1,7 @@
 -- `cetomuhi::cetomuhi_commands` meets its contract. It is a run in place, whose small numbers fit.
 use mathlib.Core.Path.{_≡_, sym, subst}
 use Rattle.arrays.specs.Reading.{arrays}
-use Rattle.step.specs.Runs.{Run}
+use Rattle.entries.specs.Runs.{Run}
 use Rattle.cetomuhi.specs.Lent.{lent}
 use Rattle.cetomuhi.proofs.Fits.{Fits, run-fits}
 use Rattle.cetomuhi.proofs.Ways.{commands-ran}
@@ -12,7 +12,7 @@ use Rattle.cetomuhi.proofs.cetomuhi_commands.Reads as reads
 use Rattle.cetomuhi.proofs.cetomuhi_commands.Lts as lts
 use Rattle.cetomuhi.proofs.numbers.numbers_from.Reads as numbers-from-reads
 use Rattle.cetomuhi.proofs.put_numbers.Reads as put-numbers-reads
-use Rattle.step.proofs.runs.commands_in.Reads as commands-in-reads
+use Rattle.entries.proofs.runs.commands_in.Reads as commands-in-reads
 
 numbers-from-requires : tie.Need-numbers-from-requires
 numbers-from-requires c κs = search needs

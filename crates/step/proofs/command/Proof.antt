@@ -9,7 +9,7 @@ use Rattle.step.proofs.command.Reads as reads
 use Rattle.step.proofs.command.Lts as lts
 use Rattle.calls.proofs.read_at.Reads as read-at-reads
 use Rattle.step.proofs.step.Reads as step-reads
-use Rattle.step.proofs.word_calls.refused.Reads as refused-reads
+use Rattle.calls_in_place.proofs.word_calls.refused.Reads as refused-reads
 
 read-at-requires : tie.Need-read-at-requires
 read-at-requires c κs = search needs
@@ -60,20 +60,18 @@ same-length-11 : tie.Need-same-length-11
 same-length-11 c = search needs
 
 returns : tie.Need-returns
-returns c =
+returns c formed fits =
     let a = c .before .before .before .before .before .before .before .before .before .before .before .before .before .before .before .before .before .before .before .before .before .before .before .before .before .before .before .before .before .before .before .before .before .before .before .before .before .before .before .before .before .before .before .before .before .before .before .before .before .before .before .before .args in
-    let pre = c .before .before .before .before .before .before .before .before .before .before .before .before .before .before .before .before .before .before .before .before .before .before .before .before .before .before .before .before .before .before .before .before .before .before .before .before .before .before .before .before .before .before .before .before .before .before .before .before .before .before .before .before .pre in
     let read = sym (c .before .before .before .before .before .before .before .before .before .before .before .before .before .before .before .before .before .before .before .before .before .before .before .before .before .before .before .before .before .before .before .before .before .before .before .before .before .before .before .read-at .ensures .is) ∙ c .before .before .before .before .before .before .before .before .before .before .before .before .before .before .before .before .before .before .before .before .before .before .before .before .before .before .before .before .before .before .before .before .before .before .before .before .before .call .given .1 in
     let m = arrays (a .nums) (a .words .now) (a .marks .now) (a .mail .now) (a .flags .now) (a .rows .now) (a .pages .now) (a .frames .now) (a .principals .now) (a .counts .now) in
-    command-reads m (a .cells .now) (a .tags .now) (fitting m (a .cells .now) (a .tags .now) (pre .1 .0) (pre .1 .1)) (a .input .now) (a .at) _ _ read _ (c .before .before .before .before .before .before .before .before .before .before .before .before .before .before .before .before .before .before .before .before .before .before .before .before .step .ensures)
+    command-reads m (a .cells .now) (a .tags .now) (fitting m (a .cells .now) (a .tags .now) (fits .0) (fits .1)) (a .input .now) (a .at) _ _ read _ (c .before .before .before .before .before .before .before .before .before .before .before .before .before .before .before .before .before .before .before .before .before .before .before .before .step .ensures formed fits)
 
 returns-2 : tie.Need-returns-2
-returns-2 c =
+returns-2 c formed fits =
     let a = c .before .before .before .before .before .before .before .before .before .before .before .before .before .before .before .before .args in
-    let pre = c .before .before .before .before .before .before .before .before .before .before .before .before .before .before .before .before .pre in
     let read = sym (c .before .before .before .read-at .ensures .is) ∙ c .before .enum-told .given .1 in
     let m = arrays (a .nums) (a .words .now) (a .marks .now) (a .mail .now) (a .flags .now) (a .rows .now) (a .pages .now) (a .frames .now) (a .principals .now) (a .counts .now) in
-    rw (c .refused .ensures) (command-none m (a .cells .now) (a .tags .now) (fitting m (a .cells .now) (a .tags .now) (pre .1 .0) (pre .1 .1)) (a .input .now) (a .at) (pre .0) read)
+    rw (c .refused .ensures) (command-none m (a .cells .now) (a .tags .now) (fitting m (a .cells .now) (a .tags .now) (fits .0) (fits .1)) (a .input .now) (a .at) formed read)
 
 pub command-spec : {M : Type 1} → statement M
 command-spec =

@@ -2,33 +2,33 @@
 use mathlib.Core.Path.{refl}
 use Rattle.arrays.specs.Reading.{arrays, stateOf}
 use Rattle.step.specs.Entries.{ruledOn}
-use Rattle.step.proofs.Tabling.{take-plain}
+use Rattle.calls_in_place.proofs.Tabling.{take-plain}
 use borrow.Author.Needs.{needs}
 use Rattle.step.proofs.step.Statement.{statement}
 use Rattle.step.proofs.step.Tie as tie
 use Rattle.step.proofs.step.Reads as reads
 use Rattle.step.proofs.step.Lts as lts
-use Rattle.step.proofs.claim_calls.create.Reads as create-reads
-use Rattle.step.proofs.claim_calls.claim.Reads as claim-reads
-use Rattle.step.proofs.claim_calls.release.Reads as release-reads
-use Rattle.step.proofs.claim_calls.destroy.Reads as destroy-reads
-use Rattle.step.proofs.collect_calls.collect.Reads as collect-reads
-use Rattle.step.proofs.page_calls.map.Reads as map-reads
-use Rattle.step.proofs.page_calls.unmap.Reads as unmap-reads
-use Rattle.step.proofs.page_calls.zero.Reads as zero-reads
-use Rattle.step.proofs.revoke_calls.revoke.Reads as revoke-reads
+use Rattle.calls_in_place.proofs.claim_calls.create.Reads as create-reads
+use Rattle.calls_in_place.proofs.claim_calls.claim.Reads as claim-reads
+use Rattle.calls_in_place.proofs.claim_calls.release.Reads as release-reads
+use Rattle.calls_in_place.proofs.claim_calls.destroy.Reads as destroy-reads
+use Rattle.calls_in_place.proofs.collect_calls.collect.Reads as collect-reads
+use Rattle.calls_in_place.proofs.page_calls.map.Reads as map-reads
+use Rattle.calls_in_place.proofs.page_calls.unmap.Reads as unmap-reads
+use Rattle.calls_in_place.proofs.page_calls.zero.Reads as zero-reads
+use Rattle.calls_in_place.proofs.revoke_calls.revoke.Reads as revoke-reads
 use Rattle.step.proofs.on.Reads as on-reads
-use Rattle.step.proofs.sweep_calls.sweep.Reads as sweep-reads
-use Rattle.step.proofs.table_calls.give.Reads as give-reads
-use Rattle.step.proofs.table_calls.merge.Reads as merge-reads
-use Rattle.step.proofs.table_calls.split.Reads as split-reads
-use Rattle.step.proofs.table_calls.take.Reads as take-reads
-use Rattle.step.proofs.word_calls.grant.Reads as grant-reads
-use Rattle.step.proofs.word_calls.load.Reads as load-reads
-use Rattle.step.proofs.word_calls.narrow.Reads as narrow-reads
-use Rattle.step.proofs.word_calls.number.Reads as number-reads
-use Rattle.step.proofs.word_calls.receive.Reads as receive-reads
-use Rattle.step.proofs.word_calls.store.Reads as store-reads
+use Rattle.calls_in_place.proofs.sweep_calls.sweep.Reads as sweep-reads
+use Rattle.calls_in_place.proofs.table_calls.give.Reads as give-reads
+use Rattle.calls_in_place.proofs.table_calls.merge.Reads as merge-reads
+use Rattle.calls_in_place.proofs.table_calls.split.Reads as split-reads
+use Rattle.calls_in_place.proofs.table_calls.take.Reads as take-reads
+use Rattle.calls_in_place.proofs.word_calls.grant.Reads as grant-reads
+use Rattle.calls_in_place.proofs.word_calls.load.Reads as load-reads
+use Rattle.calls_in_place.proofs.word_calls.narrow.Reads as narrow-reads
+use Rattle.calls_in_place.proofs.word_calls.number.Reads as number-reads
+use Rattle.calls_in_place.proofs.word_calls.receive.Reads as receive-reads
+use Rattle.calls_in_place.proofs.word_calls.store.Reads as store-reads
 
 enum-known-call : tie.Need-enum-known-call
 enum-known-call c = search needs
@@ -209,40 +209,40 @@ same-length-3 c = search needs
 
 returns : tie.Need-returns
 unfolding ruledOn
-returns c =
+returns c formed fits =
     let a = c .before .before .before .before .before .before .before .before .before .before .before .before .before .before .before .before .before .before .before .before .before .before .before .before .args in
     let m = arrays (a .nums) (a .words .now) (a .marks .now) (a .mail .now) (a .flags .now) (a .rows .now) (a .pages .now) (a .frames .now) (a .principals .now) (a .counts .now) in
-    rw (c .before .before .before .before .before .before .before .before .before .before .before .call .given .1) (take-plain (stateOf m) _ _ _ (a .cells .now) (a .tags .now) _ (c .before .before .before .before .before .before .take .ensures m (c .before .before .before .before .before .before .before .before .before .before .before .before .before .before .before .before .before .before .before .before .before .before .before .before .pre .0) (a .cells .now) (a .tags .now)))
+    rw (c .before .before .before .before .before .before .before .before .before .before .before .call .given .1) (take-plain (stateOf m) _ _ _ (a .cells .now) (a .tags .now) _ (c .before .before .before .before .before .before .take .ensures m formed (a .cells .now) (a .tags .now)))
 
 same-length-4 : tie.Need-same-length-4
 same-length-4 c = search needs
 
 returns-2 : tie.Need-returns-2
 unfolding ruledOn
-returns-2 c =
+returns-2 c formed fits =
     let a = c .before .before .before .before .before .before .before .before .before .before .before .before .before .before .before .before .before .before .args in
     let m = arrays (a .nums) (a .words .now) (a .marks .now) (a .mail .now) (a .flags .now) (a .rows .now) (a .pages .now) (a .frames .now) (a .principals .now) (a .counts .now) in
-    rw (c .before .before .before .before .before .call2 .given .1) (c .before .before .split .ensures m (c .before .before .before .before .before .before .before .before .before .before .before .before .before .before .before .before .before .before .pre .0) (a .cells .now) (a .tags .now))
+    rw (c .before .before .before .before .before .call2 .given .1) (c .before .before .split .ensures m formed (a .cells .now) (a .tags .now))
 
 same-length-5 : tie.Need-same-length-5
 same-length-5 c = search needs
 
 returns-3 : tie.Need-returns-3
 unfolding ruledOn
-returns-3 c =
+returns-3 c formed fits =
     let a = c .before .before .before .before .before .before .before .before .before .before .before .before .before .before .before .before .before .before .args in
     let m = arrays (a .nums) (a .words .now) (a .marks .now) (a .mail .now) (a .flags .now) (a .rows .now) (a .pages .now) (a .frames .now) (a .principals .now) (a .counts .now) in
-    rw (c .before .before .before .before .before .call3 .given .1) (c .before .before .merge .ensures m (c .before .before .before .before .before .before .before .before .before .before .before .before .before .before .before .before .before .before .pre .0) (a .cells .now) (a .tags .now))
+    rw (c .before .before .before .before .before .call3 .given .1) (c .before .before .merge .ensures m formed (a .cells .now) (a .tags .now))
 
 same-length-6 : tie.Need-same-length-6
 same-length-6 c = search needs
 
 returns-4 : tie.Need-returns-4
 unfolding ruledOn
-returns-4 c =
+returns-4 c formed fits =
     let a = c .before .before .before .before .before .before .before .before .before .before .before .before .before .before .before .before .before .before .before .args in
     let m = arrays (a .nums) (a .words .now) (a .marks .now) (a .mail .now) (a .flags .now) (a .rows .now) (a .pages .now) (a .frames .now) (a .principals .now) (a .counts .now) in
-    rw (c .on .ensures, c .before .before .before .before .before .before .call4 .given .1) (c .before .before .before .give .ensures m refl (c .before .before .before .before .before .before .before .before .before .before .before .before .before .before .before .before .before .before .before .pre .0) (a .cells .now) (a .tags .now))
+    rw (c .on .ensures, c .before .before .before .before .before .before .call4 .given .1) (c .before .before .before .give .ensures m refl formed (a .cells .now) (a .tags .now))
 
 same-length-7 : tie.Need-same-length-7
 same-length-7 c = search needs
@@ -252,10 +252,10 @@ same-length-8 c = search needs
 
 returns-5 : tie.Need-returns-5
 unfolding ruledOn
-returns-5 c =
+returns-5 c formed fits =
     let a = c .before .before .before .before .before .before .before .before .before .before .before .before .before .before .before .before .before .before .before .before .before .args in
     let m = arrays (a .nums) (a .words .now) (a .marks .now) (a .mail .now) (a .flags .now) (a .rows .now) (a .pages .now) (a .frames .now) (a .principals .now) (a .counts .now) in
-    rw (c .before .before .before .before .before .before .before .before .call5 .given .1) (c .before .before .before .before .revoke .ensures m (c .before .before .before .before .before .before .before .before .before .before .before .before .before .before .before .before .before .before .before .before .before .pre .0) (a .cells .now) (a .tags .now))
+    rw (c .before .before .before .before .before .before .before .before .call5 .given .1) (c .before .before .before .before .revoke .ensures m formed (a .cells .now) (a .tags .now))
 
 same-length-9 : tie.Need-same-length-9
 same-length-9 c = search needs
@@ -268,10 +268,10 @@ same-length-11 c = search needs
 
 returns-6 : tie.Need-returns-6
 unfolding ruledOn
-returns-6 c =
+returns-6 c formed fits =
     let a = c .before .before .before .before .before .before .before .before .before .before .before .before .before .before .before .before .before .before .before .before .args in
     let m = arrays (a .nums) (a .words .now) (a .marks .now) (a .mail .now) (a .flags .now) (a .rows .now) (a .pages .now) (a .frames .now) (a .principals .now) (a .counts .now) in
-    rw (c .before .before .before .before .before .before .before .call6 .given .1) (c .before .before .sweep .ensures m refl (c .before .before .before .before .before .before .before .before .before .before .before .before .before .before .before .before .before .before .before .before .pre .1 .0) (c .before .before .before .before .before .before .before .before .before .before .before .before .before .before .before .before .before .before .before .before .pre .1 .1) (c .before .before .before .before .before .before .before .before .before .before .before .before .before .before .before .before .before .before .before .before .pre .0))
+    rw (c .before .before .before .before .before .before .before .call6 .given .1) (c .before .before .sweep .ensures m refl (fits .0) (fits .1) formed)
 
 same-length-12 : tie.Need-same-length-12
 same-length-12 c = search needs
@@ -293,10 +293,10 @@ same-length-17 c = search needs
 
 returns-7 : tie.Need-returns-7
 unfolding ruledOn
-returns-7 c =
+returns-7 c formed fits =
     let a = c .before .before .before .before .before .before .before .before .before .before .before .before .before .before .before .before .before .before .before .before .before .before .before .before .before .before .before .before .before .before .before .args in
     let m = arrays (a .nums) (a .words .now) (a .marks .now) (a .mail .now) (a .flags .now) (a .rows .now) (a .pages .now) (a .frames .now) (a .principals .now) (a .counts .now) in
-    rw (c .before .before .before .before .before .before .before .before .before .before .before .before .before .before .before .before .before .before .call7 .given .1) (c .before .before .before .before .before .before .before .before .before .before .collect .ensures (a .frames .now) (a .principals .now) (a .counts .now) (c .before .before .before .before .before .before .before .before .before .before .before .before .before .before .before .before .before .before .before .before .before .before .before .before .before .before .before .before .before .before .before .pre .0) (a .cells .now) (a .tags .now))
+    rw (c .before .before .before .before .before .before .before .before .before .before .before .before .before .before .before .before .before .before .call7 .given .1) (c .before .before .before .before .before .before .before .before .before .before .collect .ensures (a .frames .now) (a .principals .now) (a .counts .now) formed (a .cells .now) (a .tags .now))
 
 same-length-18 : tie.Need-same-length-18
 same-length-18 c = search needs
@@ -306,10 +306,10 @@ same-length-19 c = search needs
 
 returns-8 : tie.Need-returns-8
 unfolding ruledOn
-returns-8 c =
+returns-8 c formed fits =
     let a = c .before .before .before .before .before .before .before .before .before .before .before .before .before .before .before .before .before .before .before .before .before .before .args in
     let m = arrays (a .nums) (a .words .now) (a .marks .now) (a .mail .now) (a .flags .now) (a .rows .now) (a .pages .now) (a .frames .now) (a .principals .now) (a .counts .now) in
-    rw (c .on2 .ensures, c .before .before .before .before .before .before .before .before .before .call8 .given .1) (c .before .before .before .before .before .map .ensures m refl refl (c .before .before .before .before .before .before .before .before .before .before .before .before .before .before .before .before .before .before .before .before .before .before .pre .0) (a .cells .now) (a .tags .now))
+    rw (c .on2 .ensures, c .before .before .before .before .before .before .before .before .before .call8 .given .1) (c .before .before .before .before .before .map .ensures m refl refl formed (a .cells .now) (a .tags .now))
 
 same-length-20 : tie.Need-same-length-20
 same-length-20 c = search needs
@@ -322,10 +322,10 @@ same-length-22 c = search needs
 
 returns-9 : tie.Need-returns-9
 unfolding ruledOn
-returns-9 c =
+returns-9 c formed fits =
     let a = c .before .before .before .before .before .before .before .before .before .before .before .before .before .before .before .before .before .before .before .before .before .before .before .args in
     let m = arrays (a .nums) (a .words .now) (a .marks .now) (a .mail .now) (a .flags .now) (a .rows .now) (a .pages .now) (a .frames .now) (a .principals .now) (a .counts .now) in
-    rw (c .on3 .ensures, c .before .before .before .before .before .before .before .before .before .before .call9 .given .1) (c .before .before .before .before .before .unmap .ensures m refl refl refl (c .before .before .before .before .before .before .before .before .before .before .before .before .before .before .before .before .before .before .before .before .before .before .before .pre .0) (a .cells .now) (a .tags .now))
+    rw (c .on3 .ensures, c .before .before .before .before .before .before .before .before .before .before .call9 .given .1) (c .before .before .before .before .before .unmap .ensures m refl refl refl formed (a .cells .now) (a .tags .now))
 
 same-length-23 : tie.Need-same-length-23
 same-length-23 c = search needs
@@ -338,10 +338,10 @@ same-length-25 c = search needs
 
 returns-10 : tie.Need-returns-10
 unfolding ruledOn
-returns-10 c =
+returns-10 c formed fits =
     let a = c .before .before .before .before .before .before .before .before .before .before .before .before .before .before .before .before .before .before .before .before .before .before .before .before .before .args in
     let m = arrays (a .nums) (a .words .now) (a .marks .now) (a .mail .now) (a .flags .now) (a .rows .now) (a .pages .now) (a .frames .now) (a .principals .now) (a .counts .now) in
-    rw (c .on4 .ensures, c .before .before .before .before .before .before .before .before .before .before .before .before .call10 .given .1) (c .before .before .before .before .before .before .before .zero .ensures m refl (c .before .before .before .before .before .before .before .before .before .before .before .before .before .before .before .before .before .before .before .before .before .before .before .before .before .pre .1 .0) (c .before .before .before .before .before .before .before .before .before .before .before .before .before .before .before .before .before .before .before .before .before .before .before .before .before .pre .1 .1) (c .before .before .before .before .before .before .before .before .before .before .before .before .before .before .before .before .before .before .before .before .before .before .before .before .before .pre .0))
+    rw (c .on4 .ensures, c .before .before .before .before .before .before .before .before .before .before .before .before .call10 .given .1) (c .before .before .before .before .before .before .before .zero .ensures m refl (fits .0) (fits .1) formed)
 
 same-length-26 : tie.Need-same-length-26
 same-length-26 c = search needs
@@ -360,10 +360,10 @@ same-length-30 c = search needs
 
 returns-11 : tie.Need-returns-11
 unfolding ruledOn
-returns-11 c =
+returns-11 c formed fits =
     let a = c .before .before .before .before .before .before .before .before .before .before .before .before .before .before .before .before .before .before .before .before .before .before .before .before .before .args in
     let m = arrays (a .nums) (a .words .now) (a .marks .now) (a .mail .now) (a .flags .now) (a .rows .now) (a .pages .now) (a .frames .now) (a .principals .now) (a .counts .now) in
-    rw (c .on5 .ensures, c .before .before .before .before .before .before .before .before .before .before .before .before .call11 .given .1) (c .before .before .before .before .before .load .ensures m refl refl (c .before .before .before .before .before .before .before .before .before .before .before .before .before .before .before .before .before .before .before .before .before .before .before .before .before .pre .0))
+    rw (c .on5 .ensures, c .before .before .before .before .before .before .before .before .before .before .before .before .call11 .given .1) (c .before .before .before .before .before .load .ensures m refl refl formed)
 
 same-length-31 : tie.Need-same-length-31
 same-length-31 c = search needs
@@ -382,10 +382,10 @@ same-length-35 c = search needs
 
 returns-12 : tie.Need-returns-12
 unfolding ruledOn
-returns-12 c =
+returns-12 c formed fits =
     let a = c .before .before .before .before .before .before .before .before .before .before .before .before .before .before .before .before .before .before .before .before .before .before .before .before .before .args in
     let m = arrays (a .nums) (a .words .now) (a .marks .now) (a .mail .now) (a .flags .now) (a .rows .now) (a .pages .now) (a .frames .now) (a .principals .now) (a .counts .now) in
-    rw (c .on6 .ensures, c .before .before .before .before .before .before .before .before .before .before .before .before .call12 .given .1) (c .before .before .before .before .before .store .ensures m refl refl refl refl (c .before .before .before .before .before .before .before .before .before .before .before .before .before .before .before .before .before .before .before .before .before .before .before .before .before .pre .0))
+    rw (c .on6 .ensures, c .before .before .before .before .before .before .before .before .before .before .before .before .call12 .given .1) (c .before .before .before .before .before .store .ensures m refl refl refl refl formed)
 
 same-length-36 : tie.Need-same-length-36
 same-length-36 c = search needs
@@ -395,10 +395,10 @@ same-length-37 c = search needs
 
 returns-13 : tie.Need-returns-13
 unfolding ruledOn
-returns-13 c =
+returns-13 c formed fits =
     let a = c .before .before .before .before .before .before .before .before .before .before .before .before .before .before .before .before .before .before .before .before .before .before .args in
     let m = arrays (a .nums) (a .words .now) (a .marks .now) (a .mail .now) (a .flags .now) (a .rows .now) (a .pages .now) (a .frames .now) (a .principals .now) (a .counts .now) in
-    rw (c .on7 .ensures, c .before .before .before .before .before .before .before .before .before .call13 .given .1) (c .before .before .before .before .before .narrow .ensures m (c .before .before .before .before .before .before .before .before .before .before .before .before .before .before .before .before .before .before .before .before .before .before .pre .0) (a .cells .now) (a .tags .now))
+    rw (c .on7 .ensures, c .before .before .before .before .before .before .before .before .before .call13 .given .1) (c .before .before .before .before .before .narrow .ensures m formed (a .cells .now) (a .tags .now))
 
 same-length-38 : tie.Need-same-length-38
 same-length-38 c = search needs
@@ -408,10 +408,10 @@ same-length-39 c = search needs
 
 returns-14 : tie.Need-returns-14
 unfolding ruledOn
-returns-14 c =
+returns-14 c formed fits =
     let a = c .before .before .before .before .before .before .before .before .before .before .before .before .before .before .before .before .before .before .before .before .before .before .args in
     let m = arrays (a .nums) (a .words .now) (a .marks .now) (a .mail .now) (a .flags .now) (a .rows .now) (a .pages .now) (a .frames .now) (a .principals .now) (a .counts .now) in
-    rw (c .on8 .ensures, c .before .before .before .before .before .before .before .before .before .call14 .given .1) (c .before .before .before .before .before .number .ensures m (c .before .before .before .before .before .before .before .before .before .before .before .before .before .before .before .before .before .before .before .before .before .before .pre .0) (a .cells .now) (a .tags .now))
+    rw (c .on8 .ensures, c .before .before .before .before .before .before .before .before .before .call14 .given .1) (c .before .before .before .before .before .number .ensures m formed (a .cells .now) (a .tags .now))
 
 same-length-40 : tie.Need-same-length-40
 same-length-40 c = search needs
@@ -427,10 +427,10 @@ same-length-43 c = search needs
 
 returns-15 : tie.Need-returns-15
 unfolding ruledOn
-returns-15 c =
+returns-15 c formed fits =
     let a = c .before .before .before .before .before .before .before .before .before .before .before .before .before .before .before .before .before .before .before .before .before .before .before .before .args in
     let m = arrays (a .nums) (a .words .now) (a .marks .now) (a .mail .now) (a .flags .now) (a .rows .now) (a .pages .now) (a .frames .now) (a .principals .now) (a .counts .now) in
-    rw (c .on9 .ensures, c .before .before .before .before .before .before .before .before .before .before .before .call15 .given .1) (c .before .before .before .before .before .grant .ensures m (c .before .before .before .before .before .before .before .before .before .before .before .before .before .before .before .before .before .before .before .before .before .before .before .before .pre .0) (a .cells .now) (a .tags .now))
+    rw (c .on9 .ensures, c .before .before .before .before .before .before .before .before .before .before .before .call15 .given .1) (c .before .before .before .before .before .grant .ensures m formed (a .cells .now) (a .tags .now))
 
 same-length-44 : tie.Need-same-length-44
 same-length-44 c = search needs
@@ -446,10 +446,10 @@ same-length-47 c = search needs
 
 returns-16 : tie.Need-returns-16
 unfolding ruledOn
-returns-16 c =
+returns-16 c formed fits =
     let a = c .before .before .before .before .before .before .before .before .before .before .before .before .before .before .before .before .before .before .before .before .before .before .before .before .before .before .before .before .args in
     let m = arrays (a .nums) (a .words .now) (a .marks .now) (a .mail .now) (a .flags .now) (a .rows .now) (a .pages .now) (a .frames .now) (a .principals .now) (a .counts .now) in
-    rw (c .on10 .ensures, c .before .before .before .before .before .before .before .before .before .before .before .before .before .before .before .call16 .given .1) (c .before .before .before .before .before .before .before .before .before .receive .ensures m (c .before .before .before .before .before .before .before .before .before .before .before .before .before .before .before .before .before .before .before .before .before .before .before .before .before .before .before .before .pre .0) (a .cells .now) (a .tags .now))
+    rw (c .on10 .ensures, c .before .before .before .before .before .before .before .before .before .before .before .before .before .before .before .call16 .given .1) (c .before .before .before .before .before .before .before .before .before .receive .ensures m formed (a .cells .now) (a .tags .now))
 
 same-length-48 : tie.Need-same-length-48
 same-length-48 c = search needs
@@ -462,20 +462,20 @@ same-length-50 c = search needs
 
 returns-17 : tie.Need-returns-17
 unfolding ruledOn
-returns-17 c =
+returns-17 c formed fits =
     let a = c .before .before .before .before .before .before .before .before .before .before .before .before .before .before .before .before .before .before .before .before .before .before .before .before .args in
     let m = arrays (a .nums) (a .words .now) (a .marks .now) (a .mail .now) (a .flags .now) (a .rows .now) (a .pages .now) (a .frames .now) (a .principals .now) (a .counts .now) in
-    rw (c .before .before .before .before .before .before .before .before .before .before .before .call17 .given .1) (c .before .before .before .before .before .before .take2 .ensures m (c .before .before .before .before .before .before .before .before .before .before .before .before .before .before .before .before .before .before .before .before .before .before .before .before .pre .0) (a .cells .now) (a .tags .now))
+    rw (c .before .before .before .before .before .before .before .before .before .before .before .call17 .given .1) (c .before .before .before .before .before .before .take2 .ensures m formed (a .cells .now) (a .tags .now))
 
 same-length-51 : tie.Need-same-length-51
 same-length-51 c = search needs
 
 returns-18 : tie.Need-returns-18
 unfolding ruledOn
-returns-18 c =
+returns-18 c formed fits =
     let a = c .before .before .before .before .before .before .before .before .before .before .before .before .before .before .before .before .before .before .before .args in
     let m = arrays (a .nums) (a .words .now) (a .marks .now) (a .mail .now) (a .flags .now) (a .rows .now) (a .pages .now) (a .frames .now) (a .principals .now) (a .counts .now) in
-    rw (c .on11 .ensures, c .before .before .before .before .before .before .call18 .given .1) (c .before .before .before .create .ensures (a .nums .v) (a .counts .now) m refl (c .before .before .before .before .before .before .before .before .before .before .before .before .before .before .before .before .before .before .before .pre .0) (a .cells .now) (a .tags .now))
+    rw (c .on11 .ensures, c .before .before .before .before .before .before .call18 .given .1) (c .before .before .before .create .ensures (a .nums .v) (a .counts .now) m refl formed (a .cells .now) (a .tags .now))
 
 same-length-52 : tie.Need-same-length-52
 same-length-52 c = search needs
@@ -485,10 +485,10 @@ same-length-53 c = search needs
 
 returns-19 : tie.Need-returns-19
 unfolding ruledOn
-returns-19 c =
+returns-19 c formed fits =
     let a = c .before .before .before .before .before .before .before .before .before .before .before .before .before .before .before .before .before .before .before .before .before .before .args in
     let m = arrays (a .nums) (a .words .now) (a .marks .now) (a .mail .now) (a .flags .now) (a .rows .now) (a .pages .now) (a .frames .now) (a .principals .now) (a .counts .now) in
-    rw (c .on12 .ensures, c .before .before .before .before .before .before .before .before .before .call19 .given .1) (c .before .before .before .before .before .claim .ensures m refl (c .before .before .before .before .before .before .before .before .before .before .before .before .before .before .before .before .before .before .before .before .before .before .pre .0) (a .cells .now) (a .tags .now))
+    rw (c .on12 .ensures, c .before .before .before .before .before .before .before .before .before .call19 .given .1) (c .before .before .before .before .before .claim .ensures m refl formed (a .cells .now) (a .tags .now))
 
 same-length-54 : tie.Need-same-length-54
 same-length-54 c = search needs
@@ -498,10 +498,10 @@ same-length-55 c = search needs
 
 returns-20 : tie.Need-returns-20
 unfolding ruledOn
-returns-20 c =
+returns-20 c formed fits =
     let a = c .before .before .before .before .before .before .before .before .before .before .before .before .before .before .before .before .before .before .before .before .before .before .args in
     let m = arrays (a .nums) (a .words .now) (a .marks .now) (a .mail .now) (a .flags .now) (a .rows .now) (a .pages .now) (a .frames .now) (a .principals .now) (a .counts .now) in
-    rw (c .on13 .ensures, c .before .before .before .before .before .before .before .before .before .call20 .given .1) (c .before .before .before .before .before .release .ensures m refl (c .before .before .before .before .before .before .before .before .before .before .before .before .before .before .before .before .before .before .before .before .before .before .pre .0) (a .cells .now) (a .tags .now))
+    rw (c .on13 .ensures, c .before .before .before .before .before .before .before .before .before .call20 .given .1) (c .before .before .before .before .before .release .ensures m refl formed (a .cells .now) (a .tags .now))
 
 same-length-56 : tie.Need-same-length-56
 same-length-56 c = search needs
@@ -511,10 +511,10 @@ same-length-57 c = search needs
 
 returns-21 : tie.Need-returns-21
 unfolding ruledOn
-returns-21 c =
+returns-21 c formed fits =
     let a = c .before .before .before .before .before .before .before .before .before .before .before .before .before .before .before .before .before .before .before .before .before .before .args in
     let m = arrays (a .nums) (a .words .now) (a .marks .now) (a .mail .now) (a .flags .now) (a .rows .now) (a .pages .now) (a .frames .now) (a .principals .now) (a .counts .now) in
-    rw (c .on14 .ensures, c .before .before .before .before .before .before .before .before .before .call21 .given .1) (c .before .before .before .before .before .destroy .ensures (a .nums .v) m refl (c .before .before .before .before .before .before .before .before .before .before .before .before .before .before .before .before .before .before .before .before .before .before .pre .0) (a .cells .now) (a .tags .now))
+    rw (c .on14 .ensures, c .before .before .before .before .before .before .before .before .before .call21 .given .1) (c .before .before .before .before .before .destroy .ensures (a .nums .v) m refl formed (a .cells .now) (a .tags .now))
 
 pub step-spec : {M : Type 1} → statement M
 step-spec =

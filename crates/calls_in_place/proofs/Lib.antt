@@ -1,0 +1,13 @@
+pub mod Reading
+pub mod Loading
+pub mod Early
+pub mod Claiming
+pub mod Mapping
+pub mod Tabling
+pub mod Revoking
+pub mod Sweeping
+pub mod Cached
+pub mod Narrowing
+pub mod Mailing
+pub mod Storing
+pub mod Collecting

@@ -1,0 +1,72 @@
+// 07: a revocation ends.
+use crate::Stepped;
+use crate::word_calls::granted;
+use crate::word_calls::refused;
+use arrays::Numbers;
+use capabilities::Range;
+use capabilities::refusal::first;
+use pages::lent::fill;
+use reservations::collected_row;
+use table::find::put_row;
+use table::find::revoking;
+use table::find::row_in;
+use words::codes::manager_code;
+use words::collecting::collect_mail;
+use words::collecting::collect_words;
+use words::empty;
+ghost use mathlib.Core.Path.{_≡_};
+ghost use Rattle.calls.specs.declared.Call.the-variants.{Collect};
+ghost use Rattle.calls_in_place.specs.Parts.{collectedRows, releasedPages, OnCollect};
+
+// The Revoking row becomes Open.
+fn open_row(rows: &mut [u64], count: usize)
+    ensures { λ _. ⌜ now (rows .exit) ≡ collectedRows (now (rows .entry)) count ⌝ }
+{
+    let found = revoking(rows, count);
+    let row = row_in(rows, count, found);
+    put_row(rows, found, collected_row(row));
+}
+
+// The pages of a range become Unmapped.
+fn release(pages: &mut [u16], range: Range)
+    ensures { λ _. ⌜ now (pages .exit) ≡ releasedPages range (now (pages .entry)) ⌝ }
+{
+    let from = (range.base / 16) as usize;
+    let upto = from + (range.length / 16) as usize;
+    fill(pages, from, upto, 0);
+}
+
+// 07. The range is kept beside the table; afterwards none is.
+pub fn collect(
+    mut nums: Numbers,
+    rows: &mut [u64],
+    pages: &mut [u16],
+    words: &[u64],
+    marks: &mut [u8],
+    mail: &mut [u64],
+    flags: &mut [u8],
+    party: u8,
+) -> Stepped
+    ensures { λ r. ⌜ OnCollect nums (now (words .entry)) r (now (marks .entry)) (now (mail .entry)) (now (flags .entry)) (now (rows .entry)) (now (pages .entry)) (now (marks .exit)) (now (mail .exit)) (now (flags .exit)) (now (rows .exit)) (now (pages .exit)) (Collect party) ⌝ }
+{
+    let end = 16 * (nums.f as u32);
+    let none = nums.length == 0;
+    let code = manager_code(party, first(11, none | !(end <= nums.place), 0));
+    if code != 0 {
+        let answer = refused(code);
+        return Stepped { answer, nums };
+    }
+    let range = Range {
+        base: nums.base,
+        length: nums.length,
+    };
+    collect_words(range, words, marks);
+    collect_mail(range, mail, flags);
+    release(pages, range);
+    open_row(rows, nums.count);
+    nums.base = 0;
+    nums.length = 0;
+    nums.place = 0;
+    let answer = granted(empty());
+    Stepped { answer, nums }
+}
