@@ -139,10 +139,11 @@ static inline const char *cetomuhi_refusal_words(uint64_t code) {
 /* A command's word: "take" for 0x01. */
 static inline const char *cetomuhi_kind_word(uint64_t kind) {
     static const char *const words[] = {
-        "no command", "take",    "split",   "merge", "give",    "revoke",
-        "sweep",      "collect", "map",     "unmap", "zero",    "load",
-        "store",      "narrow",  "number",  "grant", "receive", "take masked",
-        "create",     "claim",   "release", "destroy",
+        /* Made by tools/kinds: the words. */
+        "no command", "take", "split", "merge", "give", "revoke", "sweep", "collect", "map",
+        "unmap", "zero", "load", "store", "narrow", "number", "grant", "receive", "take masked",
+        "create", "claim", "release", "destroy",
+        /* End of the words. */
     };
     return kind < sizeof words / sizeof words[0] ? words[kind] : words[0];
 }
@@ -348,6 +349,7 @@ static inline cetomuhi_call cetomuhi_call_of(uint64_t kind, uint64_t party, uint
     return call;
 }
 
+/* Made by tools/kinds: the functions, but for the comments above them. */
 /* The capability may load and store numbers: permissions 3. */
 static inline cetomuhi_call cetomuhi_take(uint64_t party, uint64_t base, uint64_t reg) {
     return cetomuhi_call_of(CETOMUHI_TAKE, party, base, reg, 0);
@@ -425,6 +427,7 @@ static inline cetomuhi_call cetomuhi_release(uint64_t party, uint64_t principal,
 static inline cetomuhi_call cetomuhi_destroy(uint64_t party, uint64_t principal) {
     return cetomuhi_call_of(CETOMUHI_DESTROY, party, principal, 0, 0);
 }
+/* End of the functions. */
 
 /* A call's bytes, first in `out`: their length, or 0 as with cetomuhi_write. */
 static inline size_t cetomuhi_call_write(cetomuhi_call call, uint8_t *out, size_t out_len) {

@@ -1,6 +1,7 @@
 /* Tests of the exported functions themselves: wrong lengths, places and rooms, starts, the test of
  * a state, calls to bytes and back. Calls and histories are in histories.c. */
 #include "check.h"
+#include "widths.h"
 
 /* ---- A state and memory with one entry to spare in each array, so that every length around the
  * right one may be lent ---- */
@@ -287,14 +288,6 @@ static void test_takers(void) {
 
 /* ---- Calls to bytes and back ---- */
 
-/* Widths of the operands, from the document's list of commands. */
-static const uint8_t widths[22][7] = {
-    {0},       {1, 2, 1}, {1, 2, 2}, {1, 2},       {1, 2, 1},    {1, 2},       {1, 2},
-    {1},       {1, 1, 1}, {1, 1},    {1, 1},       {1, 1, 2, 1}, {1, 1, 2, 1}, {1, 1, 2, 2, 1, 1},
-    {1, 1, 8}, {1, 1, 1}, {1, 1},    {1, 2, 1, 1}, /* 11 */
-    {1, 1, 1, 2, 1},      {1, 1, 1}, {1, 1, 1},    {1, 1},
-};
-
 /* Operand i of a call: all zero, the largest, or bytes that differ. */
 static uint64_t operand(unsigned form, size_t i, unsigned width) {
     const uint64_t largest = UINT64_MAX >> (64 - 8 * width);
@@ -369,7 +362,7 @@ static void test_round_trips(void) {
 static void test_no_calls(void) {
     uint8_t out[16] = {0};
     uint64_t numbers[8] = {CETOMUHI_COLLECT, 0, 0, 0, 0, 0, 0, 5};
-    const uint64_t kinds[] = {0, 22, 255, 256, 257, UINT64_MAX};
+    const uint64_t kinds[] = {0, COUNT(widths), 255, 256, 257, UINT64_MAX};
     for (size_t i = 0; i < COUNT(kinds); i++) {
         const cetomuhi_call call = {{kinds[i], 0, 0, 0, 0, 0, 0}};
         const uint8_t byte[12] = {(uint8_t)kinds[i]};

@@ -254,7 +254,7 @@ REFUSED = [
     ("14 03 01 01", "principal 1 does not claim the page"),
     ("09 00 00", "the page has a claim"),
     ("15 03 01", "there is no such principal, or party 3 does not hold its parent"),
-    ("16", "16 is no command"),
+    ("FF", "FF is no command"),
 ]
 
 

@@ -88,7 +88,7 @@ class Words(unittest.TestCase):
     def test_where_a_session_ends(self):
         start = "start with V 1 and F 1"
         self.assertEqual(self.words("0001"), ["start, cut short"])
-        self.assertEqual(self.words("000101 16 0700"), [start, "16 is no command"])
+        self.assertEqual(self.words("000101 FF 0700"), [start, "FF is no command"])
         self.assertEqual(self.words("000101 0B 00"), [start, "the input ends within command 0B"])
         for cut in ("11 00 0000 00", "12 00 00 01 0000", "13 00 00", "14 00 00", "15 00"):
             words = self.words(f"000101 {cut}")

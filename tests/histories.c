@@ -4,6 +4,7 @@
  *
  *   histories [ROUNDS]    ROUNDS random histories, 200 if not given */
 #include "expect.h"
+#include "widths.h"
 
 /* ---- Document 01's session ---- */
 
@@ -181,7 +182,7 @@ static void lend_nothing(cetomuhi_machine *machine) {
     refuse(machine, cetomuhi_take(0, 65536, 0), CETOMUHI_REFUSED_NO_COMMAND);
     refuse(machine, cetomuhi_take_masked(0, 0, 0, 256), CETOMUHI_REFUSED_NO_COMMAND);
     refuse(machine, cetomuhi_create(0, 0, 1, 65536, 0), CETOMUHI_REFUSED_NO_COMMAND);
-    refuse(machine, cetomuhi_call_of(22, 0, 0, 0, 0), CETOMUHI_REFUSED_NO_COMMAND);
+    refuse(machine, cetomuhi_call_of(COUNT(widths), 0, 0, 0, 0), CETOMUHI_REFUSED_NO_COMMAND);
 }
 
 /* 4 and 5. */
@@ -382,7 +383,7 @@ static cetomuhi_call random_claim(const cetomuhi_state *state, uint64_t kind) {
 
 /* A call that is often granted on the state: it names a reservation by its base and holder. */
 static cetomuhi_call random_call(const cetomuhi_state *state) {
-    const uint64_t kind = below(40) ? 1 + below(21) : below(25);
+    const uint64_t kind = below(40) ? 1 + below(COUNT(widths) - 1) : below(COUNT(widths) + 3);
     if (kind >= CETOMUHI_CREATE && kind <= CETOMUHI_DESTROY)
         return random_claim(state, kind);
     const cetomuhi_reservation row =

@@ -5,7 +5,7 @@ use crate::lent::{written, Lent};
 use crate::operands;
 use crate::plain::claims::PRINCIPALS;
 use crate::plain::table::{NOBODY, ROWS, SEVERAL};
-use crate::plain::{read, Action, Call, Memory, State};
+use crate::plain::{read, Action, Call, Memory, State, KINDS};
 
 /// Well-formed states of several sizes with their memory, from generated calls.
 pub fn sound_states(random: &mut Random, count: usize) -> Vec<Lent> {
@@ -233,7 +233,7 @@ fn other_row(random: &mut Random, row: u64) -> u64 {
 /// A few commands, most of whose operands the state may grant, or some forty bytes of any sort.
 pub fn bytes(random: &mut Random, lent: &Lent) -> Box<[u8]> {
     if random.one_in(3) {
-        let below = *random.pick(&[4, 22, 64, 256]);
+        let below = *random.pick(&[4, KINDS + 1, 64, 256]);
         let count = random.below(40);
         return (0..count).map(|_| random.below(below) as u8).collect();
     }
@@ -250,7 +250,7 @@ pub fn bytes(random: &mut Random, lent: &Lent) -> Box<[u8]> {
 fn likely_command(random: &mut Random, lent: &Lent) -> Vec<u8> {
     let rows = 1 + random.below(lent.numbers.get(2).map_or(1, |count| 1 + *count as usize));
     let row = lent.rows.get(random.below(rows)).copied().unwrap_or(0);
-    let command = 1 + random.below(21) as u64;
+    let command = 1 + random.below(KINDS) as u64;
     let mut numbers = [command, 0, 0, 0, 0, 0, 0];
     match command {
         0x12.. => return claiming_command(random, lent, command),

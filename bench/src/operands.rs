@@ -1,29 +1,6 @@
 //! Commands as seven numbers, by the documents' lists: the command, its operands, 0 after them.
 
-/// The bytes of each operand of commands 01 to 15, the party's first.
-const WIDTHS: [&[usize]; 21] = [
-    &[1, 2, 1],
-    &[1, 2, 2],
-    &[1, 2],
-    &[1, 2, 1],
-    &[1, 2],
-    &[1, 2],
-    &[1],
-    &[1, 1, 1],
-    &[1, 1],
-    &[1, 1],
-    &[1, 1, 2, 1],
-    &[1, 1, 2, 1],
-    &[1, 1, 2, 2, 1, 1],
-    &[1, 1, 8],
-    &[1, 1, 1],
-    &[1, 1],
-    &[1, 2, 1, 1],
-    &[1, 1, 1, 2, 1],
-    &[1, 1, 1],
-    &[1, 1, 1],
-    &[1, 1],
-];
+use crate::plain::kinds::WIDTHS;
 
 fn widths(command: u64) -> Option<&'static [usize]> {
     WIDTHS.get(usize::try_from(command).ok()?.checked_sub(1)?).copied()
@@ -62,11 +39,11 @@ pub fn bytes(numbers: &[u64]) -> Option<Vec<u8>> {
 #[cfg(test)]
 mod tests {
     use super::*;
-    use crate::plain::read;
+    use crate::plain::{read, KINDS};
 
     #[test]
     fn numbers_and_bytes_undo_each_other() {
-        for command in 0..=22 {
+        for command in 0..=KINDS as u8 + 1 {
             let input: Vec<u8> = (0..11).map(|place| command + 23 * place).collect();
             let found = numbers(&input);
             assert_eq!(found.map(|(_, length)| length), read(&input).map(|(_, length)| length));

@@ -3,7 +3,9 @@
 mod claims;
 
 use crate::plain::table::{Standing, ROWS};
-use crate::plain::{capability as cap, read, Action, Answer, Call, Memory, State, INPUT_LIMIT};
+use crate::plain::{
+    capability as cap, read, Action, Answer, Call, Memory, State, INPUT_LIMIT, KINDS,
+};
 use std::collections::BTreeMap;
 use std::fmt;
 
@@ -14,7 +16,7 @@ pub struct Tally {
     /// Answers by code, those of starts included.
     pub codes: [u64; 23],
     /// Commands granted, by the command's number.
-    pub granted: [u64; 22],
+    pub granted: [u64; KINDS + 1],
     /// Capabilities that loads put into a register: with their tag, without permission 4 for it, and
     /// with permission 4 but dying.
     pub loaded: u64,

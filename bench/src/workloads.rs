@@ -44,7 +44,7 @@ pub fn sweep(cells: Cells, count: u16) -> Vec<u8> {
         session.call(0, Action::Store { a: 0, off, s });
     }
     session.call(0, Action::Revoke { base: SWEPT_CELLS });
-    session.call(0, Action::Sweep { count });
+    session.call(0, Action::Sweep { n: count });
     session.bytes
 }
 
@@ -64,7 +64,7 @@ pub fn kinds() -> Vec<(&'static str, Vec<u8>)> {
     let map = Action::Map { page: 1, frame: 1 };
     let unmap = Action::Unmap { page: 1 };
     let revoke = Action::Revoke { base: 16 };
-    let sweep = Action::Sweep { count: 0xFFFF };
+    let sweep = Action::Sweep { n: 0xFFFF };
     let narrow = Action::Narrow { s: 0, off: 1, len: 4, mask: 15, d: 3 };
     let split = |base| Action::Split { base, len: 1 };
     let merge = |base| Action::Merge { base };

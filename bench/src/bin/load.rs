@@ -7,7 +7,7 @@
 use cetomuhi::{Machine, ANSWER_NUMBERS};
 use cetomuhi_bench::generate::{Author, Random};
 use cetomuhi_bench::lent::written;
-use cetomuhi_bench::plain::{self, Memory};
+use cetomuhi_bench::plain::{self, Memory, KINDS};
 use std::process::ExitCode;
 
 /// The two machines, over memory that begins with the same random content.
@@ -18,7 +18,7 @@ struct Load {
     library: Machine,
     random: Random,
     codes: [u64; 23],
-    granted: [u64; 22],
+    granted: [u64; KINDS + 1],
     commands: u64,
     places: u64,
     differences: u64,
@@ -62,7 +62,7 @@ impl Load {
         let tags: Vec<u8> = (0..lent).map(|_| random.number() as u8).collect();
         let state = cetomuhi::State::start(v.into(), f.into()).expect("V and F are in range");
         let library = Machine::of(state, cells.clone(), tags.clone());
-        let (codes, granted) = ([0; 23], [0; 22]);
+        let (codes, granted) = ([0; 23], [0; KINDS + 1]);
         let (commands, places, differences) = (0, 0, 0);
         Load { plain, cells, tags, library, random, codes, granted, commands, places, differences }
     }

@@ -55,7 +55,7 @@ impl Author {
             0x03 => Action::Merge { base: self.any_base() },
             0x04 => Action::Give { base: self.any_base(), to: self.any_register() },
             0x05 => Action::Revoke { base: self.any_base() },
-            0x06 => Action::Sweep { count: self.any_length() },
+            0x06 => Action::Sweep { n: self.any_length() },
             0x07 => Action::Collect,
             0x08 => Action::Map { page: self.any_page(), frame: self.any_frame() },
             0x09 => Action::Unmap { page: self.any_page() },

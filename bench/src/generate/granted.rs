@@ -6,7 +6,7 @@ use crate::plain::capability as cap;
 use crate::plain::pages::{Frame, FrameUse, Page, CELLS_A_PAGE};
 use crate::plain::state::Revocation;
 use crate::plain::table::{Reservation, Standing, ROWS};
-use crate::plain::{Action, Call};
+use crate::plain::{Action, Call, KINDS};
 
 /// What the calls of a stretch are mostly about.
 #[derive(Clone, Copy)]
@@ -33,33 +33,32 @@ impl Mood {
         }
     }
 
-    /// How often each of the twenty-one commands is tried, in the order of their numbers.
-    fn weights(self) -> [u8; 21] {
+    /// How often each command is tried, in the order of their numbers; one behind the list once.
+    fn weights(self) -> &'static [u8] {
         match self {
-            Mood::Settling => [2, 8, 0, 6, 0, 2, 2, 9, 0, 9, 2, 3, 2, 2, 2, 2, 4, 1, 2, 1, 0],
-            Mood::Mixed => [2, 3, 2, 3, 3, 6, 6, 6, 1, 6, 14, 16, 8, 6, 6, 8, 3, 2, 5, 5, 1],
-            Mood::Splitting => [1, 60, 1, 4, 0, 1, 1, 2, 0, 2, 3, 3, 2, 2, 1, 1, 1, 0, 1, 1, 0],
-            Mood::Merging => [1, 3, 40, 8, 2, 2, 2, 2, 1, 2, 2, 2, 2, 2, 1, 1, 1, 0, 1, 1, 0],
-            Mood::Mailing => [1, 1, 1, 1, 0, 1, 1, 1, 0, 1, 4, 6, 12, 3, 40, 20, 2, 0, 1, 1, 0],
-            Mood::Storing => [1, 0, 0, 0, 0, 1, 1, 3, 0, 3, 30, 40, 8, 6, 2, 2, 2, 0, 1, 1, 0],
-            Mood::Revoking => [1, 1, 1, 1, 12, 8, 4, 5, 0, 5, 12, 40, 4, 1, 5, 6, 3, 0, 1, 2, 0],
-            Mood::Founding => [1, 1, 0, 1, 0, 1, 1, 2, 0, 2, 1, 1, 0, 0, 0, 0, 1, 60, 12, 3, 1],
-            Mood::Claiming => [1, 1, 1, 1, 1, 2, 2, 5, 2, 5, 2, 2, 1, 1, 1, 1, 1, 16, 40, 24, 4],
+            Mood::Settling => &[2, 8, 0, 6, 0, 2, 2, 9, 0, 9, 2, 3, 2, 2, 2, 2, 4, 1, 2, 1, 0],
+            Mood::Mixed => &[2, 3, 2, 3, 3, 6, 6, 6, 1, 6, 14, 16, 8, 6, 6, 8, 3, 2, 5, 5, 1],
+            Mood::Splitting => &[1, 60, 1, 4, 0, 1, 1, 2, 0, 2, 3, 3, 2, 2, 1, 1, 1, 0, 1, 1, 0],
+            Mood::Merging => &[1, 3, 40, 8, 2, 2, 2, 2, 1, 2, 2, 2, 2, 2, 1, 1, 1, 0, 1, 1, 0],
+            Mood::Mailing => &[1, 1, 1, 1, 0, 1, 1, 1, 0, 1, 4, 6, 12, 3, 40, 20, 2, 0, 1, 1, 0],
+            Mood::Storing => &[1, 0, 0, 0, 0, 1, 1, 3, 0, 3, 30, 40, 8, 6, 2, 2, 2, 0, 1, 1, 0],
+            Mood::Revoking => &[1, 1, 1, 1, 12, 8, 4, 5, 0, 5, 12, 40, 4, 1, 5, 6, 3, 0, 1, 2, 0],
+            Mood::Founding => &[1, 1, 0, 1, 0, 1, 1, 2, 0, 2, 1, 1, 0, 0, 0, 0, 1, 60, 12, 3, 1],
+            Mood::Claiming => &[1, 1, 1, 1, 1, 2, 2, 5, 2, 5, 2, 2, 1, 1, 1, 1, 1, 16, 40, 24, 4],
         }
     }
 
     fn command(self, random: &mut Random) -> usize {
-        let weights = self.weights();
-        let total: usize = weights.iter().map(|weight| usize::from(*weight)).sum();
-        let mut left = random.below(total);
-        for (index, weight) in weights.iter().enumerate() {
-            let weight = usize::from(*weight);
+        let listed = self.weights();
+        let weights = (0..KINDS).map(|index| usize::from(listed.get(index).copied().unwrap_or(1)));
+        let mut left = random.below(weights.clone().sum());
+        for (index, weight) in weights.enumerate() {
             if left < weight {
                 return index + 1;
             }
             left -= weight;
         }
-        weights.len()
+        KINDS
     }
 }
 
@@ -106,7 +105,8 @@ impl Author {
             0x12 => self.create(),
             0x13 => self.claim(),
             0x14 => self.release(),
-            _ => self.destroy(),
+            0x15 => self.destroy(),
+            _ => None,
         }
     }
 
@@ -234,7 +234,7 @@ impl Author {
             true => self.count_to_a_dying_cell(running).unwrap_or(any),
             false => any,
         };
-        by(0, Action::Sweep { count: count as u16 })
+        by(0, Action::Sweep { n: count as u16 })
     }
 
     /// The count of a sweep that ends right before or right after a cell to be cleared.

@@ -1,180 +1,11 @@
-//! The twenty-one kinds of call, read from bytes and written to them.
+//! A call by a party. Its kinds, and their bytes, are in `kinds`.
+
+pub use super::kinds::{read, Action, KINDS};
 
 #[derive(Clone, Copy, Debug, PartialEq, Eq)]
 pub struct Call {
     pub party: u8,
     pub action: Action,
-}
-
-#[derive(Clone, Copy, Debug, PartialEq, Eq)]
-pub enum Action {
-    Take { base: u16, reg: u8 },
-    Split { base: u16, len: u16 },
-    Merge { base: u16 },
-    Give { base: u16, to: u8 },
-    Revoke { base: u16 },
-    Sweep { count: u16 },
-    Collect,
-    Map { page: u8, frame: u8 },
-    Unmap { page: u8 },
-    Zero { frame: u8 },
-    Load { a: u8, off: u16, d: u8 },
-    Store { a: u8, off: u16, s: u8 },
-    Narrow { s: u8, off: u16, len: u16, mask: u8, d: u8 },
-    Number { d: u8, value: u64 },
-    Grant { s: u8, to: u8 },
-    Receive { d: u8 },
-    TakeMasked { base: u16, reg: u8, mask: u8 },
-    Create { parent: u8, child: u8, limit: u16, holder: u8 },
-    Claim { principal: u8, page: u8 },
-    Release { principal: u8, page: u8 },
-    Destroy { principal: u8 },
-}
-
-/// The call at the input's beginning and its length in bytes. None is refusal 3.
-#[inline]
-pub fn read(input: &[u8]) -> Option<(Call, usize)> {
-    let (&command, rest) = input.split_first()?;
-    let two = |high, low| u16::from_be_bytes([high, low]);
-    let (party, action, operands) = match command {
-        0x01 => {
-            let &[p, b1, b0, reg] = rest.first_chunk()?;
-            let base = two(b1, b0);
-            (p, Action::Take { base, reg }, 4)
-        }
-        0x02 => {
-            let &[p, b1, b0, l1, l0] = rest.first_chunk()?;
-            let (base, len) = (two(b1, b0), two(l1, l0));
-            (p, Action::Split { base, len }, 5)
-        }
-        0x03 => {
-            let &[p, b1, b0] = rest.first_chunk()?;
-            let base = two(b1, b0);
-            (p, Action::Merge { base }, 3)
-        }
-        0x04 => {
-            let &[p, b1, b0, to] = rest.first_chunk()?;
-            let base = two(b1, b0);
-            (p, Action::Give { base, to }, 4)
-        }
-        0x05 => {
-            let &[p, b1, b0] = rest.first_chunk()?;
-            let base = two(b1, b0);
-            (p, Action::Revoke { base }, 3)
-        }
-        0x06 => {
-            let &[p, n1, n0] = rest.first_chunk()?;
-            let count = two(n1, n0);
-            (p, Action::Sweep { count }, 3)
-        }
-        0x07 => {
-            let &[p] = rest.first_chunk()?;
-            (p, Action::Collect, 1)
-        }
-        0x08 => {
-            let &[p, page, frame] = rest.first_chunk()?;
-            (p, Action::Map { page, frame }, 3)
-        }
-        0x09 => {
-            let &[p, page] = rest.first_chunk()?;
-            (p, Action::Unmap { page }, 2)
-        }
-        0x0A => {
-            let &[p, frame] = rest.first_chunk()?;
-            (p, Action::Zero { frame }, 2)
-        }
-        0x0B => {
-            let &[p, a, o1, o0, d] = rest.first_chunk()?;
-            let off = two(o1, o0);
-            (p, Action::Load { a, off, d }, 5)
-        }
-        0x0C => {
-            let &[p, a, o1, o0, s] = rest.first_chunk()?;
-            let off = two(o1, o0);
-            (p, Action::Store { a, off, s }, 5)
-        }
-        0x0D => {
-            let &[p, s, o1, o0, l1, l0, mask, d] = rest.first_chunk()?;
-            let (off, len) = (two(o1, o0), two(l1, l0));
-            (p, Action::Narrow { s, off, len, mask, d }, 8)
-        }
-        0x0E => {
-            let &[p, d, ref value @ ..] = rest.first_chunk::<10>()?;
-            let value = u64::from_be_bytes(*value);
-            (p, Action::Number { d, value }, 10)
-        }
-        0x0F => {
-            let &[p, s, to] = rest.first_chunk()?;
-            (p, Action::Grant { s, to }, 3)
-        }
-        0x10 => {
-            let &[p, d] = rest.first_chunk()?;
-            (p, Action::Receive { d }, 2)
-        }
-        0x11 => {
-            let &[p, b1, b0, reg, mask] = rest.first_chunk()?;
-            let base = two(b1, b0);
-            (p, Action::TakeMasked { base, reg, mask }, 5)
-        }
-        0x12 => {
-            let &[p, parent, child, l1, l0, holder] = rest.first_chunk()?;
-            let limit = two(l1, l0);
-            (p, Action::Create { parent, child, limit, holder }, 6)
-        }
-        0x13 => {
-            let &[p, principal, page] = rest.first_chunk()?;
-            (p, Action::Claim { principal, page }, 3)
-        }
-        0x14 => {
-            let &[p, principal, page] = rest.first_chunk()?;
-            (p, Action::Release { principal, page }, 3)
-        }
-        0x15 => {
-            let &[p, principal] = rest.first_chunk()?;
-            (p, Action::Destroy { principal }, 2)
-        }
-        _ => return None,
-    };
-    Some((Call { party, action }, 1 + operands))
-}
-
-impl Call {
-    /// Appends the call's bytes.
-    pub fn write(&self, out: &mut Vec<u8>) {
-        let mut put = |command: u8, operands: &[&[u8]]| {
-            out.extend_from_slice(&[command, self.party]);
-            out.extend(operands.iter().copied().flatten());
-        };
-        match self.action {
-            Action::Take { base, reg } => put(0x01, &[&base.to_be_bytes(), &[reg]]),
-            Action::Split { base, len } => put(0x02, &[&base.to_be_bytes(), &len.to_be_bytes()]),
-            Action::Merge { base } => put(0x03, &[&base.to_be_bytes()]),
-            Action::Give { base, to } => put(0x04, &[&base.to_be_bytes(), &[to]]),
-            Action::Revoke { base } => put(0x05, &[&base.to_be_bytes()]),
-            Action::Sweep { count } => put(0x06, &[&count.to_be_bytes()]),
-            Action::Collect => put(0x07, &[]),
-            Action::Map { page, frame } => put(0x08, &[&[page, frame]]),
-            Action::Unmap { page } => put(0x09, &[&[page]]),
-            Action::Zero { frame } => put(0x0A, &[&[frame]]),
-            Action::Load { a, off, d } => put(0x0B, &[&[a], &off.to_be_bytes(), &[d]]),
-            Action::Store { a, off, s } => put(0x0C, &[&[a], &off.to_be_bytes(), &[s]]),
-            Action::Narrow { s, off, len, mask, d } => {
-                put(0x0D, &[&[s], &off.to_be_bytes(), &len.to_be_bytes(), &[mask, d]])
-            }
-            Action::Number { d, value } => put(0x0E, &[&[d], &value.to_be_bytes()]),
-            Action::Grant { s, to } => put(0x0F, &[&[s, to]]),
-            Action::Receive { d } => put(0x10, &[&[d]]),
-            Action::TakeMasked { base, reg, mask } => {
-                put(0x11, &[&base.to_be_bytes(), &[reg, mask]])
-            }
-            Action::Create { parent, child, limit, holder } => {
-                put(0x12, &[&[parent, child], &limit.to_be_bytes(), &[holder]])
-            }
-            Action::Claim { principal, page } => put(0x13, &[&[principal, page]]),
-            Action::Release { principal, page } => put(0x14, &[&[principal, page]]),
-            Action::Destroy { principal } => put(0x15, &[&[principal]]),
-        }
-    }
 }
 
 #[cfg(test)]
@@ -183,7 +14,7 @@ mod tests {
 
     #[test]
     fn a_written_call_reads_back_from_its_length_on() {
-        for command in 0x01..=0x15 {
+        for command in 1..=KINDS as u8 {
             let bytes: Vec<u8> = (0..12).map(|i| command + 17 * i).collect();
             let (call, length) = read(&bytes).expect("twelve bytes hold every command");
             let mut written = Vec::new();
@@ -197,6 +28,6 @@ mod tests {
     fn other_first_bytes_are_no_command() {
         assert_eq!(read(&[]), None);
         assert_eq!(read(&[0; 16]), None);
-        assert_eq!(read(&[0x16; 16]), None);
+        assert_eq!(read(&[KINDS as u8 + 1; 16]), None);
     }
 }

@@ -57,7 +57,7 @@ fn listed() -> Vec<Call> {
         each_base(&|base| vec![Action::Merge { base }]),
         each_base(&|base| PARTIES.map(|to| Action::Give { base, to }).to_vec()),
         each_base(&|base| vec![Action::Revoke { base }]),
-        LENGTHS.map(|count| Action::Sweep { count }).to_vec(),
+        LENGTHS.map(|n| Action::Sweep { n }).to_vec(),
         vec![Action::Collect],
         vec![Action::Map { page: 0, frame: 0 }],
         vec![Action::Unmap { page: 0 }],

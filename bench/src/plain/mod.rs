@@ -10,6 +10,8 @@ pub mod capability;
 pub mod claims;
 pub mod cost;
 pub mod histories;
+#[rustfmt::skip]
+pub mod kinds;
 pub mod maps;
 pub mod pages;
 pub mod session;
@@ -18,7 +20,7 @@ pub mod step;
 pub mod table;
 
 pub use answer::{Answer, Refusal};
-pub use call::{read, Action, Call};
+pub use call::{read, Action, Call, KINDS};
 pub use cost::Cost;
 pub use histories::short_histories;
 pub use session::{session, session_checked, session_into, INPUT_LIMIT};

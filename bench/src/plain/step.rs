@@ -103,7 +103,7 @@ impl State {
             Action::Merge { base } => self.merge(p, base),
             Action::Give { base, to } => self.give(p, base, to),
             Action::Revoke { base } => self.revoke(p, base),
-            Action::Sweep { count } => self.sweep(p, count, memory),
+            Action::Sweep { n } => self.sweep(p, n, memory),
             Action::Collect => self.collect(p),
             Action::Map { page, frame } => self.map(p, page, frame),
             Action::Unmap { page } => self.unmap(p, page),

@@ -1,5 +1,5 @@
--- What the table says of each kind: of its calls in a line a kind, of its row in one equation over the whole table. All else
--- follows by laws that hold for every table.
+-- What the table says of each kind: of its calls in a line a kind (`Listed`), of its row in one equation over the whole table. All
+-- else follows by laws that hold for every table.
 use Prim.Native.Nat.{ℕ, zero, suc, _+_, _-_, _≤_, _<_}
 use mathlib.Core.Bool.{Bool, true, false}
 use borrow.Author.Tests.{leb-true, leb-false}
@@ -10,39 +10,10 @@ use lib.ListN.{length, getD, drop, List·getD-eq-default}
 use native.Mathlib.Numerals.{unary-clauses}
 use native.Mathlib.Omega.{arith}
 use Rattle.calls.specs.Bytes.{number, numbersAt, sum}
-use Rattle.calls.specs.Commands.{Command, commands, take-command, lastByte, commandOf, lengthOf, lengths, callAt, partsOf, byteOf, operandsOf}
-use Rattle.calls.specs.declared.Call.{Call}
-use Rattle.calls.specs.declared.Call.the-variants.{Take, Split, Merge, Give, Revoke, Sweep, Collect, Map, Unmap, Zero, Load, Store, Narrow, Number, Grant, Receive, TakeMasked, Create, Claim, Release, Destroy}
-use Rattle.calls.proofs.Bytes.{formed}
-
--- A call is made of its operands again; its command's length is that of the operands and a byte; each operand has a width.
-pub record Listed (c : Call) : Type 0 where
-  pub made : commandOf (byteOf c) .make (λ i. getD (operandsOf c) i 0) ≡ c
-  pub long : lengthOf (byteOf c) ≡ suc (sum (commandOf (byteOf c) .widths))
-  pub shaped : formed (commandOf (byteOf c) .widths) (operandsOf c) ≡ true
-
-pub listed : (c : Call) → Listed c
-listed (Take party base reg) = record { made = refl; long = refl; shaped = refl }
-listed (Split party base len) = record { made = refl; long = refl; shaped = refl }
-listed (Merge party base) = record { made = refl; long = refl; shaped = refl }
-listed (Give party base to) = record { made = refl; long = refl; shaped = refl }
-listed (Revoke party base) = record { made = refl; long = refl; shaped = refl }
-listed (Sweep party n) = record { made = refl; long = refl; shaped = refl }
-listed (Collect party) = record { made = refl; long = refl; shaped = refl }
-listed (Map party page frame) = record { made = refl; long = refl; shaped = refl }
-listed (Unmap party page) = record { made = refl; long = refl; shaped = refl }
-listed (Zero party frame) = record { made = refl; long = refl; shaped = refl }
-listed (Load party a off d) = record { made = refl; long = refl; shaped = refl }
-listed (Store party a off s) = record { made = refl; long = refl; shaped = refl }
-listed (Narrow party s off len mask d) = record { made = refl; long = refl; shaped = refl }
-listed (Number party d value) = record { made = refl; long = refl; shaped = refl }
-listed (Grant party s to) = record { made = refl; long = refl; shaped = refl }
-listed (Receive party d) = record { made = refl; long = refl; shaped = refl }
-listed (TakeMasked party base reg mask) = record { made = refl; long = refl; shaped = refl }
-listed (Create party parent child limit holder) = record { made = refl; long = refl; shaped = refl }
-listed (Claim party principal page) = record { made = refl; long = refl; shaped = refl }
-listed (Release party principal page) = record { made = refl; long = refl; shaped = refl }
-listed (Destroy party principal) = record { made = refl; long = refl; shaped = refl }
+use Rattle.calls.specs.Commands.{Command, commands, take-command, lastByte, commandOf, lengthOf, lengths, callAt}
+use Rattle.calls.specs.Parts.{partsOf}
+pub use Rattle.calls.proofs.Cases.{Listed}
+pub use Rattle.calls.proofs.Listed.{listed}
 
 -- ---- a row
 

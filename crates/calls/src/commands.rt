@@ -1,4 +1,5 @@
-// The one table of commands: the byte of each, and its length with that byte.
+// Made by tools/kinds from the enum of calls: not to be changed here.
+// The byte of each command, and its length with that byte.
 ghost use mathlib.Core.Path.{_≡_};
 ghost use Rattle.calls.specs.Commands.{lengthOf};
 

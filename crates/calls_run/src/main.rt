@@ -1,6 +1,7 @@
 // Reads a call at every place of the input and past its end, and writes it back. A line a place: the place and `3` where nothing is
 // read there; else the call, the bytes it used, the code of writing it and the buffer then, and the codes of reading and writing it
 // cut short at every length. tests/calls_vectors.py works `stdin` and `stdout` out from the documents' lines.
+mod kinds_shown;
 mod show;
 
 use calls::Call;
@@ -87,7 +88,7 @@ fn show_at(input: &[u8], at: usize) {
         Reading::Refused => show::number(3),
         Reading::Read { call, used } => {
             show::space();
-            show::call(call);
+            kinds_shown::call(call);
             show::number(used as u64);
             show_written(call);
             show::space();

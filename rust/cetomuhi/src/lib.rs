@@ -5,7 +5,7 @@
 //! answer for all bytes, numbers and lengths by the rules of document 01, "The reservation machine
 //! of the composition server", with requests 2026-01, 2026-02, 2026-04, 2026-05, 2026-07 and
 //! 2026-11. A [`Machine`] owns its state and memory; a [`State`] is lent memory at every call. A
-//! [`Call`] is one of twenty-one kinds; its [`Answer`] is granted, or one of twenty-two [`Refusal`]s,
+//! [`Call`] is of one of the kinds; its [`Answer`] is granted, or one of twenty-two [`Refusal`]s,
 //! and then nothing has changed. What a page [costs](Cost) those who claim it is asked of a state,
 //! and which reservations [share](State::sharing) cells with a range, lie [within](State::within) it
 //! or are [nearest](State::nearest) to a cell.
@@ -58,6 +58,8 @@ mod answer;
 mod boundary;
 mod call;
 mod cost;
+#[rustfmt::skip]
+mod kinds;
 mod machine;
 mod maps;
 mod refusal;

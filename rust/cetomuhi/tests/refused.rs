@@ -206,7 +206,7 @@ fn bytes_that_are_no_command_are_refused_under_3() {
     for input in [
         &[][..],
         &[0],
-        &[0x16, 0, 0],
+        &[0xFF, 0, 0],
         &[0x12, 0, 0, 1, 0, 0],
         &[0x01, 0, 0, 0],
         &[0x0E, 0, 0, 0, 0, 0, 0, 0, 0, 0],

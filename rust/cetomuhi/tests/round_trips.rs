@@ -1,16 +1,16 @@
 //! Calls and bytes: each undoes the other.
 
+mod widths;
+
 use cetomuhi::{raw, Call, Refusal, CALL_NUMBERS, LONGEST};
 use std::collections::HashSet;
-
-/// The lengths of commands 01 to 10, from document 01's list, of 11, from request 2026-01, and of 12 to
-/// 15, from request 2026-02.
-const LENGTHS: [usize; 21] = [5, 6, 4, 5, 4, 4, 2, 4, 3, 3, 6, 6, 9, 11, 4, 3, 6, 7, 4, 4, 3];
+use widths::WIDTHS;
 
 /// Calls of every kind: bytes 0, bytes 255, and bytes that all differ.
 fn inputs() -> Vec<(Vec<u8>, usize)> {
     let mut inputs = Vec::new();
-    for (command, length) in (1..=21).zip(LENGTHS) {
+    for (command, widths) in (1..).zip(WIDTHS) {
+        let length = 1 + widths.iter().sum::<usize>();
         for operand in [|_| 0, |_| 255, |place: u8| 17 * place + 3] {
             let operands = (1..LONGEST as u8).map(operand);
             inputs.push(([command].into_iter().chain(operands).collect(), length));
@@ -71,7 +71,8 @@ fn numbers_that_are_no_call_are_not_written() {
     is_refused(&collect[..6]);
     is_refused(&[7, 0, 0, 0, 0, 0, 0, 0]);
     is_refused(&[]);
-    for (place, number) in [(0, 0), (0, 22), (0, 263), (1, 256), (2, 1), (6, 1), (1, u64::MAX)] {
+    let past = WIDTHS.len() as u64 + 1;
+    for (place, number) in [(0, 0), (0, past), (0, 263), (1, 256), (2, 1), (6, 1), (1, u64::MAX)] {
         let mut numbers = collect;
         numbers[place] = number;
         is_refused(&numbers);

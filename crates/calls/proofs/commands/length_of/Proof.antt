@@ -1,19 +1,9 @@
+-- Made by tools/kinds from the enum of calls: not to be changed here.
 -- In each arm the command is the arm's number; in the last it is 0 or past the table's end, and both answer 0.
 use borrow.Author.Needs.{needs}
-use Prim.Native.Nat.{ℕ, zero, suc, _≤_}
-use mathlib.Core.Path.{_≡_, refl, sym}
-use lib.ListN.{List·getD-eq-default}
-use native.Mathlib.Omega.{arith}
-use Rattle.calls.specs.Commands.{lengths, lengthOf, lastByte}
-use Rattle.calls.proofs.Cases.{NoneTo, above}
+use Rattle.calls.proofs.Cases.{no-length}
 use Rattle.calls.proofs.commands.length_of.Statement.{statement}
 use Rattle.calls.proofs.commands.length_of.Tie as tie
-
-none-left : (k : ℕ) → NoneTo lastByte k → 0 ≡ lengthOf k
-none-left zero others = refl
-none-left (suc k) others =
-    let low : 1 ≤ suc k = omega arith in
-    sym (List·getD-eq-default lengths 0 (above lastByte low others))
 
 returns : tie.Need-returns
 returns c = search needs
@@ -79,7 +69,7 @@ returns-21 : tie.Need-returns-21
 returns-21 c = search needs
 
 returns-22 : tie.Need-returns-22
-returns-22 c = none-left (c .before .args .command) (c .match .rest)
+returns-22 c = no-length (c .before .args .command) (c .match .rest)
 
 pub length-of-spec : {M : Type 1} → statement M
 length-of-spec =
