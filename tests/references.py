@@ -3,7 +3,8 @@
 
 In README.md and docs/*.md, `crate:Module.name` is a definition or theorem of crates/crate/specs/Module.antt or
 crates/crate/proofs/Module.antt, `crate:lib.Name` a type of crates/crate/src/lib.rt, and `crate!edit` the file
-crates/crate/must-fail/edit.edit. Each one that stands for nothing is printed, and the exit status is 1 then.
+crates/crate/must-fail/edit.edit or, of an edit outside the gate, tests/edits/crate/edit.edit. Each one that stands for nothing is printed, and
+the exit status is 1 then.
 """
 import pathlib
 import re
@@ -29,13 +30,17 @@ def is_declared(crate, module, name):
     return any(line.search(read(CRATES / crate / kind / f"{module}.antt")) for kind in ("specs", "proofs"))
 
 
+def is_edit(crate, name):
+    return any((folder / f"{name}.edit").is_file() for folder in (CRATES / crate / "must-fail", ROOT / "tests/edits" / crate))
+
+
 def faults(text):
     for crate, module, name in NAMED.findall(text):
         there = is_type(crate, name) if module == "lib" else is_declared(crate, module, name)
         if not there:
             yield f"`{crate}:{module}.{name}`"
     for crate, edit in EDIT.findall(text):
-        if not (CRATES / crate / "must-fail" / f"{edit}.edit").is_file():
+        if not is_edit(crate, edit):
             yield f"`{crate}!{edit}`"
 
 
