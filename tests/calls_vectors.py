@@ -136,7 +136,7 @@ impl Call {
 """
 
 def action(byte, inner):
-    name = RENAMED.get(byte) or rows[byte][0].capitalize()
+    name = RENAMED.get(byte) or "".join(part.capitalize() for part in rows[byte][0].split("-"))
     return f"{name} {{ {', '.join(inner)} }}" if inner else name
 
 def plain_variant(byte):

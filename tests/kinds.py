@@ -32,8 +32,8 @@ FROM, NUMBERS = "crates/operands/src/kinds_from.rt", "crates/operands/src/kinds_
 PROOF = "crates/calls/proofs/kinds_at/call_at/Proof.antt"
 WORDS = "rust/cetomuhi/src/kinds.rs"
 
-# What goes wrong, the file, the text there, what stands in its place, and a word of the line by which it is found. The line begins with
-# the file, or with the row's where a variant has not the row that it should have.
+# What goes wrong, the file, the text there, what stands in its place, and a word of the line by which it is found. The line begins
+# with the file; where a variant and its row differ, with that of the rows.
 FAULTS = [
     ("a variant's operand is wider", table.ENUM, "to: u8,\n    },\n    Revoke", "to: u16,\n    },\n    Revoke", "Give"),
     ("a variant has no row", table.ENUM, "    Destroy {", "    Extra {\n        party: u8,\n    },\n    Destroy {", "Extra"),
