@@ -8,9 +8,8 @@ use lib.ListN.{length, getD, set, take, drop, length-append}
 use lib.Dec.{eqb, leb}
 use borrow.Author.Tests.{eq-eqb, eqb-true, not-true, not-false}
 use Rattle.capabilities.specs.declared.Range.{Range}
-use Rattle.capabilities.specs.Capability.{baseOf}
+use Rattle.capabilities.specs.Death.{dies}
 use Rattle.capabilities.specs.Lists.{pick, each}
-use Rattle.capabilities.specs.Range.{inside}
 use Rattle.capabilities.specs.Refusals.{first}
 use Rattle.capabilities.proofs.Refusals.{pick-clear}
 use Rattle.capabilities.proofs.Choice.{pick-yes, and-left, and-right}
@@ -127,19 +126,19 @@ module _ (b : Arrays) (f : Formed b) (run : running (stateOf b .core) ≡ true) 
 
 -- Registers and mailboxes after a collect.
 module _ (b : Arrays) (f : Formed b) (range : Range) (e : cachedRange b ≡ range) where
-  dies : dying (stateOf b .core) ≡ (λ cell. inside range (baseOf cell))
-  dies = fun-ext (λ cell. dying-cached b f cell ∙ ap (λ (r : Range). inside r (baseOf cell)) e)
+  same-deaths : dying (stateOf b .core) ≡ dies range
+  same-deaths = fun-ext (λ cell. dying-cached b f cell ∙ ap (λ (r : Range). dies r cell) e)
 
   bits : (l : List Slot) (marks : List ℕ) → bytesOf l ≡ marks → each bit 0 marks ≡ true
   bits l marks k = subst (λ (m : List ℕ). each bit 0 m ≡ true) k (bytes-bits 0 l)
 
-  collected-registers : map (collectedRegister (stateOf b .core)) (stateOf b .registers) ≡ map (λ (w : Slot). keepTag w (not (inside range (baseOf (w .cell))))) (slotsOf (b .words) (b .marks))
+  collected-registers : map (collectedRegister (stateOf b .core)) (stateOf b .registers) ≡ map (λ (w : Slot). keepTag w (not (dies range (w .cell)))) (slotsOf (b .words) (b .marks))
   unfolding stateOf
-  collected-registers = ap (λ (d : ℕ → Bool). map (λ (w : Slot). keepTag w (not (d (w .cell)))) (slotsOf (b .words) (b .marks))) dies
+  collected-registers = ap (λ (d : ℕ → Bool). map (λ (w : Slot). keepTag w (not (d (w .cell)))) (slotsOf (b .words) (b .marks))) same-deaths
 
-  collected-mailboxes : map (collectedMailbox (stateOf b .core)) (stateOf b .mailboxes) ≡ map (λ (w : Slot). pick (w .tag && inside range (baseOf (w .cell))) empty w) (slotsOf (b .mail) (b .flags))
+  collected-mailboxes : map (collectedMailbox (stateOf b .core)) (stateOf b .mailboxes) ≡ map (λ (w : Slot). pick (w .tag && dies range (w .cell)) empty w) (slotsOf (b .mail) (b .flags))
   unfolding stateOf
-  collected-mailboxes = ap (λ (d : ℕ → Bool). map (λ (w : Slot). pick (w .tag && d (w .cell)) empty w) (slotsOf (b .mail) (b .flags))) dies
+  collected-mailboxes = ap (λ (d : ℕ → Bool). map (λ (w : Slot). pick (w .tag && d (w .cell)) empty w) (slotsOf (b .mail) (b .flags))) same-deaths
 
   even-words : length (b .words) ≡ length (b .marks)
   even-words = let l = lengths b f in l .words ∙ sym (l .marks)

@@ -5,8 +5,7 @@ use mathlib.Core.List.{List, []}
 use mathlib.Core.Path.{_≡_}
 use lib.ListN.{length}
 use Rattle.capabilities.specs.declared.Range.{Range}
-use Rattle.capabilities.specs.Capability.{baseOf}
-use Rattle.capabilities.specs.Range.{inside}
+use Rattle.capabilities.specs.Death.{dies}
 use Rattle.pages.specs.declared.Place.{Place}
 use Rattle.pages.specs.Mapping.{lookupOf}
 use Rattle.table.specs.Find.{revokingOf, rowOf}
@@ -27,12 +26,12 @@ use Rattle.arrays.specs.Steps.{Does, leaving, leftOf, withWords, withRows, with
 abbrev pub lookupIn : ℕ → List ℕ → ℕ → Place
 lookupIn v pages cell = lookupOf (layerOf v 0 pages []) cell
 
--- The revoked range as the small numbers have it, empty where no revocation runs; and whether a capability's base lies in it.
+-- The revoked range as the small numbers have it, empty where no revocation runs; and whether a capability dies with it.
 abbrev pub rangeIn : Numbers → Range
 rangeIn n = record { base = n .base; length = n .length }
 
 abbrev pub diesIn : Numbers → ℕ → Bool
-diesIn n cell = inside (rangeIn n) (baseOf cell)
+diesIn n cell = dies (rangeIn n) cell
 
 -- A call on the registers, whatever the rest of the arrays is.
 abbrev pub OnWords : Answer → List ℕ → List ℕ → List ℕ → List ℕ → Call → Type 0

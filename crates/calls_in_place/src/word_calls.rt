@@ -5,7 +5,6 @@ use arrays::Numbers;
 use capabilities::Range;
 use capabilities::capability::base_of;
 use capabilities::capability::narrowed;
-use capabilities::ranges::inside;
 use capabilities::refusal::first;
 use words::Slot;
 use words::codes::grant_code;
@@ -63,8 +62,7 @@ pub fn number(words: &mut [u64], marks: &mut [u8], party: u8, d: u8, value: u64)
     granted(empty())
 }
 
-// Whether a capability dies: its base lies in the range of the small numbers, the revoked one, which is empty where no
-// revocation runs.
+// Whether a capability dies with the range of the small numbers, the revoked one, which is empty where no revocation runs.
 fn dies(nums: Numbers, cell: u64) -> bool
     ensures { λ r. ⌜ r ≡ diesIn nums cell ⌝ }
 {
@@ -72,7 +70,7 @@ fn dies(nums: Numbers, cell: u64) -> bool
         base: nums.base,
         length: nums.length,
     };
-    inside(range, base_of(cell) as u32)
+    capabilities::death::dies(range, cell)
 }
 
 // 0B.

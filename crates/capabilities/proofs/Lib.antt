@@ -6,3 +6,4 @@ pub mod Refusals
 pub mod Ordered
 pub mod Capabilities
 pub mod Codes
+pub mod Deaths

@@ -1,5 +1,6 @@
 // What every layer shares: capabilities as numbers, ranges of virtual cells, and refusals in their order.
 pub mod capability;
+pub mod death;
 pub mod ranges;
 pub mod refusal;
 

@@ -11,6 +11,7 @@ use lib.Dec.{eqb, ltb}
 use lib.ListN.{length, getD, set, take, drop, List·getD-eq-default}
 use lib.Seq.{getD-set-same, getD-set-other}
 use Rattle.capabilities.specs.Capability.{baseOf}
+use Rattle.capabilities.specs.Death.{dies}
 use Rattle.capabilities.specs.Range.{inside}
 use Rattle.capabilities.proofs.Choice.{at-most}
 use Rattle.pages.specs.declared.Frame.{Frame}
@@ -31,7 +32,7 @@ use Rattle.table.specs.Rows.{isOpen, live, rangeOf}
 use Rattle.table.proofs.Cells.{inside-made}
 use Rattle.reservations.specs.Core.{Core, withPages, withTable, withPlace, unswept}
 use Rattle.reservations.specs.Revocation.{running, revoked, dying, collectedRow}
-use Rattle.reservations.proofs.CoreAfter.{dying-inside}
+use Rattle.reservations.proofs.CoreAfter.{dying-dies}
 use Rattle.words.specs.declared.Slot.{Slot}
 use Rattle.words.specs.Words.{slot, empty, byteOf, tagOf, wordAt}
 use Rattle.histories.specs.Live.{wordOf, shown}
@@ -276,7 +277,7 @@ module _ (c : Core) (cells tags : List ℕ) (m : Memory c cells tags) where
         gone at e true x = ⊎-elim (λ q. q ∙ e) (λ q. q) (less at (ltb-true at (length tags) x))
         gone at e false x = List·getD-eq-default tags′ 0 (rw (length-swept (c .pages .frames) (revoked c) (c .place) cells tags upto) (ltb-false at (length tags) x))
 
-        swept : (v at : ℕ) → lookupOf (c .pages) v ≡ At at → c .place ≤ at → at < upto → inside (revoked c) (baseOf (getD cells at 0)) ≡ true → getD tags′ at 0 ≡ 0
+        swept : (v at : ℕ) → lookupOf (c .pages) v ≡ At at → c .place ≤ at → at < upto → dies (revoked c) (getD cells at 0) ≡ true → getD tags′ at 0 ≡ 0
         swept v at e a b d =
             let k = seen (c .pages) v at e in
             let n : at / 16 ≡ k .frame .0 = omega (arith, k .place) in
@@ -285,9 +286,9 @@ module _ (c : Core) (cells tags : List ℕ) (m : Memory c cells tags) where
 
         clean : (v at : ℕ) → lookupOf (c .pages) v ≡ At at → at < upto → wordAt cells tags′ at .tag ≡ true → (x : Bool) → ltb at (c .place) ≡ x → dying c (wordAt cells tags′ at .cell) ≡ false
         clean v at e h t true x = word (λ w. w .tag ≡ true → dying c (w .cell) ≡ false) v at e (m .behind v at e (ltb-true at (c .place) x)) (λ z. absurd (false≢true z)) t
-        clean v at e h t false x = ap (dying c) (word-cell cells tags′ at) ∙ dying-inside c (getD cells at 0) ∙ go (inside (revoked c) (baseOf (getD cells at 0))) refl
+        clean v at e h t false x = ap (dying c) (word-cell cells tags′ at) ∙ dying-dies c (getD cells at 0) ∙ go (dies (revoked c) (getD cells at 0)) refl
           where
-            go : (b : Bool) → inside (revoked c) (baseOf (getD cells at 0)) ≡ b → inside (revoked c) (baseOf (getD cells at 0)) ≡ false
+            go : (b : Bool) → dies (revoked c) (getD cells at 0) ≡ b → dies (revoked c) (getD cells at 0) ≡ false
             go false b = b
             go true b = absurd (false≢true (sym (ap tagOf (swept v at e (ltb-false at (c .place) x) h b)) ∙ sym (word-tag cells tags′ at) ∙ t))
 

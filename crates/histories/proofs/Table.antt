@@ -9,6 +9,7 @@ use borrow.Author.Tests.{ltb-true, ltb-false}
 use lib.Dec.{ltb}
 use lib.ListN.{length, getD, take, drop}
 use Rattle.capabilities.specs.declared.Range.{Range}
+use Rattle.capabilities.specs.Death.{dies}
 use Rattle.capabilities.specs.Range.{inside}
 use Rattle.capabilities.specs.Capability.{baseOf}
 use Rattle.table.specs.declared.Reservation.{Reservation}
@@ -276,12 +277,12 @@ unfolding revoked
 revoked-by c = ap rangeOf (revoking-row (c .table))
 
 abbrev diesBy : List Reservation → ℕ → Bool
-diesBy d cell = not (none d) && inside (rangeOf (firstOf d)) (baseOf cell)
+diesBy d cell = not (none d) && dies (rangeOf (firstOf d)) cell
 
 dies-by : (c : Core) (cell : ℕ) → dying c cell ≡ diesBy (dyings (live (c .table))) cell
 unfolding dying
 dies-by c cell =
-    ap (λ b. b && inside (revoked c) (baseOf cell)) (running-by c) ∙ ap (λ r. not (none (dyings (live (c .table)))) && inside r (baseOf cell)) (revoked-by c)
+    ap (λ b. b && dies (revoked c) cell) (running-by c) ∙ ap (λ r. not (none (dyings (live (c .table)))) && dies r cell) (revoked-by c)
 
 pub dies-same : (c d : Core) → dyings (live (d .table)) ≡ dyings (live (c .table)) → (cell : ℕ) → dying d cell ≡ dying c cell
 dies-same c d e cell = dies-by d cell ∙ ap (λ x. diesBy x cell) e ∙ sym (dies-by c cell)

@@ -2,6 +2,7 @@
 -- names only its own definitions besides: to unfold a definition is to unfold what its own line names. Assumes nothing.
 use Prim.Native.Nat.{ℕ}
 use Rattle.capabilities.specs.Lists.{each, mapEach}
+use Rattle.capabilities.specs.Death.{dies}
 use Rattle.capabilities.specs.Range.{inside}
 use Rattle.capabilities.specs.Refusals.{first}
 use Rattle.pages.specs.Freed.{freedIn, allFreed}
@@ -24,5 +25,5 @@ use Rattle.machine.specs.Effects.{effect}
 use Rattle.machine.specs.Step.{registersAfter, mailboxesAfter, writtenCells, writtenTags, cellsAfter, tagsAfter, done, ruled, judged, stepOf, withCore}
 
 unfoldable pub computing : ℕ
-unfolding each mapEach inside first freedIn allFreed pageAt frameAt withPage withFrame freshOf mappings pageSound frameSound layerFormed mapReasons mapped mapOf unmapReasons soiled unmapped unmapOf dirtyReasons cleared lookupOf notMappedIn anyMapped freedEntry freedOf releasedEntry releasedOf passed sweptTag sweptTags sweepOf seek findOf nextOf revokingOf rowOf withRow openReasons takeReasons takeOf splitReasonsAt splitReasons splitAt splitOf mergeable mergeReasonsAt mergeReasons mergeAt mergeOf giveReasons giveOf live splice spread gather tiles allBlank revokings sized takersSound tableSound freshTable freshCore running revoked dying revokeReasonsAt revokeReasons revokeAt revokeOf collectReasons collected collectOf revocationSound coreSound principalAt countsOf above sum anyAbove withPrincipal withCounts leadsWithin createReasons createOf claimReasons claimOf releaseReasons releaseOf destroyReasons returned destroyOf principalSound countsSound claimsSound freshClaims registerOf mailboxOf wordAt mailboxesSound formedBare wellFormed fresh startOf addressed found reasons effect registersAfter mailboxesAfter writtenCells writtenTags cellsAfter tagsAfter done ruled judged stepOf withCore
+unfolding each mapEach inside dies first freedIn allFreed pageAt frameAt withPage withFrame freshOf mappings pageSound frameSound layerFormed mapReasons mapped mapOf unmapReasons soiled unmapped unmapOf dirtyReasons cleared lookupOf notMappedIn anyMapped freedEntry freedOf releasedEntry releasedOf passed sweptTag sweptTags sweepOf seek findOf nextOf revokingOf rowOf withRow openReasons takeReasons takeOf splitReasonsAt splitReasons splitAt splitOf mergeable mergeReasonsAt mergeReasons mergeAt mergeOf giveReasons giveOf live splice spread gather tiles allBlank revokings sized takersSound tableSound freshTable freshCore running revoked dying revokeReasonsAt revokeReasons revokeAt revokeOf collectReasons collected collectOf revocationSound coreSound principalAt countsOf above sum anyAbove withPrincipal withCounts leadsWithin createReasons createOf claimReasons claimOf releaseReasons releaseOf destroyReasons returned destroyOf principalSound countsSound claimsSound freshClaims registerOf mailboxOf wordAt mailboxesSound formedBare wellFormed fresh startOf addressed found reasons effect registersAfter mailboxesAfter writtenCells writtenTags cellsAfter tagsAfter done ruled judged stepOf withCore
 computing = 0

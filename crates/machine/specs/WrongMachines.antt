@@ -9,8 +9,8 @@ use lib.ListN.{set, replicate}
 use lib.Bits.{bitAnd}
 use lib.Dec.{leb, eqb}
 use Rattle.capabilities.specs.declared.Range.{Range}
-use Rattle.capabilities.specs.Capability.{baseOf, permitted, permits}
-use Rattle.capabilities.specs.Range.{inside}
+use Rattle.capabilities.specs.Capability.{permitted, permits}
+use Rattle.capabilities.specs.Death.{dies}
 use Rattle.capabilities.specs.Lists.{pick, Every}
 use Rattle.pages.specs.declared.VirtualPage.{VirtualPage}
 use Rattle.pages.specs.declared.PageState.the-variants.{Unmapped}
@@ -137,7 +137,7 @@ loadsDying c a w = keepTag w (permits (a .cell) 4)
 unfoldable pub filtersAtRest : Core → Slot → Slot → Slot
 filtersAtRest c a w =
     let range = rangeOf (rowOf (c .table) (pick (running c) (revokingOf (c .table)) (At 0))) in
-    keepTag w (permits (a .cell) 4 && not (inside range (baseOf (w .cell))))
+    keepTag w (permits (a .cell) 4 && not (dies range (w .cell)))
 
 -- One that drops the number of a dying capability with its tag.
 unfoldable pub dropsNumber : Core → Slot → Slot → Slot

@@ -9,6 +9,7 @@ use lib.Dec.{eqb, ltb, leb}
 use lib.ListN.{length, getD}
 use Rattle.capabilities.specs.declared.Range.{Range}
 use Rattle.capabilities.specs.Capability.{baseOf, lengthOf}
+use Rattle.capabilities.specs.Death.{dies}
 use Rattle.capabilities.specs.Lists.{pick}
 use Rattle.capabilities.specs.Range.{inside}
 use Rattle.capabilities.proofs.Choice.{and-left, and-right}
@@ -179,7 +180,7 @@ word-good r m (clearFrame f) frames v at w q s g = go (eqb (at / 16) (f .0))
     go true = apart-good r (inside r v) empty (empty-apart r)
     go false = g
 word-good r m (sweepCells c from upto) frames v at w q s g =
-    drop-good r (inside r v) w ((leb from at && ltb at upto) && (shownAt frames (at / 16) && inside c (baseOf (w .cell)))) g
+    drop-good r (inside r v) w ((leb from at && ltb at upto) && (shownAt frames (at / 16) && dies c (w .cell))) g
 
 module _ (house : ℕ) (r : Range) (m : Machine) (e : Effect) (h : Housed house r m) (ok : Sound (m .state .core .pages))
     (size-cells : length (m .cells) ≡ 16 * m .state .core .pages .f) (size-tags : length (m .tags) ≡ 16 * m .state .core .pages .f)

@@ -9,9 +9,8 @@ use lib.Dec.{eqb, ltb, leb}
 use lib.ListN.{length, getD, set, List·getD-map, length-set}
 use lib.Seq.{getD-set-same, getD-set-other, set-out}
 use Rattle.capabilities.specs.declared.Range.{Range}
-use Rattle.capabilities.specs.Capability.{baseOf}
+use Rattle.capabilities.specs.Death.{dies}
 use Rattle.capabilities.specs.Lists.{pick}
-use Rattle.capabilities.specs.Range.{inside}
 use Rattle.capabilities.proofs.Choice.{pick-yes, pick-no, and-right}
 use Rattle.pages.specs.Pages.{FrameEntry}
 use Rattle.pages.specs.Mapping.{cleared}
@@ -104,7 +103,7 @@ wordBy keepMemory frames i w = w
 wordBy (writeWords writes) frames i w = writtenBy writes i w
 wordBy (clearFrame f) frames i w = pick (eqb (i / 16) (f .0)) empty w
 wordBy (sweepCells r from upto) frames i w =
-    slot (w .cell) (pick ((leb from i && ltb i upto) && (shownAt frames (i / 16) && inside r (baseOf (w .cell)))) false (w .tag))
+    slot (w .cell) (pick ((leb from i && ltb i upto) && (shownAt frames (i / 16) && dies r (w .cell))) false (w .tag))
 
 -- A frame that is cleared lies in memory.
 abbrev pub Fits : MemoryChange → ℕ → Type 0

@@ -9,10 +9,12 @@ use borrow.Author.Tests.{eq-eqb, not-true, not-false}
 use lib.Dec.{eqb}
 use lib.ListN.{length, getD, take, drop}
 use Rattle.capabilities.specs.Capability.{baseOf}
+use Rattle.capabilities.specs.Death.{dies}
 use Rattle.capabilities.specs.Lists.{pick}
 use Rattle.capabilities.specs.Range.{inside}
 use Rattle.capabilities.specs.Refusals.{first}
 use Rattle.capabilities.proofs.Choice.{pick-yes}
+use Rattle.capabilities.proofs.Deaths.{none-dies}
 use Rattle.pages.specs.Mapping.{freedOf, releasedOf}
 use Rattle.table.specs.declared.Found.{Found}
 use Rattle.table.specs.declared.Found.the-variants.{At, Nowhere}
@@ -22,7 +24,7 @@ use Rattle.table.specs.Tiling.{tableSound, covers}
 use Rattle.table.proofs.Finding.{found-at}
 use Rattle.table.proofs.Sound.{sound}
 use Rattle.table.proofs.Kept.{row-live}
-use Rattle.table.proofs.Cells.{inside-bounds, none-lost}
+use Rattle.table.proofs.Cells.{none-lost}
 use Rattle.table.proofs.Unrevoked.{with-live}
 use Rattle.table.proofs.After.{Replaced}
 use Rattle.reservations.specs.Core.{Core}
@@ -102,16 +104,20 @@ module _ (c : Core) (ok : coreSound c ≡ true) where
       none-lost cells (c .table) (x .table) cell (core-facts c ok .rows) (subst (λ k. tableSound (16 * k) (x .table) ≡ true) v (core-facts x (core-collect c ok) .rows))
 
 -- Where no revocation runs the revoked range is empty, so that the range alone says what dies.
-empty-range : (c : Core) (k : ℕ) (f : Found) → revokingOf (c .table) ≡ f → running c ≡ false → inside (revoked c) k ≡ true → ⊥
+empty-range : (c : Core) (f : Found) → revokingOf (c .table) ≡ f → running c ≡ false → revoked c .length ≡ 0
 unfolding revoked rowOf
-empty-range c k (At i) e q p = true≢false (sym (not-false (missing (revokingOf (c .table))) (unfold running in q)) ∙ ap missing e)
-empty-range c k Nowhere e q p = let b = inside-bounds (rangeOf blank) k (sym (ap (λ f. inside (rangeOf (rowOf (c .table) f)) k) e) ∙ p) in omega arith
+empty-range c (At i) e q = absurd (true≢false (sym (not-false (missing (revokingOf (c .table))) (unfold running in q)) ∙ ap missing e))
+empty-range c Nowhere e q = ap (λ f. rangeOf (rowOf (c .table) f) .length) e
 
-pub dying-inside : (c : Core) (cell : ℕ) → dying c cell ≡ inside (revoked c) (baseOf cell)
+pub dying-dies : (c : Core) (cell : ℕ) → dying c cell ≡ dies (revoked c) cell
 unfolding dying
-dying-inside c cell = go (running c) refl (inside (revoked c) (baseOf cell)) refl
+dying-dies c cell = go (running c) refl
   where
-    go : (a : Bool) → running c ≡ a → (b : Bool) → inside (revoked c) (baseOf cell) ≡ b → running c && inside (revoked c) (baseOf cell) ≡ inside (revoked c) (baseOf cell)
-    go true p b q = rw p refl
-    go false p true q = absurd (empty-range c (baseOf cell) (revokingOf (c .table)) refl p q)
-    go false p false q = rw (p, q) refl
+    go : (a : Bool) → running c ≡ a → running c && dies (revoked c) cell ≡ dies (revoked c) cell
+    go true p = rw p refl
+    go false p = rw p (sym (none-dies (revoked c) cell (empty-range c (revokingOf (c .table)) refl p)))
+
+-- What dies, by its base.
+pub dying-inside : (c : Core) (cell : ℕ) → dying c cell ≡ inside (revoked c) (baseOf cell)
+unfolding dies
+dying-inside c cell = dying-dies c cell

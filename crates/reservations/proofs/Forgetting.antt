@@ -7,7 +7,7 @@ use mathlib.Core.Path.{_≡_, refl, ap, _∙_}
 use lib.Dec.{eqb, leb}
 use Rattle.capabilities.specs.Capability.{baseOf}
 use Rattle.capabilities.specs.Lists.{pick}
-use Rattle.capabilities.specs.Range.{inside}
+use Rattle.capabilities.specs.Death.{dies}
 use Rattle.capabilities.specs.Refusals.{reason}
 use Rattle.pages.specs.Freed.{allFreed}
 use Rattle.pages.specs.Mapping.{anyMapped, freedOf, releasedOf}
@@ -33,7 +33,7 @@ module _ (c : Core) where
   -- The same capabilities die.
   pub dying-forgets : dying (forgetCore c) ≡ dying c
   unfolding dying
-  dying-forgets = ap (λ b cell. b && inside (revoked (forgetCore c)) (baseOf cell)) running-forgets ∙ ap (λ r cell. running c && inside r (baseOf cell)) revoked-forgets
+  dying-forgets = ap (λ b cell. b && dies (revoked (forgetCore c)) cell) running-forgets ∙ ap (λ r cell. running c && dies r cell) revoked-forgets
 
   pub revoke-reasons : (party base : ℕ) → revokeReasons (forgetCore c) party base ≡ revokeReasons c party base
   unfolding revokeReasons revokeReasonsAt

@@ -4,9 +4,8 @@ use mathlib.Core.Bool.{Bool, not, _&&_, _||_}
 use mathlib.Core.List.{List, [], _∷_}
 use lib.Dec.{leb, eqb}
 use Rattle.capabilities.specs.declared.Range.{Range}
-use Rattle.capabilities.specs.Capability.{baseOf}
+use Rattle.capabilities.specs.Death.{dies}
 use Rattle.capabilities.specs.Lists.{pick}
-use Rattle.capabilities.specs.Range.{inside}
 use Rattle.capabilities.specs.Refusals.{Reason, reason, first}
 use Rattle.pages.specs.Freed.{allFreed}
 use Rattle.pages.specs.Layer.{wellFormed, inRange, freshOf}
@@ -38,7 +37,7 @@ revoked c = rangeOf (rowOf (c .table) (revokingOf (c .table)))
 
 -- A capability dies with the revocation that runs: its "base lies in the revoked range".
 unfoldable pub dying : Core → ℕ → Bool
-dying c cell = running c && inside (revoked c) (baseOf cell)
+dying c cell = running c && dies (revoked c) cell
 
 -- A refused call keeps the core as it was.
 abbrev pub cored : ℕ → Core → Core → Cored

@@ -10,43 +10,33 @@ use lib.Seq.{getD-set-same, getD-set-other}
 use lib.Dec.{leb, ltb, eqb}
 use mir.Val.{boolByte, Fits}
 use mir.Syntax.{w8}
-use borrow.Author.Tests.{eqb-true, eqb-false, leb-true, leb-false, ltb-true, ltb-false, le-leb, lt-leb, le-ltb}
+use borrow.Author.Tests.{eqb-true, eqb-false, leb-true, leb-false, ltb-true}
 use Rattle.capabilities.proofs.Choice.{times}
 use Rattle.capabilities.specs.declared.Range.{Range}
 use Rattle.capabilities.specs.Capability.{baseOf}
+use Rattle.capabilities.specs.Death.{dies}
 use Rattle.capabilities.specs.Lists.{pick}
-use Rattle.capabilities.specs.Range.{inside}
+use Rattle.capabilities.proofs.Deaths.{none-dies}
 use Rattle.capabilities.proofs.Lists.{mapEach-same}
 use Rattle.pages.specs.Pages.{FrameEntry}
 use Rattle.sweep.specs.Sweep.{shownAt, sweptTag, sweptTags}
-use Rattle.sweep.specs.Frames.{lastOf, Bases, AllShown}
+use Rattle.sweep.specs.Frames.{Bases, AllShown}
 use Rattle.sweep.proofs.Sweeping.{doomed, swept-next, swept-hit}
-
--- A base lies in a range that is not empty if it lies between the first cell and the last.
-pub to-last : (r : Range) (x : ℕ) → 0 < r .length → x < 65536 → (leb (r .base) x && leb x (lastOf r)) ≡ inside r x
-unfolding inside lastOf
-to-last r x h k = ap (λ b. leb (r .base) x && b) (go (ltb x (r .base + r .length)) refl)
-  where
-    go : (b : Bool) → ltb x (r .base + r .length) ≡ b → leb x (min (r .base + (r .length - 1)) 65535) ≡ b
-    go true e = let z : x < r .base + r .length = ltb-true x (r .base + r .length) e in le-leb x (min (r .base + (r .length - 1)) 65535) (omega arith)
-    go false e = let z : r .base + r .length ≤ x = ltb-false x (r .base + r .length) e in lt-leb x (min (r .base + (r .length - 1)) 65535) (omega arith)
 
 -- A tag times 0 or 1 fits in its byte.
 pub times-fits : (d : Bool) (t : ℕ) → Fits w8 t → Fits w8 (t * boolByte d)
 times-fits true t h = omega arith
 times-fits false t h = omega arith
 
-module _ (frames : List FrameEntry) (r : Range) (some : 0 < r .length) (from upto : ℕ) (cells tags : List ℕ) (shown : AllShown frames from upto) where
+module _ (frames : List FrameEntry) (r : Range) (from upto : ℕ) (cells tags : List ℕ) (shown : AllShown frames from upto) where
   -- One turn of the loop without a branch.
-  pub shown-turn : (i x last : ℕ) (t : List ℕ) → from ≤ i → i < upto → i < length tags → t ≡ sweptTags frames r from i cells tags
-      → x ≡ baseOf (getD cells i 0) → last ≡ lastOf r
-      → set t i (getD t i 0 * boolByte (not (leb (r .base) x && leb x last))) ≡ sweptTags frames r from (i + 1) cells tags
-  shown-turn i x last t h k b e ex el =
-      let d : (leb (r .base) x && leb x last) ≡ doomed frames r cells i =
-      ap (λ n. leb (r .base) x && leb x n) el ∙ to-last r x some (omega (arith, ex)) ∙ ap (inside r) ex ∙ rw (shown i h k) in
-      let z : getD t i 0 * boolByte (not (leb (r .base) x && leb x last)) ≡ pick (doomed frames r cells i) 0 (getD tags i 0) =
-      times (leb (r .base) x && leb x last) (getD t i 0)
-      ∙ ap (λ c. pick c 0 (getD t i 0)) d ∙ ap (λ v. pick (doomed frames r cells i) 0 v) (ap (λ l. getD l i 0) e ∙ swept-next frames r from cells tags i b) in
+  pub shown-turn : (i : ℕ) (lives : Bool) (t : List ℕ) → from ≤ i → i < upto → i < length tags → t ≡ sweptTags frames r from i cells tags → lives ≡ not (dies r (getD cells i 0))
+      → set t i (getD t i 0 * boolByte lives) ≡ sweptTags frames r from (i + 1) cells tags
+  shown-turn i lives t h k b e el =
+      let same : dies r (getD cells i 0) ≡ doomed frames r cells i = rw (shown i h k) in
+      let z : getD t i 0 * boolByte lives ≡ pick (doomed frames r cells i) 0 (getD tags i 0) =
+      ap (λ d. getD t i 0 * boolByte d) el ∙ times (dies r (getD cells i 0)) (getD t i 0)
+      ∙ ap (λ c. pick c 0 (getD t i 0)) same ∙ ap (λ v. pick (doomed frames r cells i) 0 v) (ap (λ l. getD l i 0) e ∙ swept-next frames r from cells tags i b) in
       ap (λ v. set t i v) z ∙ ap (λ l. set l i (pick (doomed frames r cells i) 0 (getD tags i 0))) e ∙ swept-hit frames r from cells tags i b h
 
 -- Cells of frames that are not Mapped are passed untouched, and so are all if the range is empty.
@@ -61,15 +51,7 @@ module _ (frames : List FrameEntry) (r : Range) (from upto : ℕ) (cells tags : 
       go i x false p b q = refl
 
   pub swept-nothing : r .length ≡ 0 → sweptTags frames r from upto cells tags ≡ tags
-  unfolding inside
-  swept-nothing z = swept-untouched (λ i h k. nowhere i (leb (r .base) (baseOf (getD cells i 0))) refl)
-    where
-      nowhere : (i : ℕ) (b : Bool) → leb (r .base) (baseOf (getD cells i 0)) ≡ b
-          → (shownAt frames (i / 16) && (b && ltb (baseOf (getD cells i 0)) (r .base + r .length))) ≡ false
-      nowhere i true e =
-          let u : r .base ≤ baseOf (getD cells i 0) = leb-true (r .base) (baseOf (getD cells i 0)) e in
-          rw (le-ltb (baseOf (getD cells i 0)) (r .base + r .length) (omega arith)) (and-false (shownAt frames (i / 16)))
-      nowhere i false e = and-false (shownAt frames (i / 16))
+  swept-nothing z = swept-untouched (λ i h k. rw (none-dies r (getD cells i 0) z) (and-false (shownAt frames (i / 16))))
 
 -- One base more is read.
 pub bases-turn : (from : ℕ) (cells bases : List ℕ) (j x : ℕ) → j < 16 → Bases from j cells bases → x ≡ baseOf (getD cells (from + j) 0) → Bases from (j + 1) cells (set bases j x)
@@ -101,4 +83,4 @@ module _ (frames : List FrameEntry) (r : Range) (i upto stop : ℕ) (e : stop �
 
   pub frame-hidden : (cells tags : List ℕ) → shownAt frames (i / 16) ≡ false → tags ≡ sweptTags frames r i stop cells tags
   frame-hidden cells tags s =
-      sym (swept-untouched frames r i stop cells tags (λ k h l. ap (λ b. b && inside r (baseOf (getD cells k 0))) (ap (shownAt frames) (same-frame k h l) ∙ s)))
+      sym (swept-untouched frames r i stop cells tags (λ k h l. ap (λ b. b && dies r (getD cells k 0)) (ap (shownAt frames) (same-frame k h l) ∙ s)))

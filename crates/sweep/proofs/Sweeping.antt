@@ -10,9 +10,8 @@ use lib.Seq.{ext-getD, getD-set-same, getD-set-other, set-getD}
 use lib.Dec.{leb, ltb, eqb}
 use borrow.Author.Tests.{ltb-true, ltb-false, lt-ltb, le-ltb, le-leb, lt-leb, eqb-true, eqb-false}
 use Rattle.capabilities.specs.declared.Range.{Range}
-use Rattle.capabilities.specs.Capability.{baseOf}
+use Rattle.capabilities.specs.Death.{dies}
 use Rattle.capabilities.specs.Lists.{pick}
-use Rattle.capabilities.specs.Range.{inside}
 use Rattle.capabilities.proofs.Choice.{pick-twice}
 use Rattle.capabilities.proofs.Lists.{length-mapEach, getD-mapEach, mapEach-same}
 use Rattle.pages.specs.Pages.{FrameEntry}
@@ -34,7 +33,7 @@ nothing-between n i = go (ltb i n) refl
 
 -- The capability in cell i is one that a sweep clears.
 abbrev pub doomed : List FrameEntry → Range → List ℕ → ℕ → Bool
-doomed frames r cells i = shownAt frames (i / 16) && inside r (baseOf (getD cells i 0))
+doomed frames r cells i = shownAt frames (i / 16) && dies r (getD cells i 0)
 
 module _ (frames : List FrameEntry) (r : Range) (from : ℕ) (cells tags : List ℕ) where
   pub length-swept : (upto : ℕ) → length (sweptTags frames r from upto cells tags) ≡ length tags

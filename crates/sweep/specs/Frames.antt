@@ -1,5 +1,5 @@
 -- Words for a sweep by whole frames. Assumes nothing.
-use Prim.Native.Nat.{ℕ, _+_, _-_, _/_, _<_, _≤_, min}
+use Prim.Native.Nat.{ℕ, _+_, _/_, _<_, _≤_}
 use mathlib.Core.Bool.{true}
 use mathlib.Core.List.{List}
 use mathlib.Core.Path.{_≡_}
@@ -8,10 +8,6 @@ use Rattle.capabilities.specs.declared.Range.{Range}
 use Rattle.capabilities.specs.Capability.{baseOf}
 use Rattle.pages.specs.Pages.{FrameEntry}
 use Rattle.sweep.specs.Sweep.{shownAt, sweptTags}
-
--- The last cell of a range that is not empty, as far as a capability's base can tell.
-unfoldable pub lastOf : Range → ℕ
-lastOf r = min (r .base + (r .length - 1)) 65535
 
 -- The first n of sixteen numbers are the bases in the cells from a place on.
 abbrev pub Bases : ℕ → ℕ → List ℕ → List ℕ → Type 0

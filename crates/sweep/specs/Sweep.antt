@@ -5,9 +5,8 @@ use mathlib.Core.List.{List}
 use lib.ListN.{length, getD}
 use lib.Dec.{leb, ltb}
 use Rattle.capabilities.specs.declared.Range.{Range}
-use Rattle.capabilities.specs.Capability.{baseOf}
+use Rattle.capabilities.specs.Death.{dies}
 use Rattle.capabilities.specs.Lists.{pick, mapEach}
-use Rattle.capabilities.specs.Range.{inside}
 use Rattle.pages.specs.Pages.{Pages}
 use Rattle.pages.specs.Pages.{FrameEntry}
 use Rattle.pages.specs.declared.FrameState.the-variants.{Dirty}
@@ -33,7 +32,7 @@ shownAt frames k = isShown (getD frames k (frameEntry Dirty) .state)
 -- frames are passed untouched." Of cell i, whose tag is t, once the cells from one place up to another are passed.
 unfoldable pub sweptTag : List FrameEntry → Range → ℕ → ℕ → List ℕ → ℕ → ℕ → ℕ
 sweptTag frames r from upto cells i t =
-    pick ((leb from i && ltb i upto) && (shownAt frames (i / 16) && inside r (baseOf (getD cells i 0)))) 0 t
+    pick ((leb from i && ltb i upto) && (shownAt frames (i / 16) && dies r (getD cells i 0))) 0 t
 
 unfoldable pub sweptTags : List FrameEntry → Range → ℕ → ℕ → List ℕ → List ℕ → List ℕ
 sweptTags frames r from upto cells tags = mapEach (sweptTag frames r from upto cells) 0 tags

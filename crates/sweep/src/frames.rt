@@ -4,6 +4,8 @@ use crate::cells_left;
 use crate::count_passed;
 use capabilities::Range;
 use capabilities::capability::base_of;
+use capabilities::death::base_lives;
+use capabilities::death::last_of;
 use pages::entry::is_shown;
 use pages::numbers::frame_from;
 ghost use mathlib.Core.Path.{_≡_};
@@ -12,7 +14,7 @@ ghost use Prim.Native.Nat.{ℕ, _+_, _*_, _/_, _<_, _≤_, min};
 ghost use lib.ListN.{length};
 ghost use Rattle.pages.specs.Numbers.{frameIn, layerOf};
 ghost use Rattle.sweep.specs.Sweep.{shownAt, sweptTags, passing, sweepOf};
-ghost use Rattle.sweep.specs.Frames.{lastOf, Bases, PassesShown};
+ghost use Rattle.sweep.specs.Frames.{Bases, PassesShown};
 
 fn shown_in(frames: &[u8], frame: usize) -> bool
     ensures { λ r. ⌜ r ≡ shownAt (map frameIn (now (frames .entry))) frame ⌝ }
@@ -21,15 +23,6 @@ fn shown_in(frames: &[u8], frame: usize) -> bool
         return is_shown(frame_from(frames[frame]));
     }
     false
-}
-
-// The last cell of a range that is not empty.
-fn last_of(range: Range) -> u16
-    requires { ⌜ 0 < range .length ⌝ }
-    ensures { λ r. ⌜ r ≡ lastOf range ⌝ }
-{
-    let last = range.base as u32 + (range.length as u32 - 1);
-    if last < 65535 { last as u16 } else { 65535 }
 }
 
 // The bases in sixteen cells. They are read before a tag is written, so that the compiler takes several cells at once.
@@ -57,9 +50,9 @@ fn sweep_frame(range: Range, from: usize, cells: &[u64], tags: &mut [u8])
     while j < 16 {
         let i = from + j;
         let x = bases[j];
-        let dies = (range.base <= x) & (x <= last);
+        let lives = base_lives(range, last, x);
         let tag = tags[i];
-        tags[i] = tag * ((!dies) as u8);
+        tags[i] = tag * (lives as u8);
         j += 1;
     }
 }
@@ -73,9 +66,9 @@ fn sweep_part(range: Range, from: usize, upto: usize, cells: &[u64], tags: &mut 
     let mut i: usize = from;
     while i < upto {
         let x = base_of(cells[i]);
-        let dies = (range.base <= x) & (x <= last);
+        let lives = base_lives(range, last, x);
         let tag = tags[i];
-        tags[i] = tag * ((!dies) as u8);
+        tags[i] = tag * (lives as u8);
         i += 1;
     }
 }

@@ -12,7 +12,7 @@ use borrow.Author.Tests.{leb-true}
 use Rattle.capabilities.specs.declared.Range.{Range}
 use Rattle.capabilities.specs.Capability.{baseOf}
 use Rattle.capabilities.specs.Lists.{pick, each}
-use Rattle.capabilities.specs.Range.{inside}
+use Rattle.capabilities.specs.Death.{dies}
 use Rattle.capabilities.proofs.Choice.{and-left, and-right}
 use Rattle.words.specs.declared.Slot.{Slot}
 use Rattle.words.specs.Words.{slot, empty, keepTag, tagOf, byteOf, wordAt}
@@ -150,10 +150,10 @@ emptied-cell c t false = refl
 module _ (r : Range) where
   -- 07, of registers and of mailboxes, by whether the base lies in the range.
   abbrev pub untagged : Slot → Slot
-  untagged w = keepTag w (not (inside r (baseOf (w .cell))))
+  untagged w = keepTag w (not (dies r (w .cell)))
 
   abbrev pub emptied : Slot → Slot
-  emptied w = pick (w .tag && inside r (baseOf (w .cell))) empty w
+  emptied w = pick (w .tag && dies r (w .cell)) empty w
 
   pub cells-collected : (words marks : List ℕ) → length words ≡ length marks → cellsOf (map untagged (slotsOf words marks)) ≡ words
   unfolding slotsOf
@@ -168,7 +168,7 @@ module _ (r : Range) where
   marks-collected n [] (t ∷ marks) e k = let z : ⊥ = omega arith in absurd z
   marks-collected n (c ∷ words) [] e k = let z : ⊥ = omega arith in absurd z
   marks-collected n (c ∷ words) (t ∷ marks) e k =
-      ap (λ b. b ∷ bytesOf (map untagged (slotsOf words marks))) (kept-byte t (inside r (baseOf c)) (and-left (leb t 1) _ k))
+      ap (λ b. b ∷ bytesOf (map untagged (slotsOf words marks))) (kept-byte t (dies r c) (and-left (leb t 1) _ k))
       ∙ ap (λ l. collectedMark r c t ∷ l) (marks-collected (suc n) words marks (omega arith) (and-right (leb t 1) _ k))
 
   pub mail-collected : (mail flags : List ℕ) → length mail ≡ length flags → cellsOf (map emptied (slotsOf mail flags)) ≡ collectedMail r mail flags
@@ -177,7 +177,7 @@ module _ (r : Range) where
   mail-collected [] (t ∷ flags) e = let z : ⊥ = omega arith in absurd z
   mail-collected (c ∷ mail) [] e = let z : ⊥ = omega arith in absurd z
   mail-collected (c ∷ mail) (t ∷ flags) e =
-      ap (λ b. b ∷ cellsOf (map emptied (slotsOf mail flags))) (emptied-cell c (tagOf t) (tagOf t && inside r (baseOf c)))
+      ap (λ b. b ∷ cellsOf (map emptied (slotsOf mail flags))) (emptied-cell c (tagOf t) (tagOf t && dies r c))
       ∙ ap (λ l. collectedCell r t c ∷ l) (mail-collected mail flags (omega arith))
 
   pub flags-collected : (n : ℕ) (mail flags : List ℕ) → length mail ≡ length flags → each bit n flags ≡ true
@@ -187,5 +187,5 @@ module _ (r : Range) where
   flags-collected n [] (t ∷ flags) e k = let z : ⊥ = omega arith in absurd z
   flags-collected n (c ∷ mail) [] e k = let z : ⊥ = omega arith in absurd z
   flags-collected n (c ∷ mail) (t ∷ flags) e k =
-      ap (λ b. b ∷ bytesOf (map emptied (slotsOf mail flags))) (emptied-byte c t (inside r (baseOf c)) (and-left (leb t 1) _ k))
+      ap (λ b. b ∷ bytesOf (map emptied (slotsOf mail flags))) (emptied-byte c t (dies r c) (and-left (leb t 1) _ k))
       ∙ ap (λ l. collectedMark r c t ∷ l) (flags-collected (suc n) mail flags (omega arith) (and-right (leb t 1) _ k))

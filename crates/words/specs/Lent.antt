@@ -4,9 +4,8 @@ use mathlib.Core.Bool.{Bool, _&&_, _||_}
 use mathlib.Core.List.{List, [], _∷_, map}
 use lib.Dec.{leb, eqb}
 use Rattle.capabilities.specs.declared.Range.{Range}
-use Rattle.capabilities.specs.Capability.{baseOf}
+use Rattle.capabilities.specs.Death.{dies}
 use Rattle.capabilities.specs.Lists.{pick}
-use Rattle.capabilities.specs.Range.{inside}
 use Rattle.words.specs.declared.Slot.{Slot}
 use Rattle.words.specs.Words.{slot, empty, named, tagOf, byteOf, wordAt}
 
@@ -42,13 +41,13 @@ mapBeside f [] ys = ys
 mapBeside f (x ∷ xs) [] = []
 mapBeside f (x ∷ xs) (y ∷ ys) = f x y ∷ mapBeside f xs ys
 
--- 07: the tag bytes after a collect, 0 where the cell beside has its base in the range; and the cells of mailboxes, 0 where
--- such a cell was tagged.
+-- 07: the tag bytes after a collect, 0 where the cell beside dies with the range; and the cells of mailboxes, 0 where such a
+-- cell was tagged.
 abbrev pub collectedMark : Range → ℕ → ℕ → ℕ
-collectedMark range cell mark = pick (inside range (baseOf cell)) 0 mark
+collectedMark range cell mark = pick (dies range cell) 0 mark
 
 abbrev pub collectedCell : Range → ℕ → ℕ → ℕ
-collectedCell range flag cell = pick (tagOf flag && inside range (baseOf cell)) 0 cell
+collectedCell range flag cell = pick (tagOf flag && dies range cell) 0 cell
 
 unfoldable pub collectedMarks : Range → List ℕ → List ℕ → List ℕ
 collectedMarks range words marks = mapBeside (collectedMark range) words marks

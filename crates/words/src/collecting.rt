@@ -4,32 +4,29 @@ use crate::empty;
 use crate::keep_tag;
 use crate::registers::shorter;
 use capabilities::Range;
-use capabilities::capability::base_of;
-use capabilities::ranges::inside;
+use capabilities::death::dies;
 ghost use mathlib.Core.Bool.{not, _&&_};
 ghost use mathlib.Core.List.{map};
 ghost use mathlib.Core.Path.{_≡_};
-ghost use Rattle.capabilities.specs.Capability.{baseOf};
 ghost use Rattle.capabilities.specs.Lists.{pick};
-ghost use Rattle.capabilities.specs.Range.{inside};
 ghost use Rattle.words.specs.Words.{empty, keepTag};
 ghost use Rattle.words.specs.Lent.{collectedMark, collectedCell, collectedMarks, collectedMail};
 
-// A tag byte, 0 if the cell beside it has its base in the range. A product and no branch, so that a loop over it stays fast.
+// A tag byte, 0 if the cell beside it dies. A product and no branch, so that a loop over it stays fast.
 fn collected_mark(range: Range, cell: u64, mark: u8) -> u8
     ensures { λ r. ⌜ r ≡ collectedMark range cell mark ⌝ }
 {
-    let dies = inside(range, base_of(cell) as u32);
-    mark * ((!dies) as u8)
+    let gone = dies(range, cell);
+    mark * ((!gone) as u8)
 }
 
-// A mailbox's cell, 0 if it is a capability with its base in the range.
+// A mailbox's cell, 0 if it is a capability that dies.
 fn collected_cell(range: Range, flag: u8, cell: u64) -> u64
     ensures { λ r. ⌜ r ≡ collectedCell range flag cell ⌝ }
 {
-    let here = inside(range, base_of(cell) as u32);
-    let dies = !(flag == 0) & here;
-    cell * ((!dies) as u64)
+    let here = dies(range, cell);
+    let gone = !(flag == 0) & here;
+    cell * ((!gone) as u64)
 }
 
 // The registers' tags: 0 where the register's base lies in the range.

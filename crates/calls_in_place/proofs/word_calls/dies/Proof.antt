@@ -1,19 +1,13 @@
--- `calls_in_place::word_calls::dies` meets its contract: by the contracts of the two callees.
+-- `calls_in_place::word_calls::dies` meets its contract: it is that of `capabilities::death::dies`.
 use borrow.Author.Needs.{needs}
 use Rattle.calls_in_place.proofs.word_calls.dies.Statement.{statement}
 use Rattle.calls_in_place.proofs.word_calls.dies.Tie as tie
 
-base-of-requires : tie.Need-base-of-requires
-base-of-requires c κs = search needs
-
-cast-inside : tie.Need-cast-inside
-cast-inside c = search needs
-
-inside-requires : tie.Need-inside-requires
-inside-requires c κs = search needs
+dies-requires : tie.Need-dies-requires
+dies-requires c κs = search needs
 
 returns : tie.Need-returns
-returns c = rw (c .inside .ensures, c .before .base-of .ensures)
+returns c = c .dies .ensures
 
 pub dies-spec : {M : Type 1} → statement M
-dies-spec = tie.close (tie.spec base-of-requires cast-inside inside-requires returns)
+dies-spec = tie.close (tie.spec dies-requires returns)

@@ -1,6 +1,6 @@
 -- `sweep::frames::sweep_part` meets its contract. After the cells up to i are passed the tags are those of the specification up to i (`shown-turn`).
 use Rattle.sweep.proofs.ByFrames.{shown-turn, times-fits}
-use lib.ListN.{length, length-set}
+use lib.ListN.{length, getD, length-set}
 use borrow.Author.Needs.{needs}
 use native.Mathlib.Omega.{arith}
 use mathlib.Core.Path.{_≡_, refl, sym, ap, _∙_}
@@ -15,7 +15,7 @@ use Rattle.sweep.proofs.frames.sweep_part.Tie as tie
 use Rattle.sweep.proofs.frames.sweep_part.Reads as reads
 use Rattle.sweep.proofs.frames.sweep_part.Lts as lts
 use Rattle.capabilities.proofs.capability.base_of.Reads as base-of-reads
-use Rattle.sweep.proofs.frames.last_of.Reads as last-of-reads
+use Rattle.capabilities.proofs.death.last_of.Reads as last-of-reads
 
 abbrev Inv-loop : tie.InvT-loop
 Inv-loop range from upto cells tags₀ last i₀ tags i = (from ≤ i) × (i ≤ upto) × (length tags ≡ length tags₀) × ((frames : List FrameEntry) → AllShown frames from upto → tags ≡ sweptTags frames range from i cells tags₀)
@@ -24,7 +24,7 @@ abbrev μ-loop : tie.MeasureT-loop
 μ-loop range from upto cells tags₀ last i₀ tags i = upto - i
 
 last-of-requires : tie.Need-last-of-requires Inv-loop μ-loop
-last-of-requires c κs = c .before .before .pre .0
+last-of-requires c κs = search needs
 
 loop-holds : tie.Need-loop-holds Inv-loop μ-loop
 loop-holds c = (omega arith, c .before .before .before .pre .2, refl, λ f h. swept-none _ _ _ _ _)
@@ -37,6 +37,9 @@ shared-slice-read-base-of c = omega (arith, c .before .before .before .before .b
 
 base-of-requires : tie.Need-base-of-requires Inv-loop μ-loop
 base-of-requires c κs = search needs
+
+base-lives-requires : tie.Need-base-lives-requires Inv-loop μ-loop
+base-lives-requires c κs = search needs
 
 slice-read-tag : tie.Need-slice-read-tag Inv-loop μ-loop
 slice-read-tag c = omega (arith, c .before .before .before .before .before .before .before .before .before .pre .3, c .before .before .before .before .before .loop .inv .2)
@@ -57,7 +60,7 @@ loop-less : tie.Need-loop-less Inv-loop μ-loop
 loop-less c = omega arith
 
 loop-again : tie.Need-loop-again Inv-loop μ-loop
-loop-again c = (omega arith, omega arith, length-set (c .before .before .before .before .before .loop .tags) (c .before .before .before .before .before .loop .i) _ ∙ c .before .before .before .before .before .loop .inv .2, λ f h. shown-turn f (c .before .before .before .before .before .before .before .before .before .args .range) (c .before .before .before .before .before .before .before .before .before .pre .0) (c .before .before .before .before .before .before .before .before .before .args .from) (c .before .before .before .before .before .before .before .before .before .args .upto) (c .before .before .before .before .before .before .before .before .before .args .cells .now) (c .before .before .before .before .before .before .before .before .before .args .tags .now) h (c .before .before .before .before .before .loop .i) (c .before .before .base-of .result) (c .before .before .before .before .before .before .last-of .result) (c .before .before .before .before .before .loop .tags) (c .before .before .before .before .before .loop .inv .0) (c .before .before .before .before .loop-test .taken) (omega (arith, c .before .before .before .before .before .before .before .before .before .pre .3)) (c .before .before .before .before .before .loop .inv .3 f h) (c .before .before .base-of .ensures) (c .before .before .before .before .before .before .last-of .ensures))
+loop-again c = (omega arith, omega arith, length-set (c .before .before .before .before .before .loop .tags) (c .before .before .before .before .before .loop .i) _ ∙ c .before .before .before .before .before .loop .inv .2, λ f h. shown-turn f (c .before .before .before .before .before .before .before .before .before .args .range) (c .before .before .before .before .before .before .before .before .before .args .from) (c .before .before .before .before .before .before .before .before .before .args .upto) (c .before .before .before .before .before .before .before .before .before .args .cells .now) (c .before .before .before .before .before .before .before .before .before .args .tags .now) h (c .before .before .before .before .before .loop .i) (c .before .base-lives .result) (c .before .before .before .before .before .loop .tags) (c .before .before .before .before .before .loop .inv .0) (c .before .before .before .before .loop-test .taken) (omega (arith, c .before .before .before .before .before .before .before .before .before .pre .3)) (c .before .before .before .before .before .loop .inv .3 f h) (c .before .base-lives .ensures (getD (c .before .before .before .before .before .before .before .before .before .args .cells .now) (c .before .before .before .before .before .loop .i) 0) (c .before .before .before .before .before .before .before .before .before .pre .0) (c .before .before .before .before .before .before .last-of .ensures) (c .before .before .base-of .ensures)))
 
 same-length : tie.Need-same-length Inv-loop μ-loop
 same-length c = c .before .loop .inv .2
@@ -76,6 +79,7 @@ sweep-part-spec =
     mul-base-of
     shared-slice-read-base-of
     base-of-requires
+    base-lives-requires
     slice-read-tag
     cast-tags
     mul-tags

@@ -9,23 +9,17 @@ use Rattle.words.proofs.Lent.{times-most}
 use Rattle.words.proofs.collecting.collected_cell.Statement.{statement}
 use Rattle.words.proofs.collecting.collected_cell.Tie as tie
 
-base-of-requires : tie.Need-base-of-requires
-base-of-requires c κs = search needs
-
-cast-inside : tie.Need-cast-inside
-cast-inside c = search needs
-
-inside-requires : tie.Need-inside-requires
-inside-requires c κs = search needs
+dies-requires : tie.Need-dies-requires
+dies-requires c κs = search needs
 
 cast-result : tie.Need-cast-result
 cast-result c = search needs
 
 mul-result : tie.Need-mul-result
-mul-result c = omega (arith, times-most ((not (eqb (c .before .before .args .flag) 0) && c .inside .result)) (c .before .before .args .cell))
+mul-result c = omega (arith, times-most ((not (eqb (c .before .args .flag) 0) && c .dies .result)) (c .before .args .cell))
 
 returns : tie.Need-returns
-returns c = times ((not (eqb (c .before .before .args .flag) 0) && c .inside .result)) (c .before .before .args .cell) ∙ rw (c .inside .ensures, c .before .base-of .ensures)
+returns c = times ((not (eqb (c .before .args .flag) 0) && c .dies .result)) (c .before .args .cell) ∙ rw (c .dies .ensures)
 
 pub collected-cell-spec : {M : Type 1} → statement M
-collected-cell-spec = tie.close (tie.spec base-of-requires cast-inside inside-requires cast-result mul-result returns)
+collected-cell-spec = tie.close (tie.spec dies-requires cast-result mul-result returns)

@@ -7,23 +7,17 @@ use Rattle.words.proofs.Lent.{times-most}
 use Rattle.words.proofs.collecting.collected_mark.Statement.{statement}
 use Rattle.words.proofs.collecting.collected_mark.Tie as tie
 
-base-of-requires : tie.Need-base-of-requires
-base-of-requires c κs = search needs
-
-cast-inside : tie.Need-cast-inside
-cast-inside c = search needs
-
-inside-requires : tie.Need-inside-requires
-inside-requires c κs = search needs
+dies-requires : tie.Need-dies-requires
+dies-requires c κs = search needs
 
 cast-result : tie.Need-cast-result
 cast-result c = search needs
 
 mul-result : tie.Need-mul-result
-mul-result c = omega (arith, times-most (c .inside .result) (c .before .before .args .mark))
+mul-result c = omega (arith, times-most (c .dies .result) (c .before .args .mark))
 
 returns : tie.Need-returns
-returns c = times (c .inside .result) (c .before .before .args .mark) ∙ rw (c .inside .ensures, c .before .base-of .ensures)
+returns c = times (c .dies .result) (c .before .args .mark) ∙ rw (c .dies .ensures)
 
 pub collected-mark-spec : {M : Type 1} → statement M
-collected-mark-spec = tie.close (tie.spec base-of-requires cast-inside inside-requires cast-result mul-result returns)
+collected-mark-spec = tie.close (tie.spec dies-requires cast-result mul-result returns)
