@@ -22,7 +22,7 @@ use Rattle.machine.specs.State.{State}
 use Rattle.machine.specs.Formed as rules
 use Rattle.machine.proofs.Keeps.{facts}
 use Rattle.table.specs.Numbers.{rowFrom, rowCode}
-use Rattle.arrays.specs.Reading.{numbersOf, coreOf, stateOf, arraysOf, Formed}
+use Rattle.arrays.specs.Reading.{numbersOf, coreOf, stateOf, arraysOf, Formed, StateBackAgain}
 use Rattle.claims.proofs.RoundTrip.{claims-back}
 use Rattle.words.proofs.Lent.{slots-back}
 use Rattle.table.proofs.RoundTrip.{AllSized, rows-back}
@@ -57,8 +57,7 @@ table-rows-back cells t h e k =
     rows-back (t .rows)
     (subst AllSized (sym (rows-parts t)) (both-sized (live t) (drop (t .count) (t .rows)) (tiled-sized 0 cells (live t) h (s .tiled) k) (blank-sized (drop (t .count) (t .rows)) (s .unused))))
 
--- A well-formed state, written and read again, is the same: no number of it is lost.
-pub state-back-again : (s : State) → rules.wellFormed s ≡ true → stateOf (arraysOf s) ≡ s
+pub state-back-again : StateBackAgain
 unfolding stateOf arraysOf coreOf numbersOf
 state-back-again s w =
     let c = core-facts (s .core) (facts s w .core) in

@@ -46,3 +46,7 @@ arraysOf s =
 pub record Formed (a : Arrays) : Type 0 where
   pub well : wellFormed (stateOf a) ≡ true
   pub kept : arraysOf (stateOf a) ≡ a
+
+-- A well-formed state, written and read again, is the same: no number of it is lost.
+abbrev pub StateBackAgain : Type 0
+StateBackAgain = (s : State) → wellFormed s ≡ true → stateOf (arraysOf s) ≡ s

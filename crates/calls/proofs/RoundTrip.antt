@@ -10,20 +10,18 @@ use borrow.Author.Tests.{ltb-true, leb-true}
 use Rattle.calls.specs.Bytes.{numbersAt, bytesIn, Fit, Bytes}
 use Rattle.calls.specs.Commands.{commandOf, lengthOf, callAt, byteOf, operandsOf, bytesOf, Fitting}
 use Rattle.calls.specs.Reader.{whole, readOf}
+use Rattle.calls.specs.Promises.{RoundTrip, WrittenInBytes, LengthsAgree, ReadFrom, ReadBack, OneCall, DifferentBytes}
 use Rattle.calls.specs.declared.Call.{Call}
 use Rattle.calls.specs.declared.Reading.the-variants.{Read, Refused}
 use Rattle.calls.proofs.Inputs.{answer-of, call-read}
 use Rattle.calls.proofs.Bytes.{numbers-of-bytes, bytes-of-numbers, numbers-fit, length-bytesIn, fitting-bytesIn}
 use Rattle.calls.proofs.Table.{listed, Entry, entry, in-table}
 
--- The lengths of the reader and of the writer agree.
-pub lengths-agree : (c : Call) → length (bytesOf c) ≡ lengthOf (byteOf c)
+pub lengths-agree : LengthsAgree
 lengths-agree c =
     ap suc (length-bytesIn (commandOf (byteOf c) .widths) (operandsOf c) (listed c .shaped)) ∙ sym (listed c .long)
 
--- A call that was written is read, whatever follows it, and uses the bytes that were written. It holds of every call: one whose
--- numbers fit is written in bytes.
-pub round-trip : (c : Call) (rest : List ℕ) → readOf (bytesOf c ++ rest) ≡ Read c (length (bytesOf c))
+pub round-trip : RoundTrip
 round-trip c rest =
     sym (call-read (bytesOf c ++ rest) (byteOf c) (length (bytesOf c)) refl (lengths-agree c) again some inside .is)
   where
@@ -41,16 +39,9 @@ round-trip c rest =
     inside : length (bytesOf c) ≤ length (bytesOf c ++ rest)
     inside = simp length-append (omega arith)
 
--- A call whose numbers fit is written in bytes.
-pub written-in-bytes : (c : Call) → Fitting c → Bytes (bytesOf c)
+pub written-in-bytes : WrittenInBytes
 written-in-bytes c f zero = omega (arith, in-table (byteOf c) (λ z. omega (arith, listed c .long)) .1)
 written-in-bytes c f (suc i) = fitting-bytesIn (commandOf (byteOf c) .widths) (operandsOf c) f i
-
--- What a call that was read says of the input.
-pub record Found (s : List ℕ) (c : Call) (n : ℕ) : Type 0 where
-  pub inside : n ≤ length s
-  pub same : take n s ≡ bytesOf c
-  pub fitting : Fitting c
 
 both : (a b : Bool) → (a && b) ≡ true → (a ≡ true) × (b ≡ true)
 both true b e = (refl, e)
@@ -60,7 +51,7 @@ both false b e = absurd (true≢false (sym e))
 joined : ℕ × List ℕ → List ℕ
 joined p = p .0 ∷ bytesIn (commandOf (p .0) .widths) (p .1)
 
-found : (k : ℕ) (t : List ℕ) → Bytes (k ∷ t) → whole (k ∷ t) ≡ true → Found (k ∷ t) (callAt k (k ∷ t)) (lengthOf k)
+found : (k : ℕ) (t : List ℕ) → Bytes (k ∷ t) → whole (k ∷ t) ≡ true → ReadFrom (k ∷ t) (callAt k (k ∷ t)) (lengthOf k)
 unfolding whole joined
 found k t b w = record {
   inside = room;
@@ -87,27 +78,25 @@ found k t b w = record {
 refused-differs : (c : Call) (n : ℕ) → Refused ≡ Read c n → ⊥
 refused-differs c n e = let z : _≡_ {A = ℕ} 0 1 = cc in omega arith
 
--- Bytes that read as a call are what the writer writes for it.
-pub read-back : (s : List ℕ) → Bytes s → (c : Call) (n : ℕ) → readOf s ≡ Read c n → Found s c n
+pub read-back : ReadBack
 unfolding whole
 read-back [] b c n e = absurd (refused-differs c n (sym (answer-of [] false refl) ∙ e))
 read-back (k ∷ t) b c n e = go (whole (k ∷ t)) refl
   where
-    go : (w : Bool) → whole (k ∷ t) ≡ w → Found (k ∷ t) c n
+    go : (w : Bool) → whole (k ∷ t) ≡ w → ReadFrom (k ∷ t) c n
     go false w = absurd (refused-differs c n (sym (answer-of (k ∷ t) false w) ∙ e))
     go true w =
         let same : Read (callAt k (k ∷ t)) (lengthOf k) ≡ Read c n = sym (answer-of (k ∷ t) true w) ∙ e in
         let call : callAt k (k ∷ t) ≡ c = cc in
         let used : lengthOf k ≡ n = cc in
-        subst (λ (m : ℕ). Found (k ∷ t) c m) used
-        (subst (λ (d : Call). Found (k ∷ t) d (lengthOf k)) call (found k t b w))
+        subst (λ (m : ℕ). ReadFrom (k ∷ t) c m) used
+        (subst (λ (d : Call). ReadFrom (k ∷ t) d (lengthOf k)) call (found k t b w))
 
--- No input begins with two calls: two different calls never write equal bytes, nor one the beginning of the other's.
-pub one-call : (c d : Call) (rest others : List ℕ) → bytesOf c ++ rest ≡ bytesOf d ++ others → c ≡ d
+pub one-call : OneCall
 one-call c d rest others e =
     let same : Read c (length (bytesOf c)) ≡ Read d (length (bytesOf d)) =
     sym (round-trip c rest) ∙ ap readOf e ∙ round-trip d others in
     cc
 
-pub different-bytes : (c d : Call) → bytesOf c ≡ bytesOf d → c ≡ d
+pub different-bytes : DifferentBytes
 different-bytes c d e = one-call c d [] [] (ap (λ (s : List ℕ). s ++ []) e)

@@ -4,3 +4,4 @@ pub mod Commands
 pub mod Parts
 pub mod Reader
 pub mod Writer
+pub mod Promises

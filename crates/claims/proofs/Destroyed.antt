@@ -17,6 +17,7 @@ use Rattle.claims.specs.Claims.{Claims, claims, nobody, principalAt, inB
 use Rattle.claims.specs.Tree.{byParent, leadsUp}
 use Rattle.claims.specs.Operations.{destroyReasons, returned, dropped, destroyOf}
 use Rattle.claims.specs.Sound.{principalSound, countsSound, total, claimsSound}
+use Rattle.claims.specs.Promises.{DestroyDrops, DestroyReturns, DestroyOthers, DestroyAllCounts}
 use Rattle.claims.proofs.Facts.{facts, sound}
 use Rattle.claims.proofs.Sums.{sum-one, sum-parts}
 use Rattle.claims.proofs.Principals.{apart, being-below, nobody-sound, none-sound, parent-being}
@@ -108,20 +109,20 @@ module _ (v : ℕ) (c : Claims) (s : claimsSound v c ≡ true) (party p : ℕ) (
   at-parent = parent-after c p (omega (arith, in-range, facts v c s .of-principals)) not-below
 
   -- Every principal but the parent that isn't dropped is as it was, with its counts, and the parent but for its unspent limit.
-  pub destroy-others : (q : ℕ) → leadsUp c p q ≡ false → (q ≡ parentOf c p → ⊥) → principalAt (destroyOf c p) q ≡ principalAt c q
-  destroy-others q e d = elsewhere c p q d ∙ pick-no (leadsUp c p q) nobody (principalAt c q) e
+  others : (q : ℕ) → leadsUp c p q ≡ false → (q ≡ parentOf c p → ⊥) → principalAt (destroyOf c p) q ≡ principalAt c q
+  others q e d = elsewhere c p q d ∙ pick-no (leadsUp c p q) nobody (principalAt c q) e
 
-  pub destroy-all-counts : (q : ℕ) → leadsUp c p q ≡ false → countsOf (destroyOf c p) q ≡ countsOf c q
-  destroy-all-counts q e = counts-after c p q ∙ pick-no (leadsUp c p q) [] (countsOf c q) e
+  all-counts : (q : ℕ) → leadsUp c p q ≡ false → countsOf (destroyOf c p) q ≡ countsOf c q
+  all-counts q e = counts-after c p q ∙ pick-no (leadsUp c p q) [] (countsOf c q) e
 
   pub destroy-counts : (q k : ℕ) → leadsUp c p q ≡ false → countOf (destroyOf c p) q k ≡ countOf c q k
-  destroy-counts q k e = ap (λ l. getD l k 0) (destroy-all-counts q e)
+  destroy-counts q k e = ap (λ l. getD l k 0) (all-counts q e)
 
   pub destroy-but : (q : ℕ) → leadsUp c p q ≡ false → ButUnspent c (destroyOf c p) q
   destroy-but =
       one-or-other (λ q. leadsUp c p q ≡ false → ButUnspent c after q) parent
       (λ e. but-unspent c after parent (unspent c parent + returned c p) at-parent)
-      (λ q d e. but-unspent c after q (unspent c q) (destroy-others q e d))
+      (λ q d e. but-unspent c after q (unspent c q) (others q e d))
 
   -- Those below are dropped, with their claims.
   pub destroy-gone : (q : ℕ) → leadsUp c p q ≡ true → principalAt (destroyOf c p) q ≡ nobody
@@ -133,18 +134,18 @@ module _ (v : ℕ) (c : Claims) (s : claimsSound v c ≡ true) (party p : ℕ) (
   destroy-none q e = counts-after c p q ∙ pick-yes (leadsUp c p q) [] (countsOf c q) e
 
   -- Exactly the principal and its descendants are dropped.
-  pub destroy-drops : (q : ℕ) → inBeing (destroyOf c p) q ≡ (inBeing c q && not (leadsUp c p q))
-  destroy-drops q = go (leadsUp c p q) refl
+  drops : (q : ℕ) → inBeing (destroyOf c p) q ≡ (inBeing c q && not (leadsUp c p q))
+  drops q = go (leadsUp c p q) refl
     where
       go : (b : Bool) → leadsUp c p q ≡ b → inBeing after q ≡ (inBeing c q && not b)
       go true e = ap (λ x. x .being) (destroy-gone q e) ∙ sym (and-false (inBeing c q))
       go false e = but-being c after q (destroy-but q e) ∙ sym (and-true (inBeing c q))
 
   -- The parent gets exactly what they had.
-  pub destroy-returns : limitOf (destroyOf c p) (parentOf c p) ≡ limitOf c (parentOf c p) + returned c p
-  destroy-returns =
+  returns : limitOf (destroyOf c p) (parentOf c p) ≡ limitOf c (parentOf c p) + returned c p
+  returns =
       let new = leaving (principalAt c parent) (unspent c parent + returned c p) in
-      let a = limit-by after parent (countsOf c parent) new (destroy-all-counts parent not-below) at-parent in
+      let a = limit-by after parent (countsOf c parent) new (all-counts parent not-below) at-parent in
       omega (arith, a)
 
   -- Well formed: nobody that stays has a parent that is dropped.
@@ -159,7 +160,7 @@ module _ (v : ℕ) (c : Claims) (s : claimsSound v c ≡ true) (party p : ℕ) (
       go true e = nobody-sound after q (principalAt after q) (destroy-gone q e)
       go false e =
           still-sound v c s after (λ r. leadsUp c p r ≡ false) stays destroy-but
-          (λ r h f. destroy-others r h (λ i. apart c parent r (parent-being v c s p) f (sym i)))
+          (λ r h f. others r h (λ i. apart c parent r (parent-being v c s p) f (sym i)))
           q e
 
   counts-sound : (q : ℕ) → q < 32 → countsSound v after q (countsOf after q) ≡ true
@@ -168,7 +169,7 @@ module _ (v : ℕ) (c : Claims) (s : claimsSound v c ≡ true) (party p : ℕ) (
       go : (b : Bool) → leadsUp c p q ≡ b → countsSound v after q (countsOf after q) ≡ true
       go true e = none-sound v after q (countsOf after q) (ap (λ x. x .being) (destroy-gone q e)) (destroy-none q e)
       go false e =
-          ap (countsSound v after q) (destroy-all-counts q e) ∙ but-counts c after q (destroy-but q e) v (countsOf c q) ∙ facts v c s .counts q h
+          ap (countsSound v after q) (all-counts q e) ∙ but-counts c after q (destroy-but q e) v (countsOf c q) ∙ facts v c s .counts q h
 
   -- The limits before the parent gets those of the dropped.
   abbrev remaining : ℕ → ℕ
@@ -180,7 +181,7 @@ module _ (v : ℕ) (c : Claims) (s : claimsSound v c ≡ true) (party p : ℕ) (
     where
       go : (b : Bool) → leadsUp c p q ≡ b → limitOf after q ≡ pick b 0 (limitOf c q)
       go true e = limit-by after q [] nobody (destroy-none q e) (destroy-gone q e)
-      go false e = limit-by after q (countsOf c q) (principalAt c q) (destroy-all-counts q e) (destroy-others q e d)
+      go false e = limit-by after q (countsOf c q) (principalAt c q) (all-counts q e) (others q e d)
 
   total-kept : total after ≡ total c
   unfolding returned
@@ -188,7 +189,7 @@ module _ (v : ℕ) (c : Claims) (s : claimsSound v c ≡ true) (party p : ℕ) (
       let a = sum-one 32 parent (limitOf after) remaining in-range remains in
       let b = sum-parts 32 (λ q. leadsUp c p q) (limitOf c) in
       let d = pick-no (leadsUp c p parent) 0 (limitOf c parent) not-below in
-      omega (arith, a, b, d, destroy-returns)
+      omega (arith, a, b, d, returns)
 
   pub destroy-sound : claimsSound v (destroyOf c p) ≡ true
   destroy-sound =
@@ -201,3 +202,15 @@ module _ (v : ℕ) (c : Claims) (s : claimsSound v c ≡ true) (party p : ℕ) (
         counts = counts-sound;
         of-limits = total-kept ∙ facts v c s .of-limits;
       })
+
+pub destroy-drops : DestroyDrops
+destroy-drops v c s party p clear = drops v c s party p clear
+
+pub destroy-returns : DestroyReturns
+destroy-returns v c s party p clear = returns v c s party p clear
+
+pub destroy-others : DestroyOthers
+destroy-others v c s party p clear = others v c s party p clear
+
+pub destroy-all-counts : DestroyAllCounts
+destroy-all-counts v c s party p clear = all-counts v c s party p clear

@@ -13,6 +13,7 @@ use Rattle.capabilities.proofs.Lists.{same-everywhere}
 use Rattle.claims.specs.Claims.{Claims, holds, unspent, countsOf, countOf, above, spent, limitOf, one}
 use Rattle.claims.specs.Operations.{claimReasons, claimOf, releaseReasons, releaseOf}
 use Rattle.claims.specs.Sound.{claimsSound, freshClaims}
+use Rattle.claims.specs.Promises.{ClaimCounts, ClaimSpends, ClaimLimit, ReleaseCounts, ReleaseLimit}
 use Rattle.claims.proofs.Facts.{facts, sound}
 use Rattle.claims.proofs.Counting.{one-none, one-some, above-past, above-zeros}
 use Rattle.claims.proofs.Changed.{changed, changed-count-else, changed-if}
@@ -143,14 +144,14 @@ module _ (v : ℕ) (c : Claims) (s : claimsSound v c ≡ true) (party p page : �
     pub claim-granted : Change c p page (countOf c p page + 1) (claimOf c p page)
     claim-granted = claiming c party p page (placed (can .held)) (within (can .held) k) can
 
-    pub claim-counts : countOf (claimOf c p page) p page ≡ countOf c p page + 1
-    claim-counts = change-count c p page (countOf c p page + 1) (claimOf c p page) claim-granted
+    counts-more : countOf (claimOf c p page) p page ≡ countOf c p page + 1
+    counts-more = change-count c p page (countOf c p page + 1) (claimOf c p page) claim-granted
 
-    pub claim-limit : (q : ℕ) → limitOf (claimOf c p page) q ≡ limitOf c q
-    claim-limit = change-limit c p page (countOf c p page + 1) (claimOf c p page) claim-granted
+    claim-keeps : (q : ℕ) → limitOf (claimOf c p page) q ≡ limitOf c q
+    claim-keeps = change-limit c p page (countOf c p page + 1) (claimOf c p page) claim-granted
 
-    pub claim-spends : spent (claimOf c p page) p ≡ pick (eqb (countOf c p page) 0) (spent c p + 1) (spent c p)
-    claim-spends =
+    spends : spent (claimOf c p page) p ≡ pick (eqb (countOf c p page) 0) (spent c p + 1) (spent c p)
+    spends =
         first-spends (countOf c p page) (spent c p) (spent (claimOf c p page) p) (change-spent c p page (countOf c p page + 1) (claimOf c p page) claim-granted)
 
   pub claim-sound : page < v → page < 256 → first (claimReasons c party p page) ≡ 0 → claimsSound v (claimOf c p page) ≡ true
@@ -169,11 +170,26 @@ module _ (v : ℕ) (c : Claims) (s : claimsSound v c ≡ true) (party p page : �
         change-sound c p page (countOf c p page - 1) (releaseOf c p page) release-granted v s (held-being c party p (may .held))
         (counted-below v c p (own (may .held)) page (may .some))
 
-    pub release-counts : countOf (releaseOf c p page) p page + 1 ≡ countOf c p page
-    release-counts =
+    counts-less : countOf (releaseOf c p page) p page + 1 ≡ countOf c p page
+    counts-less =
         let t = change-count c p page (countOf c p page - 1) (releaseOf c p page) release-granted in
         let m = may .some in
         omega (arith, t, m)
 
-    pub release-limit : (q : ℕ) → limitOf (releaseOf c p page) q ≡ limitOf c q
-    release-limit = change-limit c p page (countOf c p page - 1) (releaseOf c p page) release-granted
+    release-keeps : (q : ℕ) → limitOf (releaseOf c p page) q ≡ limitOf c q
+    release-keeps = change-limit c p page (countOf c p page - 1) (releaseOf c p page) release-granted
+
+pub claim-counts : ClaimCounts
+claim-counts v c s party p page k r = counts-more v c s party p page k r
+
+pub claim-spends : ClaimSpends
+claim-spends v c s party p page k r = spends v c s party p page k r
+
+pub claim-limit : ClaimLimit
+claim-limit v c s party p page k r = claim-keeps v c s party p page k r
+
+pub release-counts : ReleaseCounts
+release-counts v c s party p page r = counts-less v c s party p page r
+
+pub release-limit : ReleaseLimit
+release-limit v c s party p page r = release-keeps v c s party p page r

@@ -5,3 +5,4 @@ pub mod Sound
 pub mod Numbers
 pub mod Cost
 pub mod Lent
+pub mod Promises

@@ -15,9 +15,9 @@ use Rattle.words.specs.Words.{slot, registerOf}
 use Rattle.machine.specs.Formed.{startOf}
 use Rattle.machine.specs.Roles.{IsTake}
 use Rattle.machine.proofs.Computing.{computing}
-use Rattle.histories.specs.Runs.{Machine, outcome, next, run, begun}
+use Rattle.histories.specs.Runs.{Machine, outcome, next, run, begun, granted}
 use Rattle.histories.specs.Live.{virtual, wordIn}
-use Rattle.privacy.specs.Rule.{Registers, inRegisters, granted, housed, Time, takenRange, ending, until, into, aimed, struck, Left, remaining, left, indiscreet, discreet, Told, told}
+use Rattle.privacy.specs.Rule.{Registers, inRegisters, housed, Time, takenRange, ending, until, into, aimed, struck, Left, remaining, left, indiscreet, discreet, Told, told}
 use Rattle.privacy.specs.Claim.{Within, atTake, afterTake, time}
 
 -- A call of both lists, with its answer in each; or of the first or the second alone, with its answer.

@@ -26,7 +26,8 @@ use Rattle.table.specs.Sound.{wholeTable, soundNumbers}
 use Rattle.table.proofs.RoundTrip.{reads-sized, numbers-back, rows-written}
 use Rattle.reservations.specs.Revocation.{revoked, revocationSound}
 use Rattle.reservations.proofs.CoreKept.{core-facts, core-made}
-use Rattle.words.specs.Lent.{slotsOf, bytesOf, bit, mailboxSound}
+use Rattle.words.specs.Words.{mailboxSound}
+use Rattle.words.specs.Lent.{slotsOf, bytesOf, bit}
 use Rattle.words.proofs.Lent.{slots-length, cells-kept, bytes-kept, bytes-bits}
 use Rattle.machine.specs.Formed as rules
 use Rattle.machine.proofs.Keeps.{facts, formed}
@@ -35,7 +36,7 @@ use Rattle.arrays.specs.Reading.{arrays, coreOf, numbersOf, stateOf, arraysOf, 
 use Rattle.arrays.proofs.Facts.{lengths, claims-pass}
 use Rattle.arrays.proofs.Writing.{same-arrays}
 use Rattle.arrays.proofs.Lists.{length-map}
-use Rattle.formed.specs.Test.{sized, canonical, cached, formedOf}
+use Rattle.formed.specs.Test.{sized, canonical, cached, formedOf, Tested, Passing}
 
 pub record Parts (a : Arrays) : Type 0 where
   pub words : length (a .words) ≡ 64
@@ -170,9 +171,9 @@ module _ (a : Arrays) (p : Parts a) where
 
 -- The test and the parts.
 module _ (a : Arrays) where
-  pub tested : formedOf a ≡ true → Formed a
+  holds : formedOf a ≡ true → Formed a
   unfolding formedOf stateOf coreOf
-  tested e =
+  holds e =
       let n = a .nums in
       let k = coreOf (a .nums) (a .rows) (a .pages) (a .frames) (a .principals) (a .counts) in
       let b1 = eqb (length (a .words)) 64 in
@@ -238,10 +239,13 @@ module _ (a : Arrays) where
       go : (x : Bool) → b ≡ x → (y : Bool) → formedOf a ≡ y → b ≡ formedOf a
       go true e y d = e ∙ sym (passes (there e))
       go false e false d = e ∙ sym d
-      go false e true d = absurd (true≢false (sym (back (parts a (tested d))) ∙ e))
+      go false e true d = absurd (true≢false (sym (back (parts a (holds d))) ∙ e))
 
 -- Well-formed arrays pass.
-pub passing : (a : Arrays) → Formed a → formedOf a ≡ true
+pub tested : Tested
+tested a e = holds a e
+
+pub passing : Passing
 passing a f = passes a (parts a f)
 
 -- The test in the code's order: the lengths of registers and mailboxes and the page layer, then the rest.

@@ -1,6 +1,6 @@
 -- Well-formed arrays, as a test. Assumes nothing.
 use Prim.Native.Nat.{ℕ}
-use mathlib.Core.Bool.{Bool, _&&_}
+use mathlib.Core.Bool.{Bool, true, _&&_}
 use mathlib.Core.List.{List}
 use mathlib.Core.Path.{_≡_}
 use lib.ListN.{length}
@@ -15,7 +15,7 @@ use Rattle.arrays.specs.declared.Numbers.{Numbers}
 use Rattle.pages.specs.Numbers.{pageKept, frameKept}
 use Rattle.table.specs.Numbers.{allWritten}
 use Rattle.claims.specs.Numbers.{sizedIn, keptIn}
-use Rattle.arrays.specs.Reading.{coreOf, stateOf}
+use Rattle.arrays.specs.Reading.{coreOf, stateOf, Formed}
 
 -- The arrays have the lengths of the machine.
 abbrev pub sized : Arrays → Bool
@@ -41,3 +41,10 @@ RevocationKept r n rows pages =
 
 unfoldable pub formedOf : Arrays → Bool
 formedOf a = sized a && (canonical a && (cached (a .nums) (stateOf a .core) && wellFormed (stateOf a)))
+
+-- The test holds of well-formed arrays and of no others.
+abbrev pub Tested : Type 0
+Tested = (a : Arrays) → formedOf a ≡ true → Formed a
+
+abbrev pub Passing : Type 0
+Passing = (a : Arrays) → Formed a → formedOf a ≡ true

@@ -1,6 +1,7 @@
 -- A history: calls by any parties, refused ones included, each on the state that the one before handed back and the lent memory that
 -- it left, by the machine's own start and step. Assumes nothing.
 use Prim.Native.Nat.{ℕ, _*_}
+use mathlib.Core.Bool.{Bool}
 use mathlib.Core.List.{List, [], _∷_}
 use mathlib.Core.Path.{_≡_}
 use lib.ListN.{length}
@@ -8,7 +9,7 @@ use Rattle.calls.specs.declared.Call.{Call}
 use Rattle.machine.specs.State.{State}
 use Rattle.machine.specs.State.{Answered}
 use Rattle.machine.specs.Formed.{startOf}
-use Rattle.machine.specs.Step.{Outcome, stepOf}
+use Rattle.machine.specs.Step.{Outcome, isGranted, stepOf}
 
 -- A state and the memory that it is lent.
 pub record Machine : Type 0 where
@@ -26,7 +27,10 @@ outcome m c = stepOf (m .state) c (m .cells) (m .tags)
 unfoldable pub next : Machine → Call → Machine
 next m c = machine (outcome m c .answer .state) (outcome m c .cells) (outcome m c .tags)
 
--- A call is granted.
+-- A call is granted: as a test, and as a statement.
+abbrev pub granted : Machine → Call → Bool
+granted m c = isGranted (outcome m c)
+
 abbrev pub Granted : Machine → Call → Type 0
 Granted m c = outcome m c .answer .code ≡ 0
 

@@ -6,7 +6,6 @@ use mathlib.Core.Bool.{true, false}
 use mathlib.Core.List.{List, [], _∷_, _++_}
 use mathlib.Core.Logic.{_⊎_}
 use mathlib.Core.Path.{_≡_}
-use lib.Dec.{eqb}
 use lib.ListN.{length, take as front}
 use Rattle.capabilities.specs.Lists.{pick}
 use Rattle.capabilities.specs.Range.{inside}
@@ -15,7 +14,7 @@ use Rattle.table.specs.Rows.{isOpen, isTaken, isRevoking, noTaker, severalTaker
 use Rattle.reservations.specs.Revocation.{revoked}
 use Rattle.calls.specs.declared.Call.{Call}
 use Rattle.machine.specs.Roles.{Role, takes, collects, fills, stores, grants, receives, plain, roleOf, callerOf, IsTake}
-use Rattle.histories.specs.Runs.{Machine, Granted, outcome, next, run, begun, Begins}
+use Rattle.histories.specs.Runs.{Machine, Granted, granted, next, run, begun, Begins}
 use Rattle.histories.specs.Lending.{namedRange}
 use Rattle.histories.specs.Inv.{rowAt}
 
@@ -32,7 +31,7 @@ takerBy m p plain cell before = before
 
 -- A refused call takes nothing.
 unfoldable pub takerAfter : Machine → Call → ℕ → ℕ → ℕ
-takerAfter m c cell before = pick (eqb (outcome m c .answer .code) 0) (takerBy m (callerOf c) (roleOf c .role) cell before) before
+takerAfter m c cell before = pick (granted m c) (takerBy m (callerOf c) (roleOf c .role) cell before) before
 
 -- Who has taken a cell after a list of calls, read off the calls: the party of the last granted take of a range with the cell, or nobody if
 -- there is none or a granted collect of a range with the cell came after it.

@@ -17,7 +17,8 @@ use Rattle.machine.specs.Step.{Outcome, left, refused, stepOf}
 use Rattle.machine.specs.Command.{Ran, used, onReading, commandJudged, commandOf}
 use Rattle.machine.proofs.Judging.{pick-by, judged-step, refused-keeps}
 use Rattle.machine.proofs.Order.{code-at-most}
-use Rattle.machine.proofs.Lengths.{Sized, refused-sized, step-sized}
+use Rattle.machine.specs.Demands.{Sized}
+use Rattle.machine.proofs.Lengths.{refused-sized, step-sized}
 use Rattle.machine.proofs.Keeps.{step-keeps}
 
 -- What a command leaves, without the bytes that it used.

@@ -18,7 +18,8 @@ use Rattle.reservations.specs.Revocation.{coreSound}
 use Rattle.calls.specs.declared.Call.{Call}
 use Rattle.words.specs.declared.Slot.{Slot}
 use Rattle.machine.specs.State.{State}
-use Rattle.machine.specs.Formed.{mailboxSound, mailboxesSound, formedBare, wellFormed}
+use Rattle.words.specs.Words.{mailboxSound}
+use Rattle.machine.specs.Formed.{mailboxesSound, formedBare, wellFormed}
 use Rattle.machine.specs.Reasons.{reads, reasons}
 use Rattle.machine.specs.Effects.{effect}
 use Rattle.machine.specs.Step.{reasonsOn, effectOn, stepOf}

@@ -16,6 +16,7 @@ use Rattle.machine.specs.State.{State}
 use Rattle.machine.specs.Formed.{wellFormed}
 use Rattle.machine.specs.Step.{Outcome, refused, done, reasonsOn, effectOn, ruled, judged, stepOf}
 use Rattle.machine.specs.Command.{used, commandJudged, commandOf}
+use Rattle.machine.specs.Demands.{RefusedKeeps}
 
 -- What holds of a choice holds if it holds of each side under its test.
 pub pick-by : {A : Type 0} (P : A → Type 0) (b : Bool) (x y : A) → (b ≡ true → P x) → (b ≡ false → P y) → P (pick b x y)
@@ -62,14 +63,6 @@ module _ (s : State) (c : Call) (cells tags : List ℕ) where
   unfolding done
   done-zero = refl
 
-  -- "The lowest number that applies is answered, with number 0, tag 0 and every bit of state and memory kept": an answer
-  -- other than 0 keeps the state, the lent cells and the lent tags.
-  pub refused-keeps :
-      (stepOf s c cells tags .answer .code ≡ 0 → ⊥) → stepOf s c cells tags ≡ refused (stepOf s c cells tags .answer .code) s cells tags
-  refused-keeps =
-      step-by s c cells tags (λ o. (o .answer .code ≡ 0 → ⊥) → o ≡ refused (o .answer .code) s cells tags) (λ g n. absurd (n done-zero))
-      (λ k n m. refl)
-
   -- For runs of many commands: on a well-formed state the step that looks no more at it is the step.
   pub judged-step : wellFormed s ≡ true → judged s c cells tags ≡ stepOf s c cells tags
   unfolding stepOf
@@ -81,3 +74,8 @@ pub judged-command : (s : State) (input : List ℕ) (at : ℕ) (cells tags : Lis
 unfolding commandOf
 judged-command s input at cells tags h =
     sym (pick-yes (wellFormed s) (commandJudged s input at cells tags) (used 0 (refused 1 s cells tags)) h)
+
+pub refused-keeps : RefusedKeeps
+refused-keeps s c cells tags =
+    step-by s c cells tags (λ o. (o .answer .code ≡ 0 → ⊥) → o ≡ refused (o .answer .code) s cells tags)
+    (λ g n. absurd (n (done-zero s c cells tags))) (λ k n m. refl)

@@ -30,10 +30,12 @@ use Rattle.calls.specs.declared.Call.{Call}
 use Rattle.words.specs.declared.Slot.{Slot}
 use Rattle.words.specs.Words.{empty, collectedMailbox}
 use Rattle.machine.specs.State.{State}
-use Rattle.machine.specs.Formed.{mailboxSound, mailboxesSound, sized, formedBare, wellFormed, fresh, startOf}
+use Rattle.words.specs.Words.{mailboxSound}
+use Rattle.machine.specs.Formed.{mailboxesSound, sized, formedBare, wellFormed, fresh, startOf}
 use Rattle.machine.specs.Roles.{Asked}
 use Rattle.machine.specs.Effects.{MailboxChange, keepMailboxes, putMailbox, collectMailboxes, Effect}
 use Rattle.machine.specs.Step.{mailboxesAfter, done, reasonsOn, effectOn, judged, stepOf}
+use Rattle.machine.specs.Demands.{StepKeeps, StartFormed}
 use Rattle.machine.proofs.Judging.{judged-by, step-by}
 use Rattle.machine.proofs.Deeds.{Recored, splits, merges, gives, revokes, maps, unmaps, reclaims, Deed, took, recored, swept, collectedAll, zeroed, filled, wrote, mailed, received, deed}
 use Rattle.machine.proofs.Lengths.{length-registers, length-mailboxes}
@@ -203,9 +205,9 @@ module _ (s : State) (c : Call) (cells tags : List ℕ) (w : wellFormed s ≡ tr
   pub judged-keeps : wellFormed (judged s c cells tags .answer .state) ≡ true
   judged-keeps = judged-by s c cells tags (λ o. wellFormed (o .answer .state) ≡ true) (done-keeps s c cells tags w) (λ k n. w)
 
-  pub step-keeps : wellFormed (stepOf s c cells tags .answer .state) ≡ true
-  step-keeps =
-      step-by s c cells tags (λ o. wellFormed (o .answer .state) ≡ true) (λ g. done-keeps s c cells tags w (g .served) (g .clear)) (λ k n. w)
+pub step-keeps : StepKeeps
+step-keeps s c cells tags w =
+    step-by s c cells tags (λ o. wellFormed (o .answer .state) ≡ true) (λ g. done-keeps s c cells tags w (g .served) (g .clear)) (λ k n. w)
 
 fresh-claims : (v f : ℕ) → inRange v f ≡ true → claimsSound (fresh v f .core .pages .v) (fresh v f .core .claims) ≡ true
 unfolding fresh freshCore
@@ -216,7 +218,7 @@ unfolding fresh
 fresh-formed v f e = formed (fresh v f) (record { core = core-fresh v f e; mailboxes = unfold each in refl; of-registers = refl; of-mailboxes = refl; takers = fresh-takers v f e; claims = fresh-claims v f e })
 
 -- A granted start is well formed.
-pub start-formed : (v f : ℕ) → startOf v f .code ≡ 0 → wellFormed (startOf v f .state) ≡ true
+pub start-formed : StartFormed
 unfolding startOf
 start-formed v f e = fresh-formed v f (go (inRange v f) refl)
   where

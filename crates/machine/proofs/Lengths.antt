@@ -21,6 +21,7 @@ use Rattle.machine.specs.State.{State}
 use Rattle.machine.specs.Roles.{Asked}
 use Rattle.machine.specs.Effects.{RegisterChange, keepRegisters, putRegister, collectRegisters, MailboxChange, keepMailboxes, putMailbox, collectMailboxes, MemoryChange, keepMemory, Write, writeWords, clearFrame, sweepCells, Effect}
 use Rattle.machine.specs.Step.{Outcome, refused, registersAfter, mailboxesAfter, writtenCells, writtenTags, cellsAfter, tagsAfter, done, reasonsOn, effectOn, judged, stepOf}
+use Rattle.machine.specs.Demands.{Sized, StepSized}
 use Rattle.machine.proofs.Judging.{judged-by, step-by}
 use Rattle.machine.proofs.Deeds.{Deed, took, recored, swept, collectedAll, zeroed, filled, wrote, mailed, received, deed}
 use Rattle.machine.proofs.PagesKept.{zero-clear}
@@ -86,13 +87,6 @@ clears-below s (wrote p a off x low-p low-a g) = refl
 clears-below s (mailed p x to t) = refl
 clears-below s (received p d low) = refl
 
--- An outcome with as many registers, mailboxes, cells and tags as were given.
-pub record Sized (s : State) (cells tags : List ℕ) (o : Outcome) : Type 0 where
-  pub of-registers : length (o .answer .state .registers) ≡ length (s .registers)
-  pub of-mailboxes : length (o .answer .state .mailboxes) ≡ length (s .mailboxes)
-  pub of-cells : length (o .cells) ≡ length cells
-  pub of-tags : length (o .tags) ≡ length tags
-
 -- A refusal keeps them all; so does a call that is done.
 pub refused-sized : (s : State) (cells tags : List ℕ) (k : ℕ) → Sized s cells tags (refused k s cells tags)
 refused-sized s cells tags k = record { of-registers = refl; of-mailboxes = refl; of-cells = refl; of-tags = refl }
@@ -113,10 +107,9 @@ done-sized s c cells tags m e =
     }
 
 -- Every call, granted or refused, keeps the numbers of registers, mailboxes, lent cells and lent tags.
-module _ (s : State) (c : Call) (cells tags : List ℕ) where
-  pub judged-sized : Sized s cells tags (judged s c cells tags)
-  judged-sized = judged-by s c cells tags (Sized s cells tags) (done-sized s c cells tags) (λ k n. refused-sized s cells tags k)
+pub judged-sized : (s : State) (c : Call) (cells tags : List ℕ) → Sized s cells tags (judged s c cells tags)
+judged-sized s c cells tags = judged-by s c cells tags (Sized s cells tags) (done-sized s c cells tags) (λ k n. refused-sized s cells tags k)
 
-  pub step-sized : Sized s cells tags (stepOf s c cells tags)
-  step-sized =
-      step-by s c cells tags (Sized s cells tags) (λ g. done-sized s c cells tags (g .served) (g .clear)) (λ k n. refused-sized s cells tags k)
+pub step-sized : StepSized
+step-sized s c cells tags =
+    step-by s c cells tags (Sized s cells tags) (λ g. done-sized s c cells tags (g .served) (g .clear)) (λ k n. refused-sized s cells tags k)

@@ -15,10 +15,6 @@ pub mod Forgetting
 pub mod Commands
 pub mod Unchanged
 pub mod Computing
-pub mod EdgesMet
-pub mod WrongMachines
-pub mod Shapes
 pub mod Masking
 pub mod Undoing
 pub mod Costs
-pub mod WrongCosts

@@ -22,26 +22,13 @@ use Rattle.machine.specs.Roles.{plainPermissions}
 use Rattle.machine.specs.Reasons.{takingReasons, reasons}
 use Rattle.machine.specs.Effects.{taking, effect}
 use Rattle.machine.specs.Step.{Outcome, left, refused, registersAfter, mailboxesAfter, cellsAfter, tagsAfter, done, ruled, judged, stepOf}
-
--- What a granted take leaves, but that register r of party p holds the capability with other permissions: from base on, as many cells as
--- are answered. A refused one is as it was.
-unfoldable pub permitting : ℕ → ℕ → ℕ → ℕ → Outcome → Outcome
-permitting p base r permissions o =
-    let a = o .answer in
-    let s = a .state in
-    let registers = set (s .registers) (8 * p + r) (slot (capability base (a .number) permissions) true) in
-    pick (eqb (a .code) 0)
-    (left (answered 0 (slot (a .number) (a .tag)) (record { core = s .core; registers = registers; mailboxes = s .mailboxes })) (o .cells) (o .tags)) o
+use Rattle.machine.specs.Demands.{permitting, PlainStep, MaskedStep}
 
 module _ (s : State) (p base reg : ℕ) (cells tags : List ℕ) where
   -- 01 is 11 with mask 3.
   pub plain-ruled : ruled s (TakeMasked p base reg 3) cells tags ≡ ruled s (Take p base reg) cells tags
   unfolding ruled reasons effect
   plain-ruled = refl
-
-  pub plain-step : stepOf s (TakeMasked p base reg 3) cells tags ≡ stepOf s (Take p base reg) cells tags
-  unfolding stepOf judged ruled reasons effect
-  plain-step = refl
 
   module _ (x y : ℕ) where
     granted-permitting : done s (taking (s .core) p base reg y) cells tags ≡ permitting p base reg y (done s (taking (s .core) p base reg x) cells tags)
@@ -55,10 +42,9 @@ module _ (s : State) (p base reg : ℕ) (cells tags : List ℕ) where
     unfolding permitting
     refused-permitting k h = rw (ne-eqb k 0 h)
 
-  -- 11 leaves what 01 leaves, but for the permissions in reg.
-  pub masked-step : (mask : ℕ) → stepOf s (TakeMasked p base reg mask) cells tags ≡ permitting p base reg (permitted mask) (stepOf s (Take p base reg) cells tags)
+  masked : (mask : ℕ) → stepOf s (TakeMasked p base reg mask) cells tags ≡ permitting p base reg (permitted mask) (stepOf s (Take p base reg) cells tags)
   unfolding stepOf judged ruled reasons effect
-  masked-step mask = go (wellFormed s) (serves (s .core .pages) (length cells) (length tags)) (eqb code 0) refl
+  masked mask = go (wellFormed s) (serves (s .core .pages) (length cells) (length tags)) (eqb code 0) refl
     where
       code : ℕ
       code = first (takingReasons (s .core) p base reg)
@@ -73,3 +59,10 @@ module _ (s : State) (p base reg : ℕ) (cells tags : List ℕ) where
       go true true false e = refused-permitting plainPermissions (permitted mask) code (eqb-false code 0 e)
       go true false d e = refused-permitting plainPermissions (permitted mask) 2 (λ z. omega arith)
       go false b d e = refused-permitting plainPermissions (permitted mask) 1 (λ z. omega arith)
+
+pub plain-step : PlainStep
+unfolding stepOf judged ruled reasons effect
+plain-step s p base reg cells tags = refl
+
+pub masked-step : MaskedStep
+masked-step s p base reg cells tags mask = masked s p base reg cells tags mask

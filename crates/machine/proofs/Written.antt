@@ -21,11 +21,8 @@ use Rattle.machine.specs.State.{State}
 use Rattle.machine.specs.Formed.{wellFormed}
 use Rattle.machine.specs.Step.{refused, reasonsOn, ruled, judged, stepOf}
 use Rattle.machine.specs.Command.{used, onReading, commandJudged, commandOf}
+use Rattle.machine.specs.Demands.{usedUnder, CommandWritten}
 use Rattle.machine.proofs.Order.{late-code, ruled-code}
-
--- The bytes that a command of n bytes uses, by the code that is answered: none under refusals 1 and 2.
-abbrev pub usedUnder : ℕ → ℕ → ℕ
-usedUnder code n = pick (eqb code 1 || eqb code 2) 0 n
 
 -- A call judged by its own reasons answers neither 1 nor 2.
 late : (s : State) (c : Call) (cells tags : List ℕ) (n : ℕ) → usedUnder (ruled s c cells tags .answer .code) n ≡ n
@@ -56,13 +53,11 @@ module _ (s : State) (c : Call) (before rest cells tags : List ℕ) where
       go true e = rw e (ap (λ m. used m (ruled s c cells tags)) (sym (late s c cells tags n)))
       go false e = refl
 
-  pub command-written :
-      commandOf s (before ++ (bytesOf c ++ rest)) (length before) cells tags
-      ≡ used (usedUnder (stepOf s c cells tags .answer .code) (length (bytesOf c))) (stepOf s c cells tags)
-  unfolding commandOf stepOf
-  command-written = go (wellFormed s)
-    where
-      go : (b : Bool) → pick b (commandJudged s (before ++ (bytesOf c ++ rest)) (length before) cells tags) (used 0 (refused 1 s cells tags))
-          ≡ used (usedUnder (pick b (judged s c cells tags) (refused 1 s cells tags) .answer .code) (length (bytesOf c))) (pick b (judged s c cells tags) (refused 1 s cells tags))
-      go true = judged-written
-      go false = refl
+pub command-written : CommandWritten
+unfolding commandOf stepOf
+command-written s c before rest cells tags = go (wellFormed s)
+  where
+    go : (b : Bool) → pick b (commandJudged s (before ++ (bytesOf c ++ rest)) (length before) cells tags) (used 0 (refused 1 s cells tags))
+        ≡ used (usedUnder (pick b (judged s c cells tags) (refused 1 s cells tags) .answer .code) (length (bytesOf c))) (pick b (judged s c cells tags) (refused 1 s cells tags))
+    go true = judged-written s c before rest cells tags
+    go false = refl

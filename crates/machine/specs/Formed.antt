@@ -2,7 +2,7 @@
 -- and all unused entries are 0." Registers are in none of those lines. Document 02 asks for takers (2026-04) and for claims (2026-02).
 -- Assumes nothing.
 use Prim.Native.Nat.{ℕ}
-use mathlib.Core.Bool.{Bool, _&&_, _||_}
+use mathlib.Core.Bool.{Bool, _&&_}
 use lib.ListN.{length, replicate}
 use lib.Dec.{eqb}
 use Rattle.capabilities.specs.Lists.{pick, each}
@@ -12,13 +12,9 @@ use Rattle.table.specs.Tiling.{takersSound}
 use Rattle.reservations.specs.Revocation.{freshCore, coreSound}
 use Rattle.claims.specs.Sound.{claimsSound}
 use Rattle.words.specs.declared.Slot.{Slot}
-use Rattle.words.specs.Words.{empty}
+use Rattle.words.specs.Words.{empty, mailboxSound}
 use Rattle.machine.specs.State.{State}
 use Rattle.machine.specs.State.{Answered}
-
--- "One mailbox for one capability, empty and its cell 0 when untagged".
-abbrev pub mailboxSound : ℕ → Slot → Bool
-mailboxSound party w = w .tag || eqb (w .cell) 0
 
 unfoldable pub mailboxesSound : State → Bool
 mailboxesSound s = each mailboxSound 0 (s .mailboxes)

@@ -10,8 +10,4 @@ pub mod Cost
 pub mod Undoing
 pub mod Forgetting
 pub mod Command
-pub mod Edges
-pub mod Variants
-pub mod WrongClaims
-pub mod WrongMachines
-pub mod CostCases
+pub mod Demands

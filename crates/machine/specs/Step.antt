@@ -1,5 +1,6 @@
 -- One call: the reasons against it are judged in order, and if none applies its effect is done. Assumes nothing.
 use Prim.Native.Nat.{ℕ, _+_, _*_}
+use mathlib.Core.Bool.{Bool}
 use mathlib.Core.List.{List, [], _∷_, map}
 use lib.ListN.{length, set}
 use lib.Dec.{eqb}
@@ -26,6 +27,10 @@ pub record Outcome : Type 0 where
 
 abbrev pub left : Answered → List ℕ → List ℕ → Outcome
 left answer cells tags = record { answer = answer; cells = cells; tags = tags }
+
+-- "Code 0 means granted".
+abbrev pub isGranted : Outcome → Bool
+isGranted o = eqb (o .answer .code) 0
 
 -- "The lowest number that applies is answered, with number 0, tag 0 and every bit of state and memory kept."
 abbrev pub refused : ℕ → State → List ℕ → List ℕ → Outcome

@@ -14,4 +14,3 @@ pub mod Tiled
 pub mod Bases
 pub mod Least
 pub mod OwnTable
-pub mod WrongMaps

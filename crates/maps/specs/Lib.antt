@@ -3,5 +3,3 @@ pub mod Records
 pub mod Questions
 pub mod Walks
 pub mod Promises
-pub mod Cases
-pub mod WrongMaps

@@ -18,8 +18,9 @@ use Rattle.calls.specs.declared.Call.{Call}
 use Rattle.calls.specs.declared.Reading.{Reading}
 use Rattle.calls.specs.declared.Reading.the-variants.{Read, Refused}
 use Rattle.calls.proofs.Table.{listed}
-use Rattle.calls.proofs.RoundTrip.{Found, round-trip, read-back}
-use Rattle.operands.specs.Numbers.{numbersOf, callFrom, same, areCall, Answered, answered, writeNumbers, readNumbers}
+use Rattle.calls.specs.Promises.{ReadFrom}
+use Rattle.calls.proofs.RoundTrip.{round-trip, read-back}
+use Rattle.operands.specs.Numbers.{numbersOf, callFrom, same, areCall, Answered, answered, writeNumbers, readNumbers, WrittenReads, ReadWrites}
 use Rattle.operands.proofs.Lists.{same-self, same-equal}
 use Rattle.operands.proofs.Answers.{none-written, call-written, other-count, call-numbered, none-numbered}
 
@@ -90,9 +91,7 @@ written xs out n after e some = go (areCall xs) refl (leb (length (bytesOf (call
         absurd (nothing n out after some (call-written xs out is refl (too-short (callFrom xs) out (leb-false (length (bytesOf (callFrom xs))) (length out) room)) ∙ e))
     go true is true room = (is, leb-true (length (bytesOf (callFrom xs))) (length out) room)
 
--- What was written reads back: the length that was answered and the numbers that were given.
-pub written-reads : (xs out into after : List ℕ) (n : ℕ) → length into ≡ 7 → writeNumbers xs out ≡ answered n after → 0 < n
-    → readNumbers after 0 into ≡ answered n xs
+pub written-reads : WrittenReads
 written-reads xs out into after n seven e some =
     sym (ap (λ (m : ℕ). answered m xs) (sym (ap (λ (a : Answered). a .number) same-answer))
     ∙ call-numbered after 0 into seven
@@ -130,9 +129,7 @@ heard input at xs ys n e some = go (eqb (length xs) 7) refl (readOf (drop at inp
           whole-numbers = sym (ap (λ (a : Answered). a .slice) same-answer);
         }
 
--- What was read writes back: the numbers of a call that was read from bytes are written as those bytes.
-pub read-writes : (input : List ℕ) (at : ℕ) (xs ys out : List ℕ) (n : ℕ) → Bytes input → readNumbers input at xs ≡ answered n ys
-    → 0 < n → n ≤ length out → writeNumbers ys out ≡ answered n (take n (drop at input) ++ drop n out)
+pub read-writes : ReadWrites
 read-writes input at xs ys out n bytes e some room =
     sym (ap (λ (t : List ℕ). answered n (t ++ drop n out)) (found .same)
     ∙ ap (λ (m : ℕ). answered m (bytesOf c ++ drop m out)) (sym long)
@@ -144,7 +141,7 @@ read-writes input at xs ys out n bytes e some room =
     c : Call
     c = h .call
 
-    found : Found (drop at input) c n
+    found : ReadFrom (drop at input) c n
     found = read-back (drop at input) (λ i. rw (getD-drop at input i 0) (bytes (at + i))) c n (h .read)
 
     long : length (bytesOf c) ≡ n

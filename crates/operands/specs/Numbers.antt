@@ -1,11 +1,13 @@
 -- A call as seven numbers: its command, its operands in the order of their bytes, and 0 after them. Bytes read as their call, calls
 -- write as those bytes, each undoes the other. All of it stands on the one table of commands.
-use Prim.Native.Nat.{ℕ, suc, _-_, _%_, _^_}
+use Prim.Native.Nat.{ℕ, suc, _-_, _%_, _^_, _<_, _≤_}
 use mathlib.Core.Bool.{Bool, _&&_}
 use mathlib.Core.List.{List, _∷_, _++_}
-use lib.ListN.{length, getD, drop, replicate}
+use mathlib.Core.Path.{_≡_}
+use lib.ListN.{length, getD, take, drop, replicate}
 use lib.Dec.{eqb}
 use Rattle.capabilities.specs.Lists.{pick, each}
+use Rattle.calls.specs.Bytes.{Bytes}
 use Rattle.calls.specs.Commands.{Command, commandOf, byteOf, operandsOf}
 use Rattle.calls.specs.Reader.{readOf}
 use Rattle.calls.specs.Writer.{Outcome, writeOf}
@@ -61,3 +63,15 @@ numbered Refused xs = answered 0 xs
 -- The call at a place of an input, for which there is room in seven numbers and in no other count.
 unfoldable pub readNumbers : List ℕ → ℕ → List ℕ → Answered
 readNumbers input at xs = pick (eqb (length xs) 7) (numbered (readOf (drop at input)) xs) (answered 0 xs)
+
+-- What was written reads back: the length that was answered and the numbers that were given.
+abbrev pub WrittenReads : Type 0
+WrittenReads =
+    (xs out into after : List ℕ) (n : ℕ) → length into ≡ 7 → writeNumbers xs out ≡ answered n after → 0 < n
+    → readNumbers after 0 into ≡ answered n xs
+
+-- What was read writes back: the numbers of a call that was read from bytes are written as those bytes.
+abbrev pub ReadWrites : Type 0
+ReadWrites =
+    (input : List ℕ) (at : ℕ) (xs ys out : List ℕ) (n : ℕ) → Bytes input → readNumbers input at xs ≡ answered n ys
+    → 0 < n → n ≤ length out → writeNumbers ys out ≡ answered n (take n (drop at input) ++ drop n out)

@@ -32,11 +32,11 @@ use Rattle.machine.proofs.Costs.{cost-same}
 use Rattle.machine.specs.Step.{effectOn, registersAfter, mailboxesAfter, cellsAfter, tagsAfter}
 use Rattle.histories.specs.Inv.{rowAt, Confined, Inv}
 use Rattle.histories.specs.Inv.{Sound as Bounded}
-use Rattle.histories.specs.Runs.{Machine, outcome, next, run, begun}
+use Rattle.histories.specs.Runs.{Machine, outcome, next, run, begun, granted}
 use Rattle.histories.proofs.Always.{inv-step, inv-run, inv-begun}
 use Rattle.histories.proofs.Findings.{row-first}
 use Rattle.histories.proofs.View.{shown-at}
-use Rattle.privacy.specs.Rule.{housed, granted, Time, lasting, takenRange, timeAfter, into, told, heard}
+use Rattle.privacy.specs.Rule.{housed, Time, lasting, takenRange, timeAfter, into, told, heard}
 use Rattle.privacy.specs.Claim.{Within, Privacy, CostsUnnoticed}
 use Rattle.privacy.proofs.Fate.{Granted, Fate, down, up, fate, after}
 use Rattle.privacy.proofs.Glue.{Same, glue}

@@ -26,11 +26,11 @@ use Rattle.machine.specs.Effects.{Effect}
 use Rattle.machine.proofs.Deeds.{Filling, loads, narrows, numbers, aimedAt, Deed, took, recored, swept, collectedAll, zeroed, filled, wrote, mailed, received}
 use Rattle.machine.proofs.Found.{Addressing, Narrowing}
 use Rattle.machine.proofs.PagesKept.{zero-clear}
-use Rattle.histories.specs.Runs.{Machine}
+use Rattle.histories.specs.Runs.{Machine, granted}
 use Rattle.histories.specs.Live.{Within}
 use Rattle.histories.proofs.Findings.{less-of}
 use Rattle.histories.proofs.View.{seen, seen-once}
-use Rattle.privacy.specs.Rule.{housed, granted, lasting, into, capabilityInto, aimed, strikes, private, struck, handsOut, betrays, indiscreet}
+use Rattle.privacy.specs.Rule.{housed, lasting, into, capabilityInto, aimed, strikes, private, struck, handsOut, betrays, indiscreet}
 use Rattle.privacy.proofs.House.{into-by, Meets, meets, met, Apart, Tame, Good, apart-good, empty-apart, keep-good, Housed, RegisterSafe, MailboxSafe, MemorySafe}
 use Rattle.privacy.proofs.Tables.{takes, taken-apart}
 use Rattle.privacy.proofs.Words.{Fits}

@@ -28,11 +28,11 @@ use Rattle.machine.specs.Step.{effectOn, registersAfter, mailboxesAfter, writte
 use Rattle.machine.proofs.Deeds.{aimedAt, Deed, took, recored, swept, collectedAll, zeroed, filled, wrote, mailed, received, deed}
 use Rattle.machine.proofs.Found.{Addressing}
 use Rattle.histories.specs.Inv.{Inv}
-use Rattle.histories.specs.Runs.{Machine, machine, outcome, next}
+use Rattle.histories.specs.Runs.{Machine, machine, outcome, next, granted}
 use Rattle.histories.proofs.Always.{inv-step}
 use Rattle.histories.proofs.Showing.{came}
 use Rattle.histories.proofs.View.{written-other}
-use Rattle.privacy.specs.Rule.{housed, granted, isCollect, contains, Time, lasting, over, ending, until, aimed, strikes, private, struck, indiscreet, hidden}
+use Rattle.privacy.specs.Rule.{housed, isCollect, contains, Time, lasting, over, ending, until, aimed, strikes, private, struck, indiscreet, hidden}
 use Rattle.privacy.proofs.Fate.{codeOf, Granted, Fate, down, up, fate, after, next-done, next-down, code-is}
 use Rattle.privacy.proofs.House.{Housed, effect-housed}
 use Rattle.privacy.proofs.Relate.{Rel}

@@ -28,8 +28,8 @@ use Rattle.machine.proofs.Dependence.{formedBy, formed-by}
 use Rattle.machine.proofs.Deeds.{deed, collected-as}
 use Rattle.machine.proofs.Found.{Addressing, addressing}
 use Rattle.histories.proofs.Showing.{came}
-use Rattle.histories.specs.Runs.{Machine, next}
-use Rattle.privacy.specs.Rule.{inRegisters, housed, granted, collecting, isCollect, contains, Time, lasting, over, ending, until, strikes, struck, remaining, hidden}
+use Rattle.histories.specs.Runs.{Machine, next, granted}
+use Rattle.privacy.specs.Rule.{inRegisters, housed, collecting, isCollect, contains, Time, lasting, over, ending, until, strikes, struck, remaining, hidden}
 use Rattle.privacy.proofs.Fate.{codeOf, Fate, down, up, fate, after, next-down, told-done, told-down, code-is}
 use Rattle.privacy.proofs.Glue.{Both}
 use Rattle.privacy.proofs.House.{Housed}

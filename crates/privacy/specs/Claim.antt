@@ -7,8 +7,8 @@ use mathlib.Core.Path.{_≡_}
 use Rattle.calls.specs.declared.Call.{Call}
 use Rattle.machine.specs.Roles.{IsTake}
 use Rattle.machine.specs.Cost.{pageCost}
-use Rattle.histories.specs.Runs.{Machine, next, run, begun, Begins}
-use Rattle.privacy.specs.Rule.{granted, Time, lasting, takenRange, timeAfter, left, discreet, heard, Alike}
+use Rattle.histories.specs.Runs.{Machine, next, run, begun, Begins, granted}
+use Rattle.privacy.specs.Rule.{Time, lasting, takenRange, timeAfter, left, discreet, heard, Alike}
 
 -- "Both lists begin with the same granted start and equal lent memory of 16 × F cells and tags." From it on, `before` is the
 -- part of a list before the take. Nothing is struck there, and the take is "the same call in both lists", so `before` is the

@@ -23,11 +23,7 @@ use Rattle.machine.specs.State.{Answered}
 use Rattle.machine.specs.State.{State}
 use Rattle.machine.specs.Roles.{Role, takes, collects, fills, stores, grants, receives, plain, roleOf, callerOf}
 use Rattle.machine.specs.Reasons.{reads}
-use Rattle.histories.specs.Runs.{Machine, outcome, next}
-
--- "Code 0 means granted".
-abbrev pub granted : Machine → Call → Bool
-granted m c = eqb (outcome m c .answer .code) 0
+use Rattle.histories.specs.Runs.{Machine, outcome, next, granted}
 
 -- The call is the house's.
 abbrev pub housed : ℕ → Call → Bool

@@ -9,22 +9,22 @@ use Rattle.capabilities.proofs.Flatten.{filter-flatten, filter-map, filter-none
 use Rattle.calls.specs.declared.Call.{Call}
 use Rattle.machine.specs.Formed.{startOf}
 use Rattle.session_rules.specs.Session.{zeroed}
-use Rattle.machine.specs.Step.{Outcome}
-use Rattle.histories.specs.Runs.{Machine, machine, outcome, next}
+use Rattle.machine.specs.Step.{Outcome, isGranted}
+use Rattle.histories.specs.Runs.{Machine, machine, outcome, next, granted}
 use Rattle.histories.specs.Forming.{Standing}
 use Rattle.histories.proofs.Forming.{standing-next, standing-ruled, standing-begun}
 use Rattle.short_histories.specs.Listed.{choices, listed}
-use Rattle.short_histories.specs.Histories.{freshOne, grants, grantsAll, sequences, counts, histories}
-use Rattle.short_histories.specs.Found.{byRules, foundBy, isGranted}
+use Rattle.short_histories.specs.Histories.{freshOne, grantsAll, sequences, counts, histories}
+use Rattle.short_histories.specs.Found.{byRules, foundBy}
 
 -- Those of n listed commands from a state on.
 abbrev pub continued : ℕ → Machine → List (List Call)
 continued = foundBy listed outcome isGranted
 
 module _ (n : ℕ) (m : Machine) (c : Call) (ih : continued n (next m c) ≡ filter (grantsAll (next m c)) (sequences n)) where
-  begins : pick (grants m c) (map (λ h. c ∷ h) (continued n (next m c))) [] ≡ filter (grantsAll m) (map (λ h. c ∷ h) (sequences n))
+  begins : pick (granted m c) (map (λ h. c ∷ h) (continued n (next m c))) [] ≡ filter (grantsAll m) (map (λ h. c ∷ h) (sequences n))
   unfolding grantsAll
-  begins = go (grants m c) ∙ sym (filter-map (grantsAll m) (λ h. c ∷ h) (sequences n))
+  begins = go (granted m c) ∙ sym (filter-map (grantsAll m) (λ h. c ∷ h) (sequences n))
     where
       go : (b : Bool) → pick b (map (λ h. c ∷ h) (continued n (next m c))) [] ≡ map (λ h. c ∷ h) (filter (λ h. b && grantsAll (next m c) h) (sequences n))
       go true = ap (map (λ h. c ∷ h)) ih
@@ -35,7 +35,7 @@ unfolding foundBy sequences choices filter grantsAll next
 continued-all zero m = refl
 continued-all (suc n) m =
     ap flatten
-    (map-same (λ c. pick (grants m c) (map (λ h. c ∷ h) (continued n (next m c))) []) (λ c. filter (grantsAll m) (map (λ h. c ∷ h) (sequences n))) listed
+    (map-same (λ c. pick (granted m c) (map (λ h. c ∷ h) (continued n (next m c))) []) (λ c. filter (grantsAll m) (map (λ h. c ∷ h) (sequences n))) listed
     (λ c. begins n m c (continued-all n (next m c)))
     ∙ sym (map-map (filter (grantsAll m)) (λ c. map (λ h. c ∷ h) (sequences n)) listed))
     ∙ sym (filter-flatten (grantsAll m) (map (λ c. map (λ h. c ∷ h) (sequences n)) listed))
@@ -57,7 +57,7 @@ continued-ruled (suc n) m v f s =
     ap flatten
     (map-same _ _ listed
     (λ c.
-    ap (λ hs. pick (grants m c) (map (λ h. c ∷ h) hs) []) (continued-ruled n (next m c) v f (standing-next m v f c s))
+    ap (λ hs. pick (granted m c) (map (λ h. c ∷ h) hs) []) (continued-ruled n (next m c) v f (standing-next m v f c s))
     ∙ ap
     (λ (o : Outcome). pick (eqb (o .answer .code) 0) (map (λ h. c ∷ h) (foundBy listed byRules isGranted n (machine (o .answer .state) (o .cells) (o .tags)))) [])
     (standing-ruled m v f c s)))

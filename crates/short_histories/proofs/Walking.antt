@@ -14,7 +14,7 @@ use Rattle.machine.specs.State.{State}
 use Rattle.machine.specs.Formed.{wellFormed, startOf}
 use Rattle.machine.specs.Step.{stepOf}
 use Rattle.session_rules.specs.Session.{zeroed}
-use Rattle.histories.specs.Runs.{Machine, outcome, next, begun}
+use Rattle.histories.specs.Runs.{Machine, outcome, next, begun, granted}
 use Rattle.histories.specs.Forming.{Standing}
 use Rattle.histories.proofs.Forming.{standing-next}
 use Rattle.arrays.specs.declared.Answer.{Answer}
@@ -27,7 +27,7 @@ use Rattle.step.specs.Entries.{judgedOn, stepOn}
 use Rattle.entries.specs.ByValue.{beginning, startOn}
 use Rattle.short_histories.specs.Listed.{listed}
 use Rattle.short_histories.specs.Text.{bytesIn, hexLine, lineOf}
-use Rattle.short_histories.specs.Histories.{freshOne, grants, counts, text}
+use Rattle.short_histories.specs.Histories.{freshOne, counts, text}
 use Rattle.short_histories.specs.Found.{foundBy}
 use Rattle.short_histories.specs.Walk.{leading, ledBy, onward, linesOn}
 use Rattle.short_histories.proofs.Continuing.{continued, histories-continued, fresh-standing}
@@ -45,7 +45,7 @@ unfolding stepOn judgedOn stepOf
 step-written s c cells tags w = rw (passing (arraysOf s) (written-formed s w), state-back-again s w, w)
 
 led-to : (m : Machine) (c : Call) → wellFormed (m .state) ≡ true
-    → ledBy (stepOn (arraysOf (m .state)) c (m .cells) (m .tags)) ≡ leading (grants m c) (arraysOf (next m c .state)) (next m c .cells) (next m c .tags)
+    → ledBy (stepOn (arraysOf (m .state)) c (m .cells) (m .tags)) ≡ leading (granted m c) (arraysOf (next m c .state)) (next m c .cells) (next m c .tags)
 unfolding ledBy leftOf outcome next
 led-to m c w = ap ledBy (step-written (m .state) c (m .cells) (m .tags) w)
 
@@ -68,11 +68,11 @@ lines-on zero bytes m v f s = unfold bytesIn flatten in ap hexLine (sym (append-
 lines-on (suc n) bytes m v f s =
     ap flatten
     (map-same (λ c. onward (linesOn n) bytes c (ledBy (stepOn (arraysOf (m .state)) c (m .cells) (m .tags))))
-    (λ c. behind bytes (pick (grants m c) (map (λ h. c ∷ h) (continued n (next m c))) [])) listed
+    (λ c. behind bytes (pick (granted m c) (map (λ h. c ∷ h) (continued n (next m c))) [])) listed
     (λ c.
     ap (onward (linesOn n) bytes c) (led-to m c (s .formed))
-    ∙ go (grants m c) c (lines-on n (bytes ++ bytesOf c) (next m c) v f (standing-next m v f c s) ∙ one-more bytes c (continued n (next m c)))))
-    ∙ sym (lines-of (λ h. hexLine (bytes ++ bytesIn h)) (λ c. pick (grants m c) (map (λ h. c ∷ h) (continued n (next m c))) []) listed)
+    ∙ go (granted m c) c (lines-on n (bytes ++ bytesOf c) (next m c) v f (standing-next m v f c s) ∙ one-more bytes c (continued n (next m c)))))
+    ∙ sym (lines-of (λ h. hexLine (bytes ++ bytesIn h)) (λ c. pick (granted m c) (map (λ h. c ∷ h) (continued n (next m c))) []) listed)
   where
     go : (b : Bool) (c : Call)
         → linesOn n (bytes ++ bytesOf c) (arraysOf (next m c .state)) (next m c .cells) (next m c .tags) ≡ behind bytes (map (λ h. c ∷ h) (continued n (next m c)))

@@ -3,10 +3,9 @@
 use Prim.Native.Nat.{ℕ, zero, suc}
 use mathlib.Core.Bool.{Bool}
 use mathlib.Core.List.{List, [], _∷_, map, flatten}
-use lib.Dec.{eqb}
 use Rattle.capabilities.specs.Lists.{pick}
 use Rattle.calls.specs.declared.Call.{Call}
-use Rattle.machine.specs.Step.{Outcome, ruled}
+use Rattle.machine.specs.Step.{Outcome, ruled, isGranted}
 use Rattle.histories.specs.Runs.{Machine, machine}
 use Rattle.short_histories.specs.Listed.{listed}
 use Rattle.short_histories.specs.Text.{lineOf}
@@ -26,9 +25,6 @@ foundBy commands by goes (suc n) m =
     let o = by m c in
     pick (goes o) (map (λ h. c ∷ h) (foundBy commands by goes n (machine (o .answer .state) (o .cells) (o .tags)))) [])
     commands)
-
-abbrev pub isGranted : Outcome → Bool
-isGranted o = eqb (o .answer .code) 0
 
 -- The text: by those of each number of commands, the numbers, the arrangement, and the line of each.
 unfoldable pub textBy : (ℕ → List (List Call)) → List ℕ → (List (List Call) → List (List Call)) → (List Call → List ℕ) → List ℕ

@@ -4,11 +4,10 @@ use Prim.Native.Nat.{ℕ}
 use mathlib.Core.Bool.{Bool, true, _&&_}
 use mathlib.Core.List.{List, [], _∷_, map, flatten}
 use lib.ListN.{replicate}
-use lib.Dec.{eqb}
 use Rattle.capabilities.specs.Lists.{filter}
 use Rattle.calls.specs.declared.Call.{Call}
 use Rattle.session_rules.specs.Session.{zeroed}
-use Rattle.histories.specs.Runs.{Machine, outcome, next, begun}
+use Rattle.histories.specs.Runs.{Machine, granted, next, begun}
 use Rattle.short_histories.specs.Listed.{choices, listed}
 use Rattle.short_histories.specs.Text.{lineOf}
 
@@ -16,13 +15,10 @@ use Rattle.short_histories.specs.Text.{lineOf}
 unfoldable pub freshOne : Machine
 freshOne = begun 1 1 (zeroed 1) (zeroed 1)
 
--- A call is granted; each of some calls is, in its turn.
-abbrev pub grants : Machine → Call → Bool
-grants m c = eqb (outcome m c .answer .code) 0
-
+-- Each of some calls is granted, in its turn.
 unfoldable pub grantsAll : Machine → List Call → Bool
 grantsAll m [] = true
-grantsAll m (c ∷ calls) = grants m c && grantsAll (next m c) calls
+grantsAll m (c ∷ calls) = granted m c && grantsAll (next m c) calls
 
 -- Every sequence of n listed commands.
 unfoldable pub sequences : ℕ → List (List Call)

@@ -9,12 +9,12 @@ use Rattle.capabilities.specs.Lists.{pick, Every, filter, same}
 use Rattle.calls.specs.declared.Call.{Call}
 use Rattle.calls.specs.declared.Call.the-variants.{Take, TakeMasked}
 use Rattle.session_rules.specs.Session.{zeroed}
-use Rattle.machine.specs.Step.{Outcome}
+use Rattle.machine.specs.Step.{Outcome, isGranted}
 use Rattle.histories.specs.Runs.{Machine, begun}
 use Rattle.short_histories.specs.Listed.{listed}
 use Rattle.short_histories.specs.Text.{bytesIn, digit, lineOf}
 use Rattle.short_histories.specs.Histories.{freshOne, counts, text}
-use Rattle.short_histories.specs.Found.{byRules, foundBy, isGranted, textBy, found, asTheyAre, rightText}
+use Rattle.short_histories.specs.Found.{byRules, foundBy, textBy, found, asTheyAre, rightText}
 
 -- ---- The parts
 abbrev pub byCommands : List Call → List ℕ

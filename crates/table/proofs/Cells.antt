@@ -16,6 +16,7 @@ use Rattle.table.specs.Table.{Table}
 use Rattle.table.specs.Rows.{rangeOf, blank, live}
 use Rattle.table.specs.Tiling.{tiles, covered, covers, tableSound}
 use Rattle.table.specs.Operations.{takeOf, giveOf, splitOf, mergeOf}
+use Rattle.table.specs.Promises.{AllCovered, NoSharedCell}
 use Rattle.table.proofs.Truth.{both, or-first, or-second, same-test}
 use Rattle.table.proofs.Tiled.{Begins, tiles-begin, tiles-none}
 use Rattle.table.proofs.Sound.{sound}
@@ -61,7 +62,7 @@ tiles-cover upto from (r ∷ l) c e =
     cover-more from upto r l c g (tiles-cover upto (from + r .length) l c (g .rest))
 
 -- Every cell of a well-formed table belongs to one of its reservations, and no other cell does.
-pub all-covered : (cells : ℕ) (t : Table) (c : ℕ) → tableSound cells t ≡ true → covers t c ≡ ltb c cells
+pub all-covered : AllCovered
 unfolding covers
 all-covered cells t c ok = tiles-cover cells 0 (live t) c (sound cells t ok .tiled) ∙ ap (λ b. b && ltb c cells) (le-leb 0 c (omega arith))
 
@@ -91,7 +92,7 @@ rows-apart upto (r ∷ l) from (suc i) (suc j) c e h k p q =
     ap suc (rows-apart upto l (from + r .length) i j c (tiles-begin from upto r l e .rest) (omega arith) (omega arith) p q)
 
 -- The ranges of two different reservations of a well-formed table share no cell.
-pub no-shared-cell : (cells : ℕ) (t : Table) (i j c : ℕ) → tableSound cells t ≡ true → i < length (live t) → j < length (live t) → inside (rangeOf (getD (live t) i blank)) c ≡ true → inside (rangeOf (getD (live t) j blank)) c ≡ true → i ≡ j
+pub no-shared-cell : NoSharedCell
 no-shared-cell cells t i j c ok = rows-apart cells (live t) 0 i j c (sound cells t ok .tiled)
 
 -- No operation on the table loses a cell.

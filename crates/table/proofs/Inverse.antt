@@ -24,6 +24,7 @@ use Rattle.table.specs.Find.{seek, rowOf, findOf, begins, nextOf, missin
 use Rattle.table.specs.Tiling.{allBlank, tableSound, takerSound, takersSound}
 use Rattle.table.specs.Operations.{tabled, badSplit, full, lowerPart, upperPart, splitReasonsAt, splitReasons, splitAt, splitOf}
 use Rattle.table.specs.Operations.{alike, joined, mergeable, mergeReasonsAt, mergeReasons, mergeAt, mergeOf}
+use Rattle.table.specs.Promises.{tableDone, MergeAfterSplit, SplitAfterMerge}
 use Rattle.table.proofs.Truth.{both, or-right}
 use Rattle.table.proofs.Finding.{found-at, seek-same, next-at, next-below}
 use Rattle.table.proofs.Walking.{blank-more}
@@ -146,20 +147,17 @@ module _ (cells : ℕ) (t : Table) (s : Sound cells t) (i : ℕ) (h : i + 1 < le
       ∙ ap (λ f. table f (length less + 1)) (sym (rows-parts t))
       ∙ ap (table (t .rows)) n
 
-abbrev done : Table → Tabled
-done t = record { code = 0; table = t }
-
-done-is : (code : ℕ) (before after : Table) → code ≡ 0 → tabled code before after ≡ done after
+done-is : (code : ℕ) (before after : Table) → code ≡ 0 → tabled code before after ≡ tableDone after
 done-is code before after e = rw e
 
 -- What is found and not refused is granted.
-merge-granted : (t : Table) (party base i : ℕ) → findOf t party base ≡ At i → mergeable t (At i) party ≡ true → mergeOf t party base ≡ done (mergeAt t (At i))
+merge-granted : (t : Table) (party base i : ℕ) → findOf t party base ≡ At i → mergeable t (At i) party ≡ true → mergeOf t party base ≡ tableDone (mergeAt t (At i))
 unfolding mergeOf mergeReasons mergeReasonsAt first
 merge-granted t party base i e m =
     ap (λ f. tabled (first (mergeReasonsAt t f party)) t (mergeAt t f)) e
     ∙ done-is (pick (not (mergeable t (At i) party)) 7 0) t (mergeAt t (At i)) (ap (λ b. pick (not b) 7 0) m)
 
-split-granted : (t : Table) (party base len i : ℕ) → findOf t party base ≡ At i → Splits t (At i) len → splitOf t party base len ≡ done (splitAt t (At i) len)
+split-granted : (t : Table) (party base len i : ℕ) → findOf t party base ≡ At i → Splits t (At i) len → splitOf t party base len ≡ tableDone (splitAt t (At i) len)
 unfolding splitOf splitReasons splitReasonsAt first
 split-granted t party base len i e k =
     ap (λ f. tabled (first (splitReasonsAt t f len)) t (splitAt t f len)) e
@@ -198,7 +196,7 @@ rejoined r len n o k e =
     same-row (joined (lowerPart r len) (upperPart r len)) r refl (omega arith) (sym (open-is (r .state) o)) refl (sym (open-taker r o k))
 
 module _ (cells : ℕ) (t : Table) (ok : tableSound cells t ≡ true) (takers : takersSound (live t) ≡ true) (fits : cells < 65536) (party base : ℕ) where
-  merge-split-at : (len i : ℕ) → findOf t party base ≡ At i → Splits t (At i) len → mergeOf (splitAt t (At i) len) party base ≡ done t
+  merge-split-at : (len i : ℕ) → findOf t party base ≡ At i → Splits t (At i) len → mergeOf (splitAt t (At i) len) party base ≡ tableDone t
   unfolding splitAt mergeable mergeAt
   merge-split-at len i e k =
       let s = sound cells t ok in
@@ -225,27 +223,26 @@ module _ (cells : ℕ) (t : Table) (ok : tableSound cells t ≡ true) (takers : 
       ∙ ap (λ x. held up party && alike (x .state) Open) low ∙ both (held up party) true holds refl in
       ap (λ x. mergeOf (spread t i (lowerPart x len) (upperPart x len)) party base) row
       ∙ merge-granted u party base i again may
-      ∙ ap done
+      ∙ ap tableDone
       (ap (λ x. gather u i (joined x (rowOf u (nextOf u (At i))))) low ∙ ap (λ x. gather u i (joined lo x)) high
       ∙ ap (gather u i) (rejoined r len short still (takers-row (live t) i takers h) fit)
       ∙ gather-spread cells t s i h lo up (leb-false 64 (t .count) (k .room)))
 
-  -- Merge after split gives back the table to the bit.
-  pub merge-after-split : (len : ℕ) → splitOf t party base len .code ≡ 0 → mergeOf (splitOf t party base len .table) party base ≡ done t
+  undone : (len : ℕ) → splitOf t party base len .code ≡ 0 → mergeOf (splitOf t party base len .table) party base ≡ tableDone t
   unfolding splitOf splitReasons
-  merge-after-split len z =
+  undone len z =
       ap (λ u. mergeOf u party base) (ap (λ a. a .table) (done-is (first (splitReasonsAt t (findOf t party base) len)) t (splitAt t (findOf t party base) len) z))
       ∙ go (findOf t party base) refl (split-clear t (findOf t party base) len z)
     where
-      go : (f : Found) → findOf t party base ≡ f → Splits t f len → mergeOf (splitAt t f len) party base ≡ done t
+      go : (f : Found) → findOf t party base ≡ f → Splits t f len → mergeOf (splitAt t f len) party base ≡ tableDone t
       go (At i) e k = merge-split-at len i e k
       go Nowhere e k = absurd (true≢false (k .found))
 
   -- Split after merge of what split made gives back what split made.
   pub split-merge-split : (len : ℕ) → splitOf t party base len .code ≡ 0 → splitOf (mergeOf (splitOf t party base len .table) party base .table) party base len ≡ splitOf t party base len
-  split-merge-split len z = ap (λ a. splitOf (a .table) party base len) (merge-after-split len z)
+  split-merge-split len z = ap (λ a. splitOf (a .table) party base len) (undone len z)
 
-  split-merge-at : (i : ℕ) → findOf t party base ≡ At i → mergeable t (At i) party ≡ true → isOpen (rowOf t (At i) .state) ≡ true → splitOf (mergeAt t (At i)) party base (rowOf t (At i) .length) ≡ done t
+  split-merge-at : (i : ℕ) → findOf t party base ≡ At i → mergeable t (At i) party ≡ true → isOpen (rowOf t (At i) .state) ≡ true → splitOf (mergeAt t (At i)) party base (rowOf t (At i) .length) ≡ tableDone t
   unfolding splitAt mergeable mergeAt
   split-merge-at i e m o =
       let w = sound cells t ok in
@@ -284,18 +281,23 @@ module _ (cells : ℕ) (t : Table) (ok : tableSound cells t ≡ true) (takers : 
       ap (λ x. splitOf (gather t i (joined x (rowOf t (nextOf t (At i))))) party base (x .length)) row
       ∙ ap (λ x. splitOf (gather t i (joined r x)) party base (r .length)) above
       ∙ split-granted u party base (r .length) i again k
-      ∙ ap done
+      ∙ ap tableDone
       (ap (λ x. spread u i (lowerPart x (r .length)) (upperPart x (r .length))) here
       ∙ ap (λ x. spread u i x (upperPart j (r .length))) lo ∙ ap (spread u i r) up
       ∙ spread-gather cells t w i b j)
 
-  -- Split after merge of two Open reservations gives back the table to the bit.
-  pub split-after-merge : mergeOf t party base .code ≡ 0 → isOpen (rowOf t (findOf t party base) .state) ≡ true → splitOf (mergeOf t party base .table) party base (rowOf t (findOf t party base) .length) ≡ done t
+  redone : mergeOf t party base .code ≡ 0 → isOpen (rowOf t (findOf t party base) .state) ≡ true → splitOf (mergeOf t party base .table) party base (rowOf t (findOf t party base) .length) ≡ tableDone t
   unfolding mergeOf mergeReasons nextOf
-  split-after-merge z o =
+  redone z o =
       ap (λ u. splitOf u party base (rowOf t (findOf t party base) .length)) (ap (λ a. a .table) (done-is (first (mergeReasonsAt t (findOf t party base) party)) t (mergeAt t (findOf t party base)) z))
       ∙ go (findOf t party base) refl (merge-clear t (findOf t party base) party z) o
     where
-      go : (f : Found) → findOf t party base ≡ f → mergeable t f party ≡ true → isOpen (rowOf t f .state) ≡ true → splitOf (mergeAt t f) party base (rowOf t f .length) ≡ done t
+      go : (f : Found) → findOf t party base ≡ f → mergeable t f party ≡ true → isOpen (rowOf t f .state) ≡ true → splitOf (mergeAt t f) party base (rowOf t f .length) ≡ tableDone t
       go (At i) e m p = split-merge-at i e m p
       go Nowhere e m p = absurd (true≢false (merge-next t Nowhere party m))
+
+pub merge-after-split : MergeAfterSplit
+merge-after-split cells t ok takers fits party base = undone cells t ok takers fits party base
+
+pub split-after-merge : SplitAfterMerge
+split-after-merge cells t ok takers fits party base = redone cells t ok takers fits party base

@@ -7,3 +7,4 @@ pub mod Numbers
 pub mod Lent
 pub mod Writes
 pub mod Sound
+pub mod Promises

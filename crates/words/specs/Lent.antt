@@ -1,8 +1,8 @@
 -- How registers and mailboxes lie in memory: the cells in one list, the tags as bytes in another. Assumes nothing.
 use Prim.Native.Nat.{ℕ, _+_, _*_}
-use mathlib.Core.Bool.{Bool, _&&_, _||_}
+use mathlib.Core.Bool.{Bool, _&&_}
 use mathlib.Core.List.{List, [], _∷_, map}
-use lib.Dec.{leb, eqb}
+use lib.Dec.{leb}
 use Rattle.capabilities.specs.declared.Range.{Range}
 use Rattle.capabilities.specs.Death.{dies}
 use Rattle.capabilities.specs.Lists.{pick}
@@ -29,10 +29,6 @@ registerIn words marks party reg = pick (named party && named reg) (wordAt words
 -- A tag byte that words are written as: "only 0 and 1 are written."
 abbrev pub bit : ℕ → ℕ → Bool
 bit i n = leb n 1
-
--- "One mailbox for one capability, empty and its cell 0 when untagged".
-abbrev pub mailboxSound : ℕ → Slot → Bool
-mailboxSound party w = w .tag || eqb (w .cell) 0
 
 -- Each number of the second list is replaced by what f makes of the number beside it in the first, and itself. Where either
 -- list ends the second stays.

@@ -1,7 +1,7 @@
 -- Document 01, 'Things and their sizes': "There are 8 parties, 0 to 7 .. Each party has 8 registers (a cell and its
 -- tag) and one mailbox for one capability". Assumes nothing.
 use Prim.Native.Nat.{ℕ, _+_, _*_}
-use mathlib.Core.Bool.{Bool, true, false, not, _&&_}
+use mathlib.Core.Bool.{Bool, true, false, not, _&&_, _||_}
 use mathlib.Core.List.{List}
 use lib.ListN.{getD}
 use lib.Dec.{ltb, eqb}
@@ -30,6 +30,10 @@ registerOf registers party reg = pick (named party && named reg) (getD registers
 
 unfoldable pub mailboxOf : List Slot → ℕ → Slot
 mailboxOf mailboxes party = getD mailboxes party empty
+
+-- "One mailbox for one capability, empty and its cell 0 when untagged".
+abbrev pub mailboxSound : ℕ → Slot → Bool
+mailboxSound party w = w .tag || eqb (w .cell) 0
 
 -- How a word that is loaded, stored or collected in a register may lose its tag: it is kept only if a test holds. The number stays.
 abbrev pub keepTag : Slot → Bool → Slot

@@ -9,7 +9,8 @@ ghost use Prim.Native.Nat.{min};
 ghost use lib.ListN.{set};
 ghost use Rattle.capabilities.specs.Lists.{each};
 ghost use Rattle.words.specs.Words.{byteOf};
-ghost use Rattle.words.specs.Lent.{slotsOf, registerIn, bit, mailboxSound};
+ghost use Rattle.words.specs.Words.{mailboxSound};
+ghost use Rattle.words.specs.Lent.{slotsOf, registerIn, bit};
 
 pub fn register_in(words: &[u64], marks: &[u8], party: u8, reg: u8) -> Slot
     ensures { λ r. ⌜ r ≡ registerIn (now (words .entry)) (now (marks .entry)) party reg ⌝ }

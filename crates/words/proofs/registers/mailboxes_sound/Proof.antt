@@ -8,7 +8,8 @@ use lib.Seq.{take-all}
 use Rattle.capabilities.specs.Lists.{each}
 use Rattle.capabilities.proofs.Lists.{each-more}
 use Rattle.words.specs.Words.{empty}
-use Rattle.words.specs.Lent.{slotsOf, mailboxSound}
+use Rattle.words.specs.Words.{mailboxSound}
+use Rattle.words.specs.Lent.{slotsOf}
 use Rattle.words.proofs.Lent.{slots-length, slots-at}
 use Rattle.words.proofs.registers.mailboxes_sound.Statement.{statement}
 use Rattle.words.proofs.registers.mailboxes_sound.Tie as tie

@@ -2,8 +2,8 @@
 use mathlib.Core.Bool.{true}
 use mathlib.Core.Path.{_≡_, refl}
 use Rattle.capabilities.specs.Lists.{same, all}
-use Rattle.machine.specs.Edges.{codesFrom, codes, meets, cases}
+use Rattle.cases.specs.Edges.{codesFrom, codes, meets, cases}
 use Rattle.machine.proofs.Computing.{computing}
 
 pub all-meet : all meets cases ≡ true
 unfolding all meets cases same codes codesFrom computing

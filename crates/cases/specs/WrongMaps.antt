@@ -9,14 +9,14 @@ use Rattle.capabilities.specs.Lists.{pick, Every, filter}
 use Rattle.capabilities.specs.declared.Range.{Range}
 use Rattle.table.specs.declared.Reservation.{Reservation}
 use Rattle.table.specs.Rows.{isOpen, isTaken, rangeOf}
 use Rattle.maps.specs.declared.Answer.{Answer}
 use Rattle.maps.specs.declared.Question.{Question}
 use Rattle.maps.specs.declared.Question.the-variants.{Sharing, Within, Nearest}
 use Rattle.maps.specs.Cells.{span, shares, within, distance, beyond}
 use Rattle.maps.specs.Records.{tileFrom, cellsOf, badRecords}
 use Rattle.maps.specs.Questions.{listed, basesOf, candidate, nearer, nearest, answer, badQuestion, Left, left, put, askOf}
 use Rattle.maps.specs.Promises.{apart}
-use Rattle.maps.specs.Cases.{Program, openAt, alike, mixed, slice, Case, refuses, lists, finds, meets, meetsBy}
+use Rattle.cases.specs.MapCases.{Program, openAt, alike, mixed, slice, Case, refuses, lists, finds, meets, meetsBy}
 
 -- ---- The rule in parts
 -- What is granted, by a list, its writing and a search.

@@ -25,11 +25,11 @@ use Rattle.calls.specs.Commands.{byteOf as kindOf}
 use Rattle.words.specs.declared.Slot.{Slot}
 use Rattle.words.specs.Words.{slot, empty, byteOf, placeNumber, wordAt}
 use Rattle.words.specs.WordReasons.{unnamed, notManager}
 use Rattle.machine.specs.State.{State}
 use Rattle.machine.specs.Formed.{wellFormed, answered}
 use Rattle.machine.specs.Reasons.{reads, addressed}
 use Rattle.machine.specs.Effects.{Effect, withTable, withPages, pageChange, claimsChange, taking}
-use Rattle.machine.specs.Step.{Outcome, left, refused, done, effectOn, withCore, stepOf}
+use Rattle.machine.specs.Step.{Outcome, left, refused, done, effectOn, withCore, stepOf, isGranted}
 
 -- What a step is: the type of the rule `stepOf`.
 abbrev pub Rule : Type 0
@@ -43,7 +43,7 @@ Obeys m = (s : State) (c : Call) (cells tags : List ℕ) → m s c cells tags �
 unfoldable pub instead : ℕ → (State → Call → List ℕ → List ℕ → Outcome → Outcome) → Rule
 instead kind made s c cells tags =
     let o = stepOf s c cells tags in
-    pick (eqb (kindOf c) kind && eqb (o .answer .code) 0) (made s c cells tags o) o
+    pick (eqb (kindOf c) kind && isGranted o) (made s c cells tags o) o
 
 abbrev pub operand : Call → ℕ → ℕ
 operand c i = getD (operandsOf c) i 0

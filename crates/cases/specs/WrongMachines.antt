@@ -37,14 +37,14 @@ use Rattle.calls.specs.Commands.{page, frame}
 use Rattle.words.specs.declared.Slot.{Slot}
 use Rattle.words.specs.Words.{slot, empty, byteOf, tagOf, keepTag, loaded, stored, collectedRegister, collectedMailbox}
 use Rattle.words.specs.Lent.{cellsOf, bytesOf}
 use Rattle.machine.specs.Formed.{answered, startOf}
 use Rattle.machine.specs.Roles.{plainPermissions}
 use Rattle.machine.specs.Effects.{withClaims}
 use Rattle.machine.specs.Step.{Outcome, left, refused, withCore, stepOf}
 use Rattle.machine.specs.Forgetting.{startBare}
-use Rattle.machine.specs.Edges.{apart}
-use Rattle.machine.specs.Variants.{Rule, Obeys, sweepBy, takeBy, maskBy, plainBy, splitBy, mergeBy, revokeBy, endBy, unmapBy, storeBy, loadBy, collectBy, createBy, claimBy, releaseBy, destroyBy, claimAgainst, destroyAgainst, toldBy}
-use Rattle.machine.specs.WrongClaims.{takesNoLimit, spendsAlways, returnsAlways, dropsChildren, returnsUnspent, ownMayDestroy, passesLast, toldNothing, toldOfOther, claimNumbers}
+use Rattle.cases.specs.Edges.{apart}
+use Rattle.cases.specs.Variants.{Rule, Obeys, sweepBy, takeBy, maskBy, plainBy, splitBy, mergeBy, revokeBy, endBy, unmapBy, storeBy, loadBy, collectBy, createBy, claimBy, releaseBy, destroyBy, claimAgainst, destroyAgainst, toldBy}
+use Rattle.cases.specs.WrongClaims.{takesNoLimit, spendsAlways, returnsAlways, dropsChildren, returnsUnspent, ownMayDestroy, passesLast, toldNothing, toldOfOther, claimNumbers}
 
 -- "A sweep that clears all on its first call and feigns the rest": it answers as the rule does.
 unfoldable pub clearsAll : Pages → Range → ℕ → ℕ → List ℕ → List ℕ → Passed

@@ -11,14 +11,14 @@ use Rattle.capabilities.specs.Lists.{pick, all, same, filter}
 use Rattle.capabilities.proofs.Choice.{and-left, and-right, and-under}
 use Rattle.capabilities.proofs.Lists.{every}
 use Rattle.table.specs.declared.Reservation.{Reservation}
 use Rattle.maps.specs.declared.Question.{Question}
 use Rattle.maps.specs.declared.Question.the-variants.{Sharing, Within, Nearest}
 use Rattle.maps.specs.declared.Answer.{Answer}
 use Rattle.maps.specs.Cells.{shares, within, distance, beyond}
 use Rattle.maps.specs.Records.{tileFrom, cellsOf, badRecords}
 use Rattle.maps.specs.Questions.{listed, basesOf, candidate, nearer, nearest, answer, found, badQuestion, Left, left, put, granted, refused, askOf}
-use Rattle.maps.specs.Cases.{Program, stepping, alike, mixed, slice, Case, badRecordCases, badQuestionCases, listCases, nearestCases, cases, numbers, meetsBy, meets}
-use Rattle.maps.specs.WrongMaps.{grantedBy, askedBy, tileBy, recordsBy, questionBy, listBy, keepBy, foundBy, findBy, none, find, refuse, tileAnywhere, endsAt, wraps, sliceAlways, leading, stopsAtGap, backwards, falls, openOnly, allWithin, allShare, writesMore, clearsRest, lastOf, answersLast, tiesHigher, toBase, keepsFirst, takenToo, revokingToo, asksMore, longEnough, firstNearest, looksOnce, refusalWrites, refusesAll, answersAlike, Wrong, wrongRecords, wrongQuestions, wrongLists, wrongSearches, wrongWholes, programs, shown, Asks, NoneAsks}
+use Rattle.cases.specs.MapCases.{Program, stepping, alike, mixed, slice, Case, badRecordCases, badQuestionCases, listCases, nearestCases, cases, numbers, meetsBy, meets}
+use Rattle.cases.specs.WrongMaps.{grantedBy, askedBy, tileBy, recordsBy, questionBy, listBy, keepBy, foundBy, findBy, none, find, refuse, tileAnywhere, endsAt, wraps, sliceAlways, leading, stopsAtGap, backwards, falls, openOnly, allWithin, allShare, writesMore, clearsRest, lastOf, answersLast, tiesHigher, toBase, keepsFirst, takenToo, revokingToo, asksMore, longEnough, firstNearest, looksOnce, refusalWrites, refusesAll, answersAlike, Wrong, wrongRecords, wrongQuestions, wrongLists, wrongSearches, wrongWholes, programs, shown, Asks, NoneAsks}
 
 -- What the rule and the cases compute with, named once.
 unfoldable computing : ℕ

@@ -14,13 +14,13 @@ use Rattle.claims.specs.Sound.{freshClaims}
 use Rattle.claims.specs.Cost.{claimants, Cost, cost, costOf}
 use Rattle.reservations.specs.Core.{Core}
 use Rattle.calls.specs.Commands.{page}
 use Rattle.machine.specs.State.{State}
 use Rattle.machine.specs.Formed.{wellFormed, fresh}
 use Rattle.machine.specs.Effects.{withClaims}
 use Rattle.machine.specs.Step.{withCore}
 use Rattle.machine.specs.Forgetting.{startBare}
 use Rattle.machine.specs.Cost.{Costed, costed, uncosted, costReasons, pageCost}
-use Rattle.machine.specs.Edges.{apart}
+use Rattle.cases.specs.Edges.{apart}
 
 -- Principals 0 to n − 1 claim page 1 twice each; all but 0 were made for it under 0.
 unfoldable pub claimedBy : ℕ → Claims

@@ -12,13 +12,13 @@ use Rattle.pages.specs.Numbers.{pageCode, frameCode}
 use Rattle.table.specs.Numbers.{rowCode}
 use Rattle.claims.specs.Numbers.{principalCode}
 use Rattle.calls.specs.declared.Call.the-variants.{Take}
 use Rattle.machine.specs.Step.{stepOf}
 use Rattle.machine.specs.Forgetting.{startBare}
-use Rattle.machine.specs.Edges.{apart}
-use Rattle.machine.specs.Variants.{Rule, Obeys, instead, sweepBy, takeBy, maskBy, plainBy, splitBy, mergeBy, revokeBy, endBy, unmapBy, storeBy, loadBy, collectBy, createBy, claimBy, releaseBy, destroyBy, ruledBy, claimAgainst, destroyAgainst, toldBy}
-use Rattle.machine.specs.WrongClaims.{takesNoLimit, spendsAlways, returnsAlways, destroys, ownMayDestroy, passesLast, allCounts}
-use Rattle.machine.specs.WrongMachines.{Wrong, clearsAll, inventsLeft, inventsLength, pleadsFull, takesForNobody, takesForManager, keepsLower, saysSeveral, joinsOwn, revokesForNobody, collectsNoTaker, filtersAtRest, dropsNumber, clearsByte, turnsDown, answersAlike, keepsState, releases, tagged, tellsTags, refusalWrites, after, from, lent, splits, neighbours, family, counted, machines, numbers, leaves, differs, shown, startRefused, NoneObeys}
+use Rattle.cases.specs.Edges.{apart}
+use Rattle.cases.specs.Variants.{Rule, Obeys, instead, sweepBy, takeBy, maskBy, plainBy, splitBy, mergeBy, revokeBy, endBy, unmapBy, storeBy, loadBy, collectBy, createBy, claimBy, releaseBy, destroyBy, ruledBy, claimAgainst, destroyAgainst, toldBy}
+use Rattle.cases.specs.WrongClaims.{takesNoLimit, spendsAlways, returnsAlways, destroys, ownMayDestroy, passesLast, allCounts}
+use Rattle.cases.specs.WrongMachines.{Wrong, clearsAll, inventsLeft, inventsLength, pleadsFull, takesForNobody, takesForManager, keepsLower, saysSeveral, joinsOwn, revokesForNobody, collectsNoTaker, filtersAtRest, dropsNumber, clearsByte, turnsDown, answersAlike, keepsState, releases, tagged, tellsTags, refusalWrites, after, from, lent, splits, neighbours, family, counted, machines, numbers, leaves, differs, shown, startRefused, NoneObeys}
 use Rattle.machine.proofs.Computing.{computing}
 
 pub all-shown : all shown machines ≡ true
 unfolding all shown machines differs apart numbers same instead sweepBy takeBy maskBy plainBy splitBy mergeBy revokeBy endBy unmapBy storeBy loadBy collectBy createBy claimBy releaseBy destroyBy ruledBy claimAgainst destroyAgainst toldBy clearsAll inventsLeft inventsLength pleadsFull takesForNobody takesForManager keepsLower saysSeveral joinsOwn revokesForNobody collectsNoTaker filtersAtRest dropsNumber clearsByte turnsDown answersAlike keepsState releases tagged tellsTags refusalWrites takesNoLimit spendsAlways returnsAlways destroys ownMayDestroy passesLast allCounts after from lent splits neighbours family counted pageCode frameCode rowCode principalCode computing

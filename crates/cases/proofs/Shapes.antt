@@ -30,18 +30,18 @@ use Rattle.calls.proofs.Table.{listed}
 use Rattle.words.specs.declared.Slot.{Slot}
 use Rattle.words.specs.Words.{registerOf, loaded, stored, collectedRegister, collectedMailbox}
 use Rattle.words.specs.WordReasons.{unnamed, notManager}
 use Rattle.machine.specs.State.{State}
 use Rattle.machine.specs.Formed.{wellFormed, answered}
 use Rattle.machine.specs.Roles.{plainPermissions}
 use Rattle.machine.specs.Reasons.{fetched, reasons}
 use Rattle.machine.specs.Effects.{Effect, effect}
 use Rattle.machine.specs.Step.{Outcome, left, refused, registersAfter, mailboxesAfter, writtenCells, writtenTags, cellsAfter, tagsAfter, done, reasonsOn, effectOn, ruled, judged, stepOf, withCore}
-use Rattle.machine.specs.Variants.{Obeys, instead, sweepBy, takeBy, maskBy, plainBy, splitBy, mergeBy, revokeBy, endBy, unmapBy, storeBy, loadBy, collectBy, createBy, claimBy, releaseBy, destroyBy, ruledBy, claimAgainst, destroyAgainst, toldBy}
-use Rattle.machine.specs.WrongClaims.{destroys}
-use Rattle.machine.specs.WrongMachines.{keptByte}
+use Rattle.cases.specs.Variants.{Obeys, instead, sweepBy, takeBy, maskBy, plainBy, splitBy, mergeBy, revokeBy, endBy, unmapBy, storeBy, loadBy, collectBy, createBy, claimBy, releaseBy, destroyBy, ruledBy, claimAgainst, destroyAgainst, toldBy}
+use Rattle.cases.specs.WrongClaims.{destroys}
+use Rattle.cases.specs.WrongMachines.{keptByte}
 use Rattle.machine.proofs.Found.{after-five}
 use Rattle.machine.proofs.Deeds.{found-fetched}
 use Rattle.machine.proofs.Judging.{Granted, pick-by, step-by}
 
 abbrev Made : Type 0
 Made = State → Call → List ℕ → List ℕ → Outcome → Outcome

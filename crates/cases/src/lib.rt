@@ -1,0 +1,1 @@
+// The documents' cases and wrong programs, by computing. Specifications and proofs alone, apart from the rules.
