@@ -9,7 +9,8 @@ use Rattle.table.specs.declared.Reservation.{Reservation}
 use Rattle.table.specs.declared.Found.{Found}
 use Rattle.table.specs.declared.Found.the-variants.{At, Nowhere}
 use Rattle.table.specs.Rows.{live, blank, table}
-use Rattle.table.specs.Find.{seekFrom, anyOf, rowOf, withRow}
+use Rattle.table.specs.Find.{rowOf, withRow}
+use Rattle.table.specs.Searching.{seekFrom, anyOf}
 use Rattle.table.proofs.Truth.{or-left, or-right}
 use Rattle.table.proofs.Finding.{seek-more, seek-here}
 use Rattle.table.proofs.Moving.{live-length, live-at}

@@ -1,8 +1,8 @@
 -- Which row is meant. Assumes nothing.
 use Prim.Native.Nat.{ℕ, suc, _+_}
-use mathlib.Core.Bool.{Bool, true, false, _&&_, _||_}
+use mathlib.Core.Bool.{Bool, true, false, _&&_}
 use mathlib.Core.List.{List, [], _∷_}
-use lib.ListN.{length, getD, drop, set}
+use lib.ListN.{length, getD, set}
 use lib.Dec.{eqb, ltb}
 use Rattle.capabilities.specs.Lists.{pick}
 use Rattle.table.specs.declared.Reservation.{Reservation}
@@ -19,14 +19,6 @@ missing Nowhere = true
 unfoldable pub seek : (Reservation → Bool) → ℕ → List Reservation → Found
 seek P i [] = Nowhere
 seek P i (r ∷ l) = pick (P r) (At i) (seek P (suc i) l)
-
--- The same search from the i-th row in use on.
-abbrev pub seekFrom : (Reservation → Bool) → Table → ℕ → Found
-seekFrom P t i = seek P i (drop i (live t))
-
--- One of four passes a test.
-abbrev pub anyOf : (Reservation → Bool) → Reservation → Reservation → Reservation → Reservation → Bool
-anyOf P a b c d = ((P a || P b) || P c) || P d
 
 -- The reservation begins at base and is held by the party.
 abbrev pub begins : ℕ → ℕ → Reservation → Bool

@@ -1,6 +1,7 @@
 pub mod Table
 pub mod Rows
 pub mod Find
+pub mod Searching
 pub mod Operations
 pub mod Tiling
 pub mod Numbers

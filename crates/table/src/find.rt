@@ -10,7 +10,8 @@ ghost use mathlib.Core.Path.{_≡_};
 ghost use mathlib.Core.List.{map};
 ghost use lib.ListN.{length, getD};
 ghost use Rattle.table.specs.Rows.{live};
-ghost use Rattle.table.specs.Find.{begins, findOf, nextOf, revokingOf, rowOf, seekFrom};
+ghost use Rattle.table.specs.Find.{begins, findOf, nextOf, revokingOf, rowOf};
+ghost use Rattle.table.specs.Searching.{seekFrom};
 ghost use Rattle.table.specs.Numbers.{rowFrom, rowCode, tableOf};
 ghost use Rattle.table.specs.Lent.{putAt, placeOf};
 

@@ -3,7 +3,8 @@ use crate::Reservation;
 use crate::ReservationState;
 ghost use mathlib.Core.Path.{_≡_};
 ghost use Rattle.table.specs.Rows.{stateNumber, isRevoking};
-ghost use Rattle.table.specs.Find.{begins, anyOf};
+ghost use Rattle.table.specs.Find.{begins};
+ghost use Rattle.table.specs.Searching.{anyOf};
 ghost use Rattle.table.specs.Numbers.{stateFrom, rowFrom, rowCode, written};
 
 fn state_of(number: u64) -> ReservationState
