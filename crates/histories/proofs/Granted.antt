@@ -43,6 +43,10 @@ pub went : (m : Machine) (c : Call) → Granted m c → Went m c
 went m c g = ⊎-elim (λ w. w) (λ n. absurd (n .1 g)) (went-or-not m c)
 
 module _ (m : Machine) (c : Call) (w : Went m c) where
+  pub went-granted : Granted m c
+  unfolding done
+  went-granted = ap (λ o. o .answer .code) (w .now)
+
   pub went-next : next m c ≡ handed (done (m .state) (effectOn (m .state) c (m .cells) (m .tags)) (m .cells) (m .tags))
   unfolding next
   went-next = ap (λ o. handed o) (w .now)

@@ -25,12 +25,12 @@ use Rattle.machine.specs.Formed.{fresh, startOf}
 use Rattle.machine.specs.Step.{done, effectOn}
 use Rattle.machine.proofs.Deeds.{deed}
 use Rattle.calls.specs.declared.Call.{Call}
-use Rattle.histories.specs.Runs.{Machine, next, run, begun, Begins}
+use Rattle.histories.specs.Runs.{Machine, Granted, next, run, begun, Begins}
 use Rattle.histories.specs.Forming.{Standing}
 use Rattle.histories.specs.Sharing.{claimsIn, counts, Shows, Each, noCall, eachCall, KeptWhileClaimed, KeptWhileCounted, LetsGo, OnlyLetGo, KeptUntilLetGo, OtherLetsGo, OtherKept, AlwaysTotal, CountsFit}
 use Rattle.histories.proofs.PageAfter.{PageFate, stays, wasUnmapped, wasUnclaimed, wasReleased, deed-page, done-pages}
 use Rattle.histories.proofs.Forming.{always-formed, standing-facts, standing-claims, standing-next, standing-begun, in-range}
-use Rattle.histories.proofs.Granted.{Went, went-or-not, went-next, went-core}
+use Rattle.histories.proofs.Granted.{Went, went-or-not, went-next, went-core, went-granted}
 use Rattle.histories.proofs.LettingGo.{touches, falls, other-stays, fits}
 use Rattle.histories.proofs.SoleClaims.{fresh-uncounted}
 
@@ -99,9 +99,10 @@ module _ (m : Machine) (v f : ℕ) (st : Standing m v f) (c : Call) (q k : ℕ) 
   count-by P goes same =
       ⊎-elim (λ w. subst (λ x. P (countOf x q k)) (sym (done-claims m c w)) (goes w)) (λ n. subst (λ x. P (counts x q k)) (sym (n .0)) same) (went-or-not m c)
 
-  count-falls : counts (next m c) q k < counts m q k → LetsGo (claimsIn m) q k c
+  count-falls : counts (next m c) q k < counts m q k → Granted m c × LetsGo (claimsIn m) q k c
   count-falls =
-      count-by (λ n. n < counts m q k → LetsGo (claimsIn m) q k c) (λ w. falls (m .state) v few sound q k (touches (m .state) c (m .cells) (m .tags) (w .clear)))
+      count-by (λ n. n < counts m q k → Granted m c × LetsGo (claimsIn m) q k c)
+      (λ w l. (went-granted m c w, falls (m .state) v few sound q k (touches (m .state) c (m .cells) (m .tags) (w .clear)) l))
       (λ l. let z : ⊥ = omega (arith, l) in absurd z)
 
   count-stays : OtherLetsGo (claimsIn m) q c → counts (next m c) q k ≡ counts m q k
@@ -113,7 +114,8 @@ module _ (m : Machine) (v f : ℕ) (st : Standing m v f) (c : Call) (q k : ℕ) 
 pub only-let-go : OnlyLetGo
 only-let-go m r c q k l = count-falls m (r .v) (r .f) (always-formed m r) c q k l
 
-run-counts : (calls : List Call) (m : Machine) (v f : ℕ) → Standing m v f → (q k : ℕ) → Each (λ n c. LetsGo (claimsIn n) q k c → ⊥) m calls
+run-counts : (calls : List Call) (m : Machine) (v f : ℕ) → Standing m v f → (q k : ℕ)
+    → Each (λ n c. Granted n c → LetsGo (claimsIn n) q k c → ⊥) m calls
     → (counts m q k ≤ counts (run m calls) q k) × (0 < counts m q k → Each (λ n c. 0 < counts n q k) m calls)
 unfolding run
 run-counts [] m v f st q k noCall = (omega arith, λ h. noCall)
@@ -123,7 +125,9 @@ run-counts (c ∷ calls) m v f st q k (eachCall holding rest) =
     go : (b : Bool) → ltb (counts (next m c) q k) (counts m q k) ≡ b
         → (counts (next m c) q k ≤ counts (run (next m c) calls) q k) × (0 < counts (next m c) q k → Each (λ n c. 0 < counts n q k) (next m c) calls)
         → (counts m q k ≤ counts (run (next m c) calls) q k) × (0 < counts m q k → Each (λ n c. 0 < counts n q k) m (c ∷ calls))
-    go true e later = absurd (holding (count-falls m v f st c q k (ltb-true (counts (next m c) q k) (counts m q k) e)))
+    go true e later =
+        let fell = count-falls m v f st c q k (ltb-true (counts (next m c) q k) (counts m q k) e) in
+        absurd (holding (fell .0) (fell .1))
     go false e later =
         let l = ltb-false (counts (next m c) q k) (counts m q k) e in
         let more = later .0 in

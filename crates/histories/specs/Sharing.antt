@@ -15,7 +15,7 @@ use Rattle.claims.specs.Sound.{total}
 use Rattle.calls.specs.declared.Call.{Call}
 use Rattle.calls.specs.declared.Call.the-variants.{Release, Destroy}
 use Rattle.calls.specs.Commands.{page}
-use Rattle.histories.specs.Runs.{Machine, next, run, Reached}
+use Rattle.histories.specs.Runs.{Machine, Granted, next, run, Reached}
 
 abbrev pub claimsIn : Machine → Claims
 claimsIn m = m .state .core .claims
@@ -51,15 +51,15 @@ pub data LetsGo (c : Claims) (q k : ℕ) : Call → Type 0 where
   byRelease : (party : ℕ) → holds c party q ≡ true → LetsGo c q k (Release party q (page k))
   byDestroy : (party p : ℕ) → holds c party (parentOf c p) ≡ true → LeadsUp c p q → LetsGo c q k (Destroy party p)
 
--- No other call lowers the count, granted or refused.
+-- Only such a call lowers the count, and only if it is granted.
 abbrev pub OnlyLetGo : Type 0
-OnlyLetGo = (m : Machine) → Reached m → (c : Call) (q k : ℕ) → counts (next m c) q k < counts m q k → LetsGo (claimsIn m) q k c
+OnlyLetGo = (m : Machine) → Reached m → (c : Call) (q k : ℕ) → counts (next m c) q k < counts m q k → Granted m c × LetsGo (claimsIn m) q k c
 
--- So whatever others do, a page that a principal counts keeps the count and the frame until one who can lets go.
+-- So whatever others do, and whatever is refused, a page that a principal counts keeps the count and the frame until one who can lets go.
 abbrev pub KeptUntilLetGo : Type 0
 KeptUntilLetGo =
     (m : Machine) → Reached m → (q k : ℕ) (f : Frame) → 0 < counts m q k → Shows m k f → (calls : List Call)
-    → Each (λ n c. LetsGo (claimsIn n) q k c → ⊥) m calls → (counts m q k ≤ counts (run m calls) q k) × Shows (run m calls) k f
+    → Each (λ n c. Granted n c → LetsGo (claimsIn n) q k c → ⊥) m calls → (counts m q k ≤ counts (run m calls) q k) × Shows (run m calls) k f
 
 -- "When one lets go", seen from principal q: a release by another principal, or a destroy of one to which parents do not lead up from q.
 pub data OtherLetsGo (c : Claims) (q : ℕ) : Call → Type 0 where
