@@ -59,13 +59,17 @@ module _ (s : Pages) (ok : Layered s) where
           let d : getD (s .frames) k (frameEntry Dirty) ≡ frameEntry Dirty = List·getD-eq-default (s .frames) (frameEntry Dirty) (omega (arith, ok .long-frames, ltb-false k 128 q)) in
           absurd (let z : Dirty ≡ Shown = sym (ap (λ x. x .state) d) ∙ e in let y : _≡_ {A = ℕ} 0 1 = cc in omega arith)
 
-  page-low : (p : ℕ) (f : Frame) → p < 256 → pageAt s p ≡ Mapped f → p < s .v
+  -- A Mapped page is one of V.
+  pub page-low : (p : ℕ) (f : Frame) → pageAt s p ≡ Mapped f → p < s .v
   unfolding pageAt pageSound
-  page-low p f h e = go (ltb p (s .v)) refl
+  page-low p f e = go (ltb p (s .v)) refl (ltb p 256) refl
     where
-      go : (a : Bool) → ltb p (s .v) ≡ a → p < s .v
-      go true q = ltb-true p (s .v) q
-      go false q = absurd (false≢true (sym (ap (λ x. isUnmapped x) e) ∙ sym (pick-no (ltb p (s .v)) _ (isUnmapped (getD (s .pages) p (pageEntry Unmapped) .state)) q) ∙ ok .page p h))
+      go : (a : Bool) → ltb p (s .v) ≡ a → (b : Bool) → ltb p 256 ≡ b → p < s .v
+      go true q b h = ltb-true p (s .v) q
+      go false q true h = absurd (false≢true (sym (ap (λ x. isUnmapped x) e) ∙ sym (pick-no (ltb p (s .v)) _ (isUnmapped (getD (s .pages) p (pageEntry Unmapped) .state)) q) ∙ ok .page p (ltb-true p 256 h)))
+      go false q false h =
+          let d : getD (s .pages) p (pageEntry Unmapped) ≡ pageEntry Unmapped = List·getD-eq-default (s .pages) (pageEntry Unmapped) (omega (arith, ok .long-pages, ltb-false p 256 h)) in
+          absurd (let z : Unmapped ≡ Mapped f = sym (ap (λ x. x .state) d) ∙ e in let y : _≡_ {A = ℕ} 0 1 = cc in omega arith)
 
   -- The virtual cell that has a place of a Mapped frame.
   pub frame-cell : (k i : ℕ) → frameAt s k ≡ Shown → i < 16 → (v : ℕ) × (lookupOf s v ≡ At (16 * k + i))
@@ -76,11 +80,10 @@ module _ (s : Pages) (ok : Layered s) where
       let r = mapped-by k (s .pages) (omega arith) in
       let p = r .page in
       let (f, q, n) = maps-is (pageAt s p) k (r .maps-it) in
-      let h : r .page < 256 = omega (arith, r .used, ok .long-pages) in
       let v : (16 * r .page + i) / 16 ≡ r .page = omega arith in
       let o : (16 * r .page + i) % 16 ≡ i = omega arith in (
         16 * r .page + i,
-        looked s (16 * r .page + i) (16 * k + i) (record { frame = f; low = rw v (page-low (r .page) f h q); page = ap (pageAt s) v ∙ q; place = rw o (ap (λ x. 16 * x + i) (sym n)) }),
+        looked s (16 * r .page + i) (16 * k + i) (record { frame = f; low = rw v (page-low (r .page) f q); page = ap (pageAt s) v ∙ q; place = rw o (ap (λ x. 16 * x + i) (sym n)) }),
       )
 
 pub frame-tags-are-bits : FrameTagsAreBits

@@ -1,4 +1,4 @@
--- What each kind of call makes of the claims, and so who can lower a principal's count of a page. Assumes nothing.
+-- What each kind of call makes of the claims, and so who can move a principal's count of a page, and who can lower it. Assumes nothing.
 use Prim.Native.Nat.{ℕ, _+_, _<_, _≤_}
 use native.Mathlib.Omega.{arith}
 use mathlib.Core.Bool.{Bool, true, false, _||_}
@@ -29,6 +29,7 @@ use Rattle.machine.specs.Reasons.{reasons}
 use Rattle.machine.specs.Step.{reasonsOn, effectOn}
 use Rattle.machine.proofs.ClaimsKept.{revoke-claims, collect-claims}
 use Rattle.histories.specs.Sharing.{LetsGo, byRelease, byDestroy, OtherLetsGo, otherReleases, otherDestroyed}
+use Rattle.histories.specs.Holders.{MovesCount, counting, lettingGo}
 
 -- What a granted call makes of the claims, with what it has found.
 pub data Touches (s : State) : Call → Claims → Type 0 where
@@ -74,8 +75,8 @@ touches s (Release p q page) cells tags z =
     released p q page (after-page (unnamed p) (noPage (s .core .pages) page) (releaseReasons (s .core .claims) p q (page .0)) z .1)
 touches s (Destroy p q) cells tags z = destroyed p q (first-clear 4 (unnamed p) (destroyReasons (s .core .claims) p q) (λ x. omega arith) z .1)
 
--- One principal's count of one page, or another one.
-same-place : (q p k n : ℕ) (P : Type 0) → (q ≡ p → k ≡ n → P) → (((q ≡ p) × (k ≡ n) → ⊥) → P) → P
+-- Two numbers are two others, or not both are.
+pub same-place : (q p k n : ℕ) (P : Type 0) → (q ≡ p → k ≡ n → P) → (((q ≡ p) × (k ≡ n) → ⊥) → P) → P
 same-place q p k n P here else = go (eqb q p) refl (eqb k n) refl
   where
     go : (a : Bool) → eqb q p ≡ a → (b : Bool) → eqb k n ≡ b → P
@@ -116,28 +117,39 @@ module _ (s : State) (v : ℕ) (few : s .core .pages .v ≤ 256) (ok : claimsSou
       go true e = let none = ap (λ l. getD l k 0) (destroy-none v c ok party p z q e) in omega (arith, none)
       go false e = let same = destroy-counts v c ok party p z q k e in omega (arith, same)
 
-  -- Who has let go where the count is lower.
-  pub falls : {call : Call} {x : Claims} → Touches s call x → countOf x q k < countOf c q k → LetsGo c q k call
-  falls kept l = let z : ⊥ = omega (arith, l) in absurd z
-  falls (created party parent child limit holder z) l =
-      let same = create-counts v c ok party parent child limit holder z q k in
-      let n : ⊥ = omega (arith, l, same) in
-      absurd n
-  falls (counted party p page low z) l =
-      let up = claim-rises party p (page .0) low z .0 in
-      let n : ⊥ = omega (arith, l, up) in
-      absurd n
-  falls (released party p page z) l =
-      same-place q p k (page .0) (LetsGo c q k (Release party p page))
+  -- Who has moved the count where it is another.
+  pub moves-count : {call : Call} {x : Claims} → Touches s call x → (countOf x q k ≡ countOf c q k → ⊥) → MovesCount c q k call
+  moves-count kept moved = absurd (moved refl)
+  moves-count (created party parent child limit holder z) moved = absurd (moved (create-counts v c ok party parent child limit holder z q k))
+  moves-count (counted party p page low z) moved =
+      same-place q p k (page .0) (MovesCount c q k (Claim party p page))
+      (λ e f.
+      let held = claimable c party p (page .0) z .held in
+      subst (λ j. MovesCount c j k (Claim party p page)) (sym e) (subst (λ j. MovesCount c p j (Claim party p page)) (sym f) (counting party held)))
+      (λ other. absurd (moved (claim-others c p (page .0) q k other)))
+  moves-count (released party p page z) moved =
+      same-place q p k (page .0) (MovesCount c q k (Release party p page))
       (λ e f.
       let held = releasable c party p (page .0) z .held in
-      subst (λ j. LetsGo c j k (Release party p page)) (sym e) (subst (λ j. LetsGo c p j (Release party p page)) (sym f) (byRelease party held)))
-      (λ other. let same = release-others c p (page .0) q k other in let n : ⊥ = omega (arith, l, same) in absurd n)
-  falls (destroyed party p z) l = go (leadsUp c p q) refl
+      subst (λ j. MovesCount c j k (Release party p page)) (sym e) (subst (λ j. MovesCount c p j (Release party p page)) (sym f) (lettingGo (byRelease party held))))
+      (λ other. absurd (moved (release-others c p (page .0) q k other)))
+  moves-count (destroyed party p z) moved = go (leadsUp c p q) refl
     where
-      go : (b : Bool) → leadsUp c p q ≡ b → LetsGo c q k (Destroy party p)
-      go true e = byDestroy party p (destroys c party p z .held) (leads-back c p q e)
-      go false e = let same = destroy-counts v c ok party p z q k e in let n : ⊥ = omega (arith, l, same) in absurd n
+      go : (b : Bool) → leadsUp c p q ≡ b → MovesCount c q k (Destroy party p)
+      go true e = lettingGo (byDestroy party p (destroys c party p z .held) (leads-back c p q e))
+      go false e = absurd (moved (destroy-counts v c ok party p z q k e))
+
+  -- Who has let go where the count is lower: a claim leaves none lower.
+  lets-go : {call : Call} {x : Claims} → MovesCount c q k call → Touches s call x → countOf x q k < countOf c q k → LetsGo c q k call
+  lets-go (lettingGo g) t l = g
+  lets-go (counting party held) kept l = let z : ⊥ = omega (arith, l) in absurd z
+  lets-go (counting party held) (counted by p page low z) l =
+      let up = claim-rises by p (page .0) low z .0 in
+      let n : ⊥ = omega (arith, l, up) in
+      absurd n
+
+  pub falls : {call : Call} {x : Claims} → Touches s call x → countOf x q k < countOf c q k → LetsGo c q k call
+  falls t l = lets-go (moves-count t (λ e. omega (arith, l, e))) t l
 
   -- Where another lets go the count is what it was.
   pub other-stays : {call : Call} {x : Claims} → Touches s call x → OtherLetsGo c q call → countOf x q k ≡ countOf c q k

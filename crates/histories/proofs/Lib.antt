@@ -36,3 +36,5 @@ pub mod PageAfter
 pub mod Cleaning
 pub mod LettingGo
 pub mod Sharing
+pub mod Contents
+pub mod Holders

@@ -15,3 +15,5 @@ pub mod Restoring
 pub mod Forgetting
 pub mod Takers
 pub mod Sharing
+pub mod Contents
+pub mod Holders
