@@ -7,7 +7,7 @@ use Prim.Native.Nat.{ℕ, _+_, _*_, _<_}
 use native.Mathlib.Omega.{arith}
 use mathlib.Core.Bool.{Bool, true, false, _&&_, true≢false, false≢true}
 use mathlib.Core.List.{List, [], _∷_, _++_}
-use mathlib.Core.Path.{_≡_, refl, sym, ap, ap₂, subst, _∙_}
+use mathlib.Core.Path.{_≡_, refl, sym, ap, subst, _∙_}
 use borrow.Author.Tests.{eq-eqb}
 use lib.Dec.{eqb}
 use lib.ListN.{length, getD}
@@ -18,6 +18,7 @@ use Rattle.capabilities.specs.Range.{inside}
 use Rattle.table.specs.Operations.{takeOf, takenRow}
 use Rattle.table.specs.Rows.{isOpen, live, rangeOf}
 use Rattle.table.proofs.Cells.{inside-made}
+use Rattle.maps.specs.Questions.{askOf}
 use Rattle.reservations.specs.Core.{Core}
 use Rattle.reservations.specs.Revocation.{coreSound}
 use Rattle.calls.specs.declared.Call.{Call}
@@ -25,19 +26,19 @@ use Rattle.words.specs.declared.Slot.{Slot}
 use Rattle.words.specs.Words.{slot, empty, named, registerOf, mailboxOf, wordAt}
 use Rattle.machine.specs.Roles.{IsTake}
 use Rattle.machine.specs.Effects.{taking}
-use Rattle.machine.specs.State.{State}
+use Rattle.machine.specs.Formed.{wellFormed}
 use Rattle.machine.proofs.Deeds.{Taken, taken-by}
-use Rattle.machine.proofs.Dependence.{formedBy, formed-by}
 use Rattle.machine.proofs.Costs.{cost-same}
 use Rattle.machine.specs.Step.{effectOn, registersAfter, mailboxesAfter, cellsAfter, tagsAfter}
 use Rattle.histories.specs.Inv.{rowAt, Confined, Inv}
 use Rattle.histories.specs.Inv.{Sound as Bounded}
-use Rattle.histories.specs.Runs.{Machine, outcome, next, run, begun, granted}
+use Rattle.histories.specs.Runs.{Machine, outcome, next, run, begun, granted, Begins}
 use Rattle.histories.proofs.Always.{inv-step, inv-run, inv-begun}
 use Rattle.histories.proofs.Findings.{row-first}
+use Rattle.histories.proofs.Forming.{always-formed}
 use Rattle.histories.proofs.View.{shown-at}
 use Rattle.privacy.specs.Rule.{housed, Time, lasting, takenRange, timeAfter, into, told, heard}
-use Rattle.privacy.specs.Claim.{Within, Privacy, CostsUnnoticed}
+use Rattle.privacy.specs.Claim.{Within, Privacy, CostsUnnoticed, CoresUnnoticed, MapsUnnoticed}
 use Rattle.privacy.proofs.Fate.{Granted, Fate, down, up, fate, after}
 use Rattle.privacy.proofs.Glue.{Same, glue}
 use Rattle.privacy.proofs.House.{into-cell, Apart, Tame, Good, apart-good, Housed}
@@ -191,11 +192,21 @@ privacy v f cells tags before c house base reg permissions after₁ after₂ w =
       alike = alike house _ (run begin (before ++ c ∷ after₁)) (run begin (before ++ c ∷ after₂)) (left-related v f cells tags before c house base reg permissions after₁ after₂ w);
     }
 
--- Nor does the cost of a page.
+pub cores-unnoticed : CoresUnnoticed
+cores-unnoticed v f cells tags before c house base reg permissions after₁ after₂ w =
+    left-related v f cells tags before c house base reg permissions after₁ after₂ w .core
+
+-- So what is asked of a core is answered alike, as the takers are alike (`Relate.alike`): the cost of a page, of states that are well formed as
+-- after every history; and which reservations lie where.
+always : (v f : ℕ) (cells tags : List ℕ) → Begins v f cells tags → (calls : List Call) → wellFormed (run (begun v f cells tags) calls .state) ≡ true
+always v f cells tags b calls =
+    always-formed (run (begun v f cells tags) calls) (record { v = v; f = f; cells = cells; tags = tags; begins = b; calls = calls; is = refl }) .formed
+
 pub costs-unnoticed : CostsUnnoticed
 costs-unnoticed v f cells tags before c house base reg permissions after₁ after₂ w n =
-    let g : State = run (begun v f cells tags) (before ++ c ∷ after₁) .state in
-    let h : State = run (begun v f cells tags) (before ++ c ∷ after₂) .state in
-    let r = left-related v f cells tags before c house base reg permissions after₁ after₂ w in
-    cost-same g h n (r .core)
-    (formed-by g ∙ ap (λ k. formedBy k (g .mailboxes) (length (g .registers))) (r .core) ∙ ap₂ (formedBy (h .core)) (r .mail) (r .long) ∙ sym (formed-by h))
+    cost-same _ _ n (cores-unnoticed v f cells tags before c house base reg permissions after₁ after₂ w)
+    (always v f cells tags (w .begins) (before ++ c ∷ after₁) ∙ sym (always v f cells tags (w .begins) (before ++ c ∷ after₂)))
+
+pub maps-unnoticed : MapsUnnoticed
+maps-unnoticed v f cells tags before c house base reg permissions after₁ after₂ w q bases =
+    ap (λ k. askOf (live (k .table)) q bases) (cores-unnoticed v f cells tags before c house base reg permissions after₁ after₂ w)

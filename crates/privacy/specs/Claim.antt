@@ -4,6 +4,9 @@ use Prim.Native.Nat.{ℕ}
 use mathlib.Core.Bool.{true}
 use mathlib.Core.List.{List, _∷_, _++_}
 use mathlib.Core.Path.{_≡_}
+use Rattle.table.specs.Rows.{live}
+use Rattle.maps.specs.declared.Question.{Question}
+use Rattle.maps.specs.Questions.{askOf}
 use Rattle.calls.specs.declared.Call.{Call}
 use Rattle.machine.specs.Roles.{IsTake}
 use Rattle.machine.specs.Cost.{pageCost}
@@ -53,6 +56,19 @@ module _ (v f : ℕ) (cells tags : List ℕ) (before : List Call) (take : Call) 
   abbrev pub CostsAlike : List Call → List Call → Type 0
   CostsAlike after₁ after₂ = (n : ℕ) → pageCost (run start (whole after₁) .state) n ≡ pageCost (run start (whole after₂) .state) n
 
+  -- Document 02, 2026-07: after both lists every question about the table's reservations has the same answer and leaves the same bases.
+  abbrev pub MapsAlike : List Call → List Call → Type 0
+  MapsAlike after₁ after₂ =
+      (q : Question) (bases : List ℕ)
+      → askOf (live (run start (whole after₁) .state .core .table)) q bases ≡ askOf (live (run start (whole after₂) .state .core .table)) q bases
+
+-- The cores are equal: the table with its holders and takers, pages and frames, the claims, and the place of the sweep.
+abbrev pub CoresUnnoticed : Type 0
+CoresUnnoticed =
+    (v f : ℕ) (cells tags : List ℕ) (before : List Call) (take : Call) (house base reg permissions : ℕ) (after₁ after₂ : List Call)
+    → Within v f cells tags before take house base reg permissions after₁ after₂
+    → run (begun v f cells tags) (before ++ take ∷ after₁) .state .core ≡ run (begun v f cells tags) (before ++ take ∷ after₂) .state .core
+
 -- Demand 3: whatever a house keeps in a range it took, no history lets others notice it.
 abbrev pub Privacy : Type 0
 Privacy =
@@ -66,3 +82,9 @@ CostsUnnoticed =
     (v f : ℕ) (cells tags : List ℕ) (before : List Call) (take : Call) (house base reg permissions : ℕ) (after₁ after₂ : List Call)
     → Within v f cells tags before take house base reg permissions after₁ after₂
     → CostsAlike v f cells tags before take house base reg permissions after₁ after₂
+
+abbrev pub MapsUnnoticed : Type 0
+MapsUnnoticed =
+    (v f : ℕ) (cells tags : List ℕ) (before : List Call) (take : Call) (house base reg permissions : ℕ) (after₁ after₂ : List Call)
+    → Within v f cells tags before take house base reg permissions after₁ after₂
+    → MapsAlike v f cells tags before take house base reg permissions after₁ after₂
