@@ -5,3 +5,5 @@ pub mod Sharing
 pub mod Pairs
 pub mod Unnoticed
 pub mod Needed
+pub mod WrongSharing
+pub mod Noticed
