@@ -41,14 +41,14 @@ use Rattle.histories.specs.Runs.{Machine, Granted, outcome, next, run}
 use Rattle.histories.specs.Inv.{Memory, Inv}
 use Rattle.histories.specs.Forming.{Standing}
 use Rattle.histories.specs.Sharing.{claimsIn, Shows, Each, noCall, eachCall}
-use Rattle.histories.specs.Contents.{cellIn, StoresTo, storesTo, Retags, byStore, bySweep, ContentLeft, ContentKept, ContentKeptWhileClaimed}
+use Rattle.histories.specs.Contents.{cellIn, StoresTo, storesTo, Retags, byStore, bySweep, ContentLeft, ContentKept, ContentKeptWhileClaimed, ContentKeptUntilLetGo}
 use Rattle.histories.proofs.View.{Seen, seen, looked, seen-once}
 use Rattle.histories.proofs.Keep.{place-below, clear-other}
 use Rattle.histories.proofs.Frames.{page-low}
 use Rattle.histories.proofs.Granted.{Went, went-or-not, went-core, went-cells, went-tags}
 use Rattle.histories.proofs.Always.{inv-step, inv-reached}
 use Rattle.histories.proofs.Forming.{always-formed, standing-next}
-use Rattle.histories.proofs.Sharing.{step-keeps}
+use Rattle.histories.proofs.Sharing.{step-keeps, each-claimed, run-counts}
 
 -- Only a sweep sweeps.
 abbrev sweeps : MemoryChange → Bool
@@ -213,3 +213,8 @@ content-kept-while-claimed m r k f is i low calls claims =
     let st = always-formed m r in
     let inv = inv-reached m r in
     (cell-kept (r .v) (r .f) k f i low calls m st inv is claims, tag-kept (r .v) (r .f) k f i low calls m st inv is claims)
+
+pub content-kept-until-let-go : ContentKeptUntilLetGo
+content-kept-until-let-go m r q k f h is i low calls none =
+    let counted = run-counts calls m (r .v) (r .f) (always-formed m r) q k none .1 h in
+    content-kept-while-claimed m r k f is i low calls (each-claimed q k calls m counted)

@@ -74,7 +74,7 @@ run-keeps (c ∷ calls) m v f st k x is (eachCall now rest) =
 pub kept-while-claimed : KeptWhileClaimed
 kept-while-claimed m r k x is calls b = run-keeps calls m (r .v) (r .f) (always-formed m r) k x is b
 
-each-claimed : (q k : ℕ) (calls : List Call) (m : Machine) → Each (λ n c. 0 < counts n q k) m calls → Each (λ n c. claimed (claimsIn n) k ≡ true) m calls
+pub each-claimed : (q k : ℕ) (calls : List Call) (m : Machine) → Each (λ n c. 0 < counts n q k) m calls → Each (λ n c. claimed (claimsIn n) k ≡ true) m calls
 each-claimed q k [] m noCall = noCall
 each-claimed q k (c ∷ calls) m (eachCall now rest) = eachCall (claimed-if (claimsIn m) q k now) (each-claimed q k calls (next m c) rest)
 
@@ -114,7 +114,7 @@ module _ (m : Machine) (v f : ℕ) (st : Standing m v f) (c : Call) (q k : ℕ) 
 pub only-let-go : OnlyLetGo
 only-let-go m r c q k l = count-falls m (r .v) (r .f) (always-formed m r) c q k l
 
-run-counts : (calls : List Call) (m : Machine) (v f : ℕ) → Standing m v f → (q k : ℕ)
+pub run-counts : (calls : List Call) (m : Machine) (v f : ℕ) → Standing m v f → (q k : ℕ)
     → Each (λ n c. Granted n c → LetsGo (claimsIn n) q k c → ⊥) m calls
     → (counts m q k ≤ counts (run m calls) q k) × (0 < counts m q k → Each (λ n c. 0 < counts n q k) m calls)
 unfolding run

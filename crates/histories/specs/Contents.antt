@@ -16,7 +16,7 @@ use Rattle.machine.specs.State.{State}
 use Rattle.machine.specs.Roles.{stores, Asked, asked, roleOf}
 use Rattle.machine.specs.Step.{Outcome}
 use Rattle.histories.specs.Runs.{Machine, Granted, outcome, run, Reached}
-use Rattle.histories.specs.Sharing.{claimsIn, Shows, Each}
+use Rattle.histories.specs.Sharing.{claimsIn, counts, Shows, Each, LetsGo}
 
 -- Cell i of a frame, of the lent cells or of the lent tags.
 abbrev pub cellIn : List ℕ → Frame → ℕ → ℕ
@@ -41,9 +41,20 @@ pub record ContentLeft (m : Machine) (k : ℕ) (f : Frame) (i : ℕ) (c : Call) 
 abbrev pub ContentKept : Type 0
 ContentKept = (m : Machine) → Reached m → (k : ℕ) (f : Frame) → Shows m k f → (i : ℕ) → i < 16 → (c : Call) → ContentLeft m k f i c (outcome m c)
 
--- "Must not lose it": so while the page has a claim, and with it keeps its frame, what no such call changes is as it was.
+-- What calls leave of the cell and of its tag, if none of them is granted and one of those: what was there.
+abbrev pub ContentStands : Machine → ℕ → Frame → ℕ → List Call → Type 0
+ContentStands m k f i calls =
+    (Each (λ n c. Granted n c → StoresTo (n .state) (16 * k + i) (roleOf c) → ⊥) m calls → cellIn (run m calls .cells) f i ≡ cellIn (m .cells) f i)
+    × (Each (λ n c. Granted n c → Retags n k f i c → ⊥) m calls → cellIn (run m calls .tags) f i ≡ cellIn (m .tags) f i)
+
+-- "Must not lose it": so it is while the page has a claim, and with it keeps its frame.
 abbrev pub ContentKeptWhileClaimed : Type 0
 ContentKeptWhileClaimed =
-    (m : Machine) → Reached m → (k : ℕ) (f : Frame) → Shows m k f → (i : ℕ) → i < 16 → (calls : List Call) → Each (λ n c. claimed (claimsIn n) k ≡ true) m calls
-    → (Each (λ n c. Granted n c → StoresTo (n .state) (16 * k + i) (roleOf c) → ⊥) m calls → cellIn (run m calls .cells) f i ≡ cellIn (m .cells) f i)
-    × (Each (λ n c. Granted n c → Retags n k f i c → ⊥) m calls → cellIn (run m calls .tags) f i ≡ cellIn (m .tags) f i)
+    (m : Machine) → Reached m → (k : ℕ) (f : Frame) → Shows m k f → (i : ℕ) → i < 16 → (calls : List Call)
+    → Each (λ n c. claimed (claimsIn n) k ≡ true) m calls → ContentStands m k f i calls
+
+-- And so it is of a page that a principal counts, until one who can lets go.
+abbrev pub ContentKeptUntilLetGo : Type 0
+ContentKeptUntilLetGo =
+    (m : Machine) → Reached m → (q k : ℕ) (f : Frame) → 0 < counts m q k → Shows m k f → (i : ℕ) → i < 16 → (calls : List Call)
+    → Each (λ n c. Granted n c → LetsGo (claimsIn n) q k c → ⊥) m calls → ContentStands m k f i calls
