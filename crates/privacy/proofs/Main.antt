@@ -136,7 +136,7 @@ take-ok m take house base reg permissions is inv t = go (fate m take)
         }
 
 -- Two lists that begin alike.
-run-on : (m : Machine) (k l : List Call) → run m (k ++ l) ≡ run (run m k) l
+pub run-on : (m : Machine) (k l : List Call) → run m (k ++ l) ≡ run (run m k) l
 unfolding run
 run-on m [] l = refl
 run-on m (c ∷ k) l = run-on (next m c) k l
