@@ -1,15 +1,13 @@
 -- One command on the writing of a machine that a history leaves: the step of the call that its bytes read as, or refusal 3 with all kept.
 -- Refusals 1 and 2 do not come, since such a machine is well formed and its memory of the right size. Assumes nothing.
 use Prim.Native.Nat.{ℕ, _<_}
-use native.Mathlib.Omega.{arith}
 use mathlib.Core.Bool.{Bool, true, false, _&&_}
 use mathlib.Core.List.{List}
-use mathlib.Core.Logic.{_⊎_, inl, inr, ⊎-elim}
-use mathlib.Core.Path.{_≡_, refl, sym, ap, subst, _∙_}
+use mathlib.Core.Logic.{⊎-elim}
+use mathlib.Core.Path.{_≡_, ap, _∙_}
 use lib.ListN.{length, drop}
 use lib.Dec.{leb}
 use borrow.Author.Tests.{lt-leb}
-use Rattle.capabilities.specs.Lists.{pick}
 use Rattle.capabilities.proofs.Choice.{pick-yes, never}
 use Rattle.pages.specs.Layer.{serves}
 use Rattle.calls.specs.declared.Call.{Call}
@@ -18,19 +16,17 @@ use Rattle.calls.specs.declared.Reading.the-variants.{Read, Refused}
 use Rattle.calls.specs.Reader.{readOf}
 use Rattle.words.specs.Words.{empty}
 use Rattle.machine.specs.State.{State}
-use Rattle.machine.specs.Step.{Outcome, refused, stepOf, judged}
-use Rattle.machine.specs.Command.{Ran, used, onReading, commandJudged}
+use Rattle.machine.specs.Step.{Outcome, refused}
+use Rattle.machine.specs.Command.{used, onReading, commandJudged}
 use Rattle.machine.proofs.Judging.{judged-step}
 use Rattle.machine.proofs.Order.{late-code}
-use Rattle.arrays.specs.declared.Answer.{Answer}
-use Rattle.arrays.specs.declared.Arrays.{Arrays}
-use Rattle.arrays.specs.Reading.{arraysOf, stateOf}
-use Rattle.arrays.specs.Steps.{Left, answer, leaving, leftOf}
+use Rattle.arrays.specs.Reading.{arraysOf}
+use Rattle.arrays.specs.Steps.{answer, leaving, leftOf}
 use Rattle.arrays.proofs.RoundTrip.{state-back-again, written-formed}
 use Rattle.formed.specs.Test.{formedOf}
 use Rattle.formed.proofs.Tested.{passing}
 use Rattle.session_rules.specs.Session.{ending}
-use Rattle.step.specs.Entries.{Told, telling, toldOf, commandJudgedOn, commandOn}
+use Rattle.step.specs.Entries.{telling, toldOf, commandJudgedOn, commandOn}
 use Rattle.histories.specs.Runs.{Machine, outcome, next}
 use Rattle.histories.specs.Forming.{Standing}
 use Rattle.histories.proofs.Forming.{standing-serves, standing-code}

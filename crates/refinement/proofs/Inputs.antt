@@ -1,18 +1,17 @@
 -- What was read at a place: it lies within the input, and uses as many bytes as its call is written in. Assumes nothing.
-use Prim.Native.Nat.{ℕ, _≤_, _<_}
+use Prim.Native.Nat.{ℕ, _<_}
 use native.Mathlib.Omega.{arith}
-use mathlib.Core.Bool.{Bool, true, false, _&&_}
+use mathlib.Core.Bool.{Bool, true, false}
 use mathlib.Core.List.{List, [], _∷_}
-use mathlib.Core.Path.{_≡_, refl, sym, ap, subst, _∙_}
+use mathlib.Core.Path.{_≡_, refl, sym, ap, _∙_}
 use lib.ListN.{length, drop, drop-of-length-le}
 use lib.Dec.{ltb, leb}
 use borrow.Author.Tests.{ltb-true, ltb-false}
 use Rattle.capabilities.proofs.Choice.{and-left}
 use Rattle.calls.specs.declared.Call.{Call}
-use Rattle.calls.specs.declared.Reading.{Reading}
 use Rattle.calls.specs.declared.Reading.the-variants.{Read, Refused}
-use Rattle.calls.specs.Commands.{lengthOf, callAt, byteOf, bytesOf}
-use Rattle.calls.specs.Reader.{whole, readOf, firstByte}
+use Rattle.calls.specs.Commands.{lengthOf, callAt, bytesOf}
+use Rattle.calls.specs.Reader.{whole, readOf}
 use Rattle.calls.proofs.Inputs.{answer-of, past-the-end}
 use Rattle.calls.proofs.RoundTrip.{lengths-agree}
 use Rattle.calls.proofs.Table.{entry}

@@ -1,30 +1,19 @@
 -- Bytes are histories. From a granted start on, whatever a server does with the exported functions leaves exactly the writing of the
--- machine that a history leaves: the one of the calls that its bytes read as. So that machine is reached. What the server finds among
--- its lent answers are that history's answers, and its questions are answered by the rules on that history's state. Assumes nothing.
-use Prim.Native.Nat.{ℕ, _+_, _*_, _≤_}
-use mathlib.Core.Bool.{true}
-use mathlib.Core.List.{List, [], _∷_, _++_}
+-- machine that a history leaves: the one of the calls that its bytes read as. And what the server finds among its lent answers are that
+-- history's answers. Assumes nothing.
+use Prim.Native.Nat.{ℕ, _*_}
+use mathlib.Core.List.{List, [], _∷_}
 use mathlib.Core.Path.{_≡_}
-use lib.ListN.{length, take, drop}
-use Rattle.capabilities.specs.Lists.{pick}
-use Rattle.table.specs.Rows.{live}
+use lib.ListN.{length}
 use Rattle.calls.specs.declared.Call.{Call}
-use Rattle.calls.specs.declared.Reading.the-variants.{Refused}
-use Rattle.calls.specs.Reader.{readOf}
 use Rattle.calls.specs.Commands.{bytesOf}
 use Rattle.words.specs.Words.{byteOf}
 use Rattle.machine.specs.State.{Answered}
-use Rattle.machine.specs.Cost.{pageCost}
 use Rattle.arrays.specs.declared.Arrays.{Arrays}
 use Rattle.arrays.specs.Reading.{arraysOf, stateOf}
-use Rattle.maps.specs.declared.Question.{Question}
-use Rattle.maps.specs.declared.Question.the-variants.{Nearest}
-use Rattle.maps.specs.Questions.{askOf}
 use Rattle.histories.specs.Runs.{Machine, machine, run, answers, begun}
 use Rattle.cetomuhi.specs.Lent.{Lent, lent, arraysIn}
-use Rattle.cetomuhi.specs.Exports.{done, reached, startLent, formedLent, costLent, commandLent, commandsLent}
-use Rattle.cetomuhi.specs.Maps.{listedBy, listLent, sitedBy, nearestLent}
-use Rattle.refinement.specs.Inputs.{parseFrom}
+use Rattle.cetomuhi.specs.Exports.{startLent}
 use Rattle.refinement.specs.Uses.{Served, serving, Use, Entries, exported, begins, callsOf, Reply, reply, servedAll, repliesOf}
 
 -- Arrays as the ten lists that cross the boundary; a machine so written; and the machine that what is lent reads as.
