@@ -1,7 +1,6 @@
 -- Every theorem of histories is one of the library. Assumes nothing.
 use mathlib.Core.Path.{_≡_, refl, ap, _∙_}
 use Prim.Native.Nat.{ℕ}
-use mathlib.Core.List.{List}
 use Rattle.machine.specs.State.{State}
 use Rattle.arrays.specs.Reading.{stateOf, arraysOf}
 use Rattle.arrays.specs.declared.Arrays.{Arrays}
@@ -16,10 +15,9 @@ use Rattle.histories.proofs.Survivors.{no-survivor}
 use Rattle.histories.proofs.Later.{no-survivor-until-taken}
 use Rattle.histories.proofs.Losing.{always-tiled}
 use Rattle.histories.proofs.Restoring.{nothing-lost}
-use Rattle.cetomuhi.specs.Lent.{Lent}
-use Rattle.refinement.specs.Uses.{Use, exported, begins, callsOf, servedAll}
-use Rattle.refinement.specs.Bytes.{writing, machineIn, Starts}
-use Rattle.refinement.specs.Checklist.{ByCalls, OfLibrary, LibraryLentOnce, LibraryLentByCapability, LibraryMappedIsZero, LibraryCleanedBetween, LibraryNoSurvivor, LibraryNoSurvivorUntilTaken, LibraryTiled, LibraryNothingLost}
+use Rattle.refinement.specs.Uses.{exported, begins, callsOf, servedAll}
+use Rattle.refinement.specs.Bytes.{writing, machineIn}
+use Rattle.refinement.specs.Checklist.{OfLibrary, LibraryLentOnce, LibraryLentByCapability, LibraryMappedIsZero, LibraryCleanedBetween, LibraryNoSurvivor, LibraryNoSurvivorUntilTaken, LibraryTiled, LibraryNothingLost}
 use Rattle.refinement.proofs.Answers.{lists-back}
 use Rattle.refinement.proofs.Bytes.{start-begins, bytes-are-histories}
 

@@ -11,7 +11,7 @@ use Rattle.pages.specs.declared.Place.the-variants.{At}
 use Rattle.pages.specs.Mapping.{lookupOf}
 use Rattle.calls.specs.declared.Call.{Call}
 use Rattle.privacy.specs.Rule.{housed, Time, timeAfter, hidden}
-use Rattle.privacy.specs.Claim.{Within, time, afterTake, whole}
+use Rattle.privacy.specs.Claim.{Within, time, afterTake}
 use Rattle.cetomuhi.specs.Lent.{Lent}
 use Rattle.refinement.specs.Uses.{Served, Use, exported, begins, callsOf, Reply, servedAll, repliesOf}
 use Rattle.refinement.specs.Bytes.{machineIn, Starts}
