@@ -4,7 +4,7 @@ use Prim.Native.Nat.{ℕ, _<_}
 use mathlib.Core.Bool.{Bool, true, false, _&&_}
 use mathlib.Core.List.{List}
 use mathlib.Core.Logic.{⊎-elim}
-use mathlib.Core.Path.{_≡_, ap, _∙_}
+use mathlib.Core.Path.{_≡_, sym, ap, _∙_}
 use lib.ListN.{length, drop}
 use lib.Dec.{leb}
 use borrow.Author.Tests.{lt-leb}
@@ -17,8 +17,8 @@ use Rattle.calls.specs.Reader.{readOf}
 use Rattle.words.specs.Words.{empty}
 use Rattle.machine.specs.State.{State}
 use Rattle.machine.specs.Step.{Outcome, refused}
-use Rattle.machine.specs.Command.{used, onReading, commandJudged}
-use Rattle.machine.proofs.Judging.{judged-step}
+use Rattle.machine.specs.Command.{used, onReading, commandJudged, commandOf}
+use Rattle.machine.proofs.Judging.{judged-step, judged-command}
 use Rattle.machine.proofs.Order.{late-code}
 use Rattle.arrays.specs.Reading.{arraysOf}
 use Rattle.arrays.specs.Steps.{answer, leaving, leftOf}
@@ -46,14 +46,21 @@ module _ (m : Machine) (v f : ℕ) (k : Standing m v f) where
       ap (λ (n : ℕ). ending n) (standing-code m v f c k) ∙ ⊎-elim (λ z. ap (λ (n : ℕ). ending n) z) (λ z. late _ z) (late-code (m .state) c (m .cells) (m .tags))
 
   module _ (input : List ℕ) (at : ℕ) where
+    judged-reading : commandJudged (m .state) input at (m .cells) (m .tags) ≡ onReading (m .state) (readOf (drop at input)) (m .cells) (m .tags)
+    unfolding commandJudged
+    judged-reading =
+        pick-yes (serves (m .state .core .pages) (length (m .cells)) (length (m .tags))) (onReading (m .state) (readOf (drop at input)) (m .cells) (m .tags))
+        (used 0 (refused 2 (m .state) (m .cells) (m .tags))) (standing-serves m v f k)
+
+    -- By value, and in place.
+    pub command-reading : commandOf (m .state) input at (m .cells) (m .tags) ≡ onReading (m .state) (readOf (drop at input)) (m .cells) (m .tags)
+    command-reading = sym (judged-command (m .state) input at (m .cells) (m .tags) (k .formed)) ∙ judged-reading
+
     by-reading : commandOn (arraysOf (m .state)) input at (m .cells) (m .tags) ≡ toldOf (onReading (m .state) (readOf (drop at input)) (m .cells) (m .tags))
-    unfolding commandOn commandJudgedOn commandJudged
+    unfolding commandOn commandJudgedOn
     by-reading =
         pick-yes (formedOf (arraysOf (m .state))) (commandJudgedOn (arraysOf (m .state)) input at (m .cells) (m .tags)) (telling (leaving (answer 1 empty) (arraysOf (m .state)) (m .cells) (m .tags)) 0) passes
-        ∙ ap (λ (s : State). toldOf (commandJudged s input at (m .cells) (m .tags))) (state-back-again (m .state) (k .formed))
-        ∙ ap toldOf
-        (pick-yes (serves (m .state .core .pages) (length (m .cells)) (length (m .tags))) (onReading (m .state) (readOf (drop at input)) (m .cells) (m .tags))
-        (used 0 (refused 2 (m .state) (m .cells) (m .tags))) (standing-serves m v f k))
+        ∙ ap (λ (s : State). toldOf (commandJudged s input at (m .cells) (m .tags))) (state-back-again (m .state) (k .formed)) ∙ ap toldOf judged-reading
 
     pub command-call : (c : Call) (n : ℕ) → readOf (drop at input) ≡ Read c n
         → commandOn (arraysOf (m .state)) input at (m .cells) (m .tags)
