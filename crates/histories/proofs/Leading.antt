@@ -2,11 +2,11 @@
 use Prim.Native.Nat.{ℕ, zero, suc}
 use mathlib.Core.Bool.{Bool, true, false}
 use mathlib.Core.List.{List, [], _∷_, _++_}
-use mathlib.Core.Path.{_≡_, refl, sym, subst}
+use mathlib.Core.Path.{_≡_, refl, sym, ap, subst, _∙_}
 use lib.ListN.{replicate}
 use Rattle.capabilities.specs.Lists.{pick}
 use Rattle.calls.specs.declared.Call.{Call}
-use Rattle.histories.specs.Runs.{Machine, Granted, next, run}
+use Rattle.histories.specs.Runs.{Machine, Granted, next, run, begun, Reached}
 use Rattle.histories.specs.Forming.{Standing}
 use Rattle.histories.specs.Losing.{AllGranted, nothing, more}
 use Rattle.histories.specs.Restoring.{eachBelow, manyBelow, _andThen_}
@@ -27,10 +27,23 @@ leads-more Q m c calls g k = record { granted = more g (k .granted); reaches = k
 pub leads-to : (P Q : Machine → Type 0) (m : Machine) (calls : List Call) → Leads P m calls → (P (run m calls) → Q (run m calls)) → Leads Q m calls
 leads-to P Q m calls k f = record { granted = k .granted; reaches = f (k .reaches) }
 
-run-append : (a b : List Call) (m : Machine) → run m (a ++ b) ≡ run (run m a) b
+pub run-append : (a b : List Call) (m : Machine) → run m (a ++ b) ≡ run (run m a) b
 unfolding run
 run-append [] b m = refl
 run-append (c ∷ a) b m = run-append a b (next m c)
+
+-- What calls lead to from a reached state is reached.
+unfoldable pub reached-run : (m : Machine) → Reached m → (calls : List Call) → Reached (run m calls)
+reached-run m r calls =
+    record {
+      v = r .v;
+      f = r .f;
+      cells = r .cells;
+      tags = r .tags;
+      begins = r .begins;
+      calls = r .calls ++ calls;
+      is = ap (λ n. run n calls) (r .is) ∙ sym (run-append (r .calls) calls (begun (r .v) (r .f) (r .cells) (r .tags)));
+    }
 
 granted-append : (a b : List Call) (m : Machine) → AllGranted m a → AllGranted (run m a) b → AllGranted m (a ++ b)
 unfolding run

@@ -31,6 +31,7 @@ pub mod RestoringClaims
 pub mod RestoringPages
 pub mod RestoringEnds
 pub mod Restoring
+pub mod Manager
 pub mod Frames
 pub mod PageAfter
 pub mod Cleaning
@@ -38,3 +39,4 @@ pub mod LettingGo
 pub mod Sharing
 pub mod Contents
 pub mod Holders
+pub mod RestoringLength

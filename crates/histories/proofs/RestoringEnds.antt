@@ -1,39 +1,46 @@
--- A revocation that runs is brought to its end by a sweep of all cells and a collect; so is the last one, of all cells. Assumes nothing.
-use Prim.Native.Nat.{ℕ, _+_, _*_, _%_, _<_, _≤_}
+-- A revocation that runs is brought to its end by a sweep of all cells and a collect; so is one of a Taken reservation of whole pages that
+-- has no Mapped page. Assumes nothing.
+use Prim.Native.Nat.{ℕ, zero, suc, _+_, _*_, _<_, _≤_}
+use native.Mathlib.Nat.{zero-add}
+use native.Mathlib.Numerals.{add-one}
 use native.Mathlib.Omega.{arith}
 use mathlib.Core.Bool.{Bool, true, false, not, _&&_}
 use mathlib.Core.List.{List, [], _∷_, _++_}
 use mathlib.Core.Path.{_≡_, refl, sym, ap, subst, _∙_}
 use borrow.Author.Tests.{le-leb}
-use lib.ListN.{length, getD, take, drop}
+use lib.ListN.{length, getD, take, drop, set, length-set}
+use lib.Seq.{set-split, getD-set-same}
+use Rattle.capabilities.specs.declared.Range.{Range}
 use Rattle.capabilities.specs.Lists.{pick}
-use Rattle.capabilities.specs.Range.{pageInside}
+use Rattle.capabilities.specs.Range.{inside, pageInside}
 use Rattle.capabilities.specs.Refusals.{first}
 use Rattle.capabilities.proofs.Choice.{pick-yes}
-use Rattle.capabilities.proofs.Lists.{each-all}
-use Rattle.pages.specs.declared.PageState.the-variants.{Unmapped}
-use Rattle.pages.specs.Entries.{isMapped, pageEntry}
+use Rattle.capabilities.proofs.Lists.{each-all, length-mapEach}
+use Rattle.pages.specs.declared.PageState.the-variants.{Unmapped, Freed}
+use Rattle.pages.specs.Pages.{Pages}
+use Rattle.pages.specs.Entries.{isUnmapped, isMapped, pageEntry}
 use Rattle.pages.specs.Layer.{pageAt}
-use Rattle.pages.specs.Mapping.{anyMapped, notMappedIn, releasedOf}
-use Rattle.pages.proofs.Formed.{sound as layered}
-use Rattle.pages.proofs.Freeing.{page-below, released-at}
+use Rattle.pages.specs.Mapping.{anyMapped, notMappedIn, freedEntry, freedOf, releasedOf}
+use Rattle.pages.proofs.Freeing.{page-below, freed-at, released-at}
 use Rattle.table.specs.declared.Found.the-variants.{At}
 use Rattle.table.specs.declared.Reservation.{Reservation}
-use Rattle.table.specs.declared.ReservationState.the-variants.{Open, Taken, Revoking}
+use Rattle.table.specs.declared.ReservationState.the-variants.{Taken}
 use Rattle.table.specs.Table.{Table}
 use Rattle.table.specs.Find.{findOf, rowOf}
-use Rattle.table.specs.Rows.{isRevoking, blank, live, rangeOf, reservation, noTaker}
+use Rattle.table.specs.Rows.{isRevoking, blank, live, rangeOf}
 use Rattle.table.specs.Tiling.{revokings, weight}
-use Rattle.table.proofs.Cells.{inside-made}
-use Rattle.table.proofs.Dying.{dyings, none}
+use Rattle.table.proofs.Cells.{inside-made, no-shared-cell}
+use Rattle.table.proofs.Dying.{none, dyings-length, no-dyings}
+use Rattle.table.proofs.Finding.{at-same}
 use Rattle.table.proofs.Kept.{cut-one, row-live}
 use Rattle.table.proofs.Sound.{sound}
-use Rattle.table.proofs.Tiled.{revokings-append, revokings-first}
+use Rattle.table.proofs.Tiled.{row-some, tiled-fits, revokings-append, revokings-first}
 use Rattle.sweep.specs.Sweep.{passed}
 use Rattle.reservations.specs.Core.{Core, withPlace}
-use Rattle.reservations.specs.Revocation.{running, wholePages, revokeReasons, revokeReasonsAt, revokeOf, revokingRow, collectReasons, collectedRow, collectOf, coreSound, revokingTaker}
+use Rattle.reservations.specs.Revocation.{running, revoked, wholePages, revokeReasons, revokeReasonsAt, revokeOf, revokingRow, collectReasons, collectedRow, collectOf, coreSound}
 use Rattle.reservations.proofs.CoreAfter.{revoke-after}
 use Rattle.reservations.proofs.CoreKept.{core-facts}
+use Rattle.calls.specs.declared.Call.{Call}
 use Rattle.calls.specs.declared.Call.the-variants.{Revoke, Sweep, Collect}
 use Rattle.words.specs.declared.Slot.{Slot}
 use Rattle.words.specs.Words.{empty}
@@ -44,27 +51,31 @@ use Rattle.machine.proofs.ClaimsKept.{revoke-claims, collect-claims}
 use Rattle.histories.specs.Runs.{Machine, Granted, next, run}
 use Rattle.histories.specs.Inv.{rowAt}
 use Rattle.histories.specs.Forming.{Standing}
-use Rattle.histories.specs.Restoring.{ending, finishing, revoking, Restored}
+use Rattle.histories.specs.Restoring.{ending, finishing, revoking}
 use Rattle.histories.proofs.Granted.{Went, went, went-next}
-use Rattle.histories.proofs.Findings.{Ends}
+use Rattle.histories.proofs.Findings.{Ends, revoke-parts}
 use Rattle.histories.proofs.Survivors.{collect-core, collect-ends}
 use Rattle.histories.proofs.Forming.{standing-core, standing-facts, standing-code, standing-next}
 use Rattle.reservations.proofs.Revocations.{none-revoking}
 use Rattle.histories.proofs.Table.{running-by}
-use Rattle.histories.proofs.Revokes.{revoke-core, revoke-runs}
+use Rattle.histories.proofs.Revokes.{revoke-core, revoke-runs, revoke-range}
 use Rattle.histories.proofs.Leading.{Leads, leads-none, leads-more, leads-to}
-use Rattle.histories.proofs.Naming.{find-row}
-use Rattle.histories.proofs.Losing.{Whole, whole-table}
-use Rattle.histories.proofs.RestoringPages.{Bare}
+use Rattle.histories.proofs.Naming.{sound-row, find-row}
+use Rattle.histories.proofs.RestoringPages.{page-long}
 
 -- A core once its revocation has ended.
 pub record Finished (c : Core) (n : Machine) : Type 0 where
   pub row : ℕ
   pub used : row < length (live (c .table))
   pub dies : isRevoking (rowAt (c .table) row .state) ≡ true
-  pub rows : live (n .state .core .table) ≡ take row (live (c .table)) ++ collectedRow (rowAt (c .table) row) ∷ drop (row + 1) (live (c .table))
+  pub range : revoked c ≡ rangeOf (rowAt (c .table) row)
+  pub rows : live (n .state .core .table) ≡ set (live (c .table)) row (collectedRow (rowAt (c .table) row))
   pub pages : n .state .core .pages ≡ releasedOf (c .pages) (rangeOf (rowAt (c .table) row))
   pub claims : n .state .core .claims ≡ c .claims
+
+-- A row in place of another.
+set-row : (l : List Reservation) (i : ℕ) (r : Reservation) → i < length l → set l i r ≡ take i l ++ r ∷ drop (i + 1) l
+set-row l i r h = rw (add-one i) (set-split l i r h)
 
 sweep-free : (c : Core) (mail : List Slot) (r : Reads) (n : ℕ) → running c ≡ true → first (reasons c mail r (Sweep 0 n)) ≡ 0
 unfolding reasons first
@@ -77,6 +88,10 @@ collect-free c mail r e over = rw (e, le-leb (16 * c .pages .f) (c .place) over)
 same-running : (c : Core) (place : ℕ) → running (withPlace c place) ≡ running c
 unfolding running
 same-running c place = refl
+
+same-revoked : (c : Core) (place : ℕ) → revoked (withPlace c place) ≡ revoked c
+unfolding revoked
+same-revoked c place = refl
 
 all-swept : (c : Core) (n : ℕ) → c .place ≤ 16 * c .pages .f → 16 * c .pages .f ≤ n → sweptTo c n ≡ 16 * c .pages .f
 unfolding passed
@@ -117,7 +132,8 @@ module _ (m : Machine) (v f : ℕ) (k : Standing m v f) (e : running (m .state .
         row = s .row;
         used = s .used;
         dies = s .dies;
-        rows = ap (λ x. live (x .table)) g ∙ s .now;
+        range = sym (same-revoked c (16 * c .pages .f)) ∙ s .range;
+        rows = ap (λ x. live (x .table)) g ∙ s .now ∙ sym (set-row (live (c .table)) (s .row) (collectedRow (rowAt (c .table) (s .row))) (s .used));
         pages = ap (λ x. x .pages) (g ∙ s .parts) ∙ ap (releasedOf (c .pages)) (s .range);
         claims = ap (λ x. x .claims) g ∙ collect-claims c₁;
       })
@@ -126,7 +142,7 @@ module _ (m : Machine) (v f : ℕ) (k : Standing m v f) (e : running (m .state .
   finished-by : Leads (Finished c) m (Sweep 0 cells ∷ Collect 0 ∷ [])
   finished-by = leads-more (Finished c) m (Sweep 0 cells) (Collect 0 ∷ []) sweep-goes (leads-more (Finished c) n₁ (Collect 0) [] collect-goes (leads-none (Finished c) (next n₁ (Collect 0)) finished))
 
-ending-leads : (m : Machine) (v f : ℕ) → Standing m v f → running (m .state .core) ≡ true → Leads (Finished (m .state .core)) m (ending f)
+pub ending-leads : (m : Machine) (v f : ℕ) → Standing m v f → running (m .state .core) ≡ true → Leads (Finished (m .state .core)) m (ending f)
 unfolding ending
 ending-leads m v f k e = finished-by m v f k e _ (omega arith)
 
@@ -141,7 +157,7 @@ finished-still c n ok k =
     let one : _≡_ {A = ℕ} (weight (rowAt (c .table) (k .row))) 1 = pick-yes (isRevoking (r .state)) 1 0 (k .dies) in
     omega (
       arith,
-      ap revokings (k .rows),
+      ap revokings (k .rows ∙ set-row l i (collectedRow r) (k .used)),
       revokings-append (take i l) (collectedRow r ∷ q),
       revokings-first (collectedRow r) q,
       ap revokings (cut-one l i (k .used)),
@@ -149,6 +165,11 @@ finished-still c n ok k =
       revokings-first r q,
       s .single,
     )
+
+pub finished-quiet : (c : Core) (n : Machine) → coreSound c ≡ true → Finished c n → running (n .state .core) ≡ false
+finished-quiet c n ok k =
+    let l = live (n .state .core .table) in
+    running-by (n .state .core) ∙ ap (λ x. not (none x)) (no-dyings l (sym (dyings-length l) ∙ finished-still c n ok k))
 
 pub finishing-leads : (m : Machine) (v f : ℕ) → Standing m v f → Leads (λ n. revokings (live (n .state .core .table)) ≡ 0) m (finishing m)
 unfolding finishing
@@ -164,8 +185,34 @@ finishing-leads m v f k = go (running (m .state .core)) refl
         (leads-to (Finished (m .state .core)) Q m (ending f) (ending-leads m v f k e) (finished-still (m .state .core) (run m (ending f)) (standing-core m v f k))))
     go false e = rw e (leads-none Q m (none-revoking (m .state .core) e))
 
--- The last revocation. The one reservation is Taken, and no page is Mapped.
-module _ (m : Machine) (v f : ℕ) (k : Standing m v f) (bare : Bare v m) where
+-- A reservation once it was revoked and the revocation has ended.
+pub record Recovered (c : Core) (v i : ℕ) (n : Machine) : Type 0 where
+  pub rows : live (n .state .core .table) ≡ set (live (c .table)) i (collectedRow (rowAt (c .table) i))
+  pub pages : (p : ℕ) → p < v → pageAt (n .state .core .pages) p ≡ pick (pageInside (rangeOf (rowAt (c .table) i)) p) Unmapped (pageAt (c .pages) p)
+  pub quiet : running (n .state .core) ≡ false
+  pub claims : n .state .core .claims ≡ c .claims
+
+set-twice : (l : List Reservation) (i : ℕ) (r q : Reservation) → set (set l i r) i q ≡ set l i q
+set-twice [] i r q = refl
+set-twice (x ∷ l) zero r q = refl
+set-twice (x ∷ l) (suc i) r q = ap (λ y. x ∷ y) (set-twice l i r q)
+
+freed-length : (s : Pages) (r : Range) → length (freedOf s r .pages) ≡ length (s .pages)
+unfolding freedOf
+freed-length s r = length-mapEach (freedEntry r) 0 (s .pages)
+
+-- A page of a range that was freed and then released, and one outside of it.
+freed-released : (s : Pages) (r : Range) (p : ℕ) → p < length (s .pages) → pageAt (releasedOf (freedOf s r) r) p ≡ pick (pageInside r p) Unmapped (pageAt s p)
+freed-released s r p b = released-at (freedOf s r) r p (subst (λ n. p < n) (sym (freed-length s r)) b) ∙ go (pageInside r p) refl
+  where
+    go : (b : Bool) → pageInside r p ≡ b → pick b Unmapped (pageAt (freedOf s r) p) ≡ pick b Unmapped (pageAt s p)
+    go true e = refl
+    go false e = freed-at s r p b ∙ ap (λ x. pick (x && isUnmapped (pageAt s p)) Freed (pageAt s p)) e
+
+-- No revocation runs, and a reservation of whole pages that party 0 holds has no Mapped page.
+module _ (m : Machine) (v f : ℕ) (k : Standing m v f) (still : running (m .state .core) ≡ false) (i : ℕ) (h : i < length (live (m .state .core .table)))
+    (lent : rowAt (m .state .core .table) i .state ≡ Taken) (holder : rowAt (m .state .core .table) i .holder ≡ 0) (whole : wholePages (rowAt (m .state .core .table) i) ≡ true)
+    (bare : (p : ℕ) → p < v → pageInside (rangeOf (rowAt (m .state .core .table) i)) p ≡ true → isMapped (pageAt (m .state .core .pages) p) ≡ false) where
   abbrev c₀ : Core
   c₀ = m .state .core
 
@@ -173,86 +220,102 @@ module _ (m : Machine) (v f : ℕ) (k : Standing m v f) (bare : Bare v m) where
   t = m .state .core .table
 
   abbrev r₀ : Reservation
-  r₀ = reservation 0 (16 * v) Taken 0 (rowAt t 0 .taker)
+  r₀ = rowAt t i
 
-  single : 0 < length (live t)
-  single = rw (bare .one) (omega arith)
+  abbrev call : Call
+  call = Revoke 0 (r₀ .base)
 
-  row : rowAt t 0 ≡ r₀
-  row = ap (λ l. getD l 0 blank) (bare .one)
+  found : findOf t 0 (r₀ .base) ≡ At i
+  found = sym (ap (λ p. findOf t p (r₀ .base)) holder) ∙ find-row (16 * c₀ .pages .v) t (standing-facts m v f k .rows) i h
 
-  found : findOf t 0 0 ≡ At 0
-  found = sym (ap (λ r. findOf t (r .holder) (r .base)) row) ∙ find-row (16 * c₀ .pages .v) t (standing-facts m v f k .rows) 0 single
-
-  row-found : rowOf t (At 0) ≡ r₀
-  row-found = row-live t 0 single ∙ row
-
-  at-rest : running c₀ ≡ false
-  unfolding dyings
-  at-rest = running-by c₀ ∙ ap (λ l. not (none (dyings l))) (bare .one)
+  row-found : rowOf t (At i) ≡ r₀
+  row-found = row-live t i h
 
   none-mapped : anyMapped (c₀ .pages) (rangeOf r₀) ≡ false
   unfolding anyMapped notMappedIn pageAt
   none-mapped = ap not (each-all (notMappedIn (rangeOf r₀)) 0 (c₀ .pages .pages) (pageEntry Unmapped) (λ p b. go p (pageInside (rangeOf r₀) (0 + p)) refl))
     where
+      fits : r₀ .base + r₀ .length ≤ 16 * c₀ .pages .v
+      fits = tiled-fits (16 * c₀ .pages .v) (live t) 0 i (sound (16 * c₀ .pages .v) t (standing-facts m v f k .rows) .tiled) h
+
       go : (p : ℕ) (b : Bool) → pageInside (rangeOf r₀) (0 + p) ≡ b → not (b && isMapped (getD (c₀ .pages .pages) p (pageEntry Unmapped) .state)) ≡ true
-      go p true e = ap not (bare .none p (omega (arith, k .of-v, page-below (c₀ .pages) (rangeOf r₀) (0 + p) (omega (arith, k .of-v)) e)))
+      go p true e =
+          let n : 0 + p ≡ p = zero-add p in
+          ap not (bare p (omega (arith, k .of-v, page-below (c₀ .pages) (rangeOf r₀) (0 + p) fits e)) (sym (ap (pageInside (rangeOf r₀)) n) ∙ e))
       go p false e = refl
 
-  whole-pages : wholePages r₀ ≡ true
-  whole-pages = let n : (16 * v) % 16 ≡ 0 = omega arith in rw n refl
-
-  revoke-clear : first (revokeReasons c₀ 0 0) ≡ 0
+  revoke-clear : first (revokeReasons c₀ 0 (r₀ .base)) ≡ 0
   unfolding first revokeReasons revokeReasonsAt
-  revoke-clear = rw (found, row-found, whole-pages, at-rest, none-mapped)
+  revoke-clear = let calm : isRevoking (r₀ .state) ≡ false = ap isRevoking lent in rw (found, row-found, calm, whole, still, none-mapped)
 
-  revoke-free : first (reasonsOn (m .state) (Revoke 0 0) (m .cells) (m .tags)) ≡ 0
+  revoke-free : first (reasonsOn (m .state) call (m .cells) (m .tags)) ≡ 0
   unfolding reasons first
   revoke-free = revoke-clear
 
-  revoke-goes : Granted m (Revoke 0 0)
-  revoke-goes = standing-code m v f (Revoke 0 0) k ∙ revoke-free
+  revoke-goes : Granted m call
+  revoke-goes = standing-code m v f call k ∙ revoke-free
 
   abbrev n₂ : Machine
-  n₂ = next m (Revoke 0 0)
+  n₂ = next m call
 
-  revoke-went : Went m (Revoke 0 0)
-  revoke-went = went m (Revoke 0 0) revoke-goes
+  abbrev t₂ : Table
+  t₂ = n₂ .state .core .table
 
-  one-revoking : Whole v Revoking 0 n₂
-  one-revoking =
-      let (i, r) = revoke-after c₀ (standing-core m v f k) 0 0 (unfold revokeOf in revoke-clear) in
-      let n : i ≡ 0 = omega (arith, r .within, ap length (bare .one)) in
-      whole-table v Revoking 0 (revokingTaker r₀) (n₂ .state .core .table)
-      (ap (λ x. live (x .table)) (revoke-core m 0 0 revoke-went) ∙ r .now ∙ ap (λ j. take j (live t) ++ revokingRow (rowAt t j) ∷ drop (j + 1) (live t)) n ∙ ap (λ l. take 0 l ++ revokingRow (getD l 0 blank) ∷ drop 1 l) (bare .one))
+  revoke-went : Went m call
+  revoke-went = went m call revoke-goes
 
-  restored : (n : Machine) → Finished (n₂ .state .core) n → Restored n v
-  unfolding dyings
-  restored n e =
-      let t₂ = n₂ .state .core .table in
-      let i : e .row ≡ 0 = omega (arith, e .used, ap length one-revoking) in
-      let one : live (n .state .core .table) ≡ reservation 0 (16 * v) Open 0 noTaker ∷ [] =
-      e .rows ∙ ap (λ j. take j (live t₂) ++ collectedRow (rowAt t₂ j) ∷ drop (j + 1) (live t₂)) i ∙ ap (λ l. take 0 l ++ collectedRow (getD l 0 blank) ∷ drop 1 l) one-revoking in
-      let range : rangeOf (rowAt t₂ (e .row)) ≡ rangeOf r₀ = ap (λ j. rangeOf (rowAt t₂ j)) i ∙ ap (λ l. rangeOf (getD l 0 blank)) one-revoking in
+  revoke-granted : revokeOf c₀ 0 (r₀ .base) .code ≡ 0
+  unfolding revokeOf
+  revoke-granted = revoke-clear
+
+  k₂ : Standing n₂ v f
+  k₂ = standing-next m v f call k
+
+  rows-then : live t₂ ≡ set (live t) i (revokingRow r₀)
+  rows-then =
+      let (j, r) = revoke-after c₀ (standing-core m v f k) 0 (r₀ .base) revoke-granted in
+      let n : j ≡ i = at-same (sym (r .found) ∙ found) in
+      ap (λ x. live (x .table)) (revoke-core m 0 (r₀ .base) revoke-went) ∙ r .now ∙ ap (λ y. take y (live t) ++ revokingRow (rowAt t y) ∷ drop (y + 1) (live t)) n
+      ∙ sym (set-row (live t) i (revokingRow r₀) h)
+
+  row-then : rowAt t₂ i ≡ revokingRow r₀
+  row-then = ap (λ l. getD l i blank) rows-then ∙ getD-set-same (live t) i (revokingRow r₀) blank h
+
+  pages-then : n₂ .state .core .pages ≡ freedOf (c₀ .pages) (rangeOf r₀)
+  pages-then =
+      ap (λ x. x .pages) (revoke-core m 0 (r₀ .base) revoke-went ∙ revoke-parts c₀ 0 (r₀ .base) revoke-granted)
+      ∙ ap (λ g. freedOf (c₀ .pages) (rangeOf (rowOf t g))) found ∙ ap (λ r. freedOf (c₀ .pages) (rangeOf r)) row-found
+
+  -- The one that dies is this one, for they have the same cells.
+  this-dies : (n : Machine) (e : Finished (n₂ .state .core) n) → e .row ≡ i
+  this-dies n e =
+      let ok = standing-facts n₂ v f k₂ .rows in
+      let here : i < length (live t₂) = subst (λ x. i < x) (sym (ap length rows-then ∙ length-set (live t) i (revokingRow r₀))) h in
+      let some = row-some (rowAt t₂ i) (sound-row (16 * n₂ .state .core .pages .v) t₂ ok i here) in
+      let mine : inside (rangeOf (rowAt t₂ i)) (rowAt t₂ i .base) ≡ true = inside-made (rangeOf (rowAt t₂ i)) (rowAt t₂ i .base) (omega arith) (omega (arith, some)) in
+      let same : rangeOf (rowAt t₂ (e .row)) ≡ rangeOf (rowAt t₂ i) =
+      sym (e .range) ∙ revoke-range m 0 (r₀ .base) revoke-went ∙ ap (λ g. rangeOf (rowOf t g)) found ∙ ap (λ r. rangeOf r) row-found ∙ sym (ap (λ r. rangeOf r) row-then) in
+      no-shared-cell (16 * n₂ .state .core .pages .v) t₂ (e .row) i (rowAt t₂ i .base) ok (e .used) here (ap (λ r. inside r (rowAt t₂ i .base)) same ∙ mine) mine
+
+  recovered : (n : Machine) → Finished (n₂ .state .core) n → Recovered c₀ v i n
+  recovered n e =
+      let j = this-dies n e in
+      let row = ap (λ y. rowAt t₂ y) j ∙ row-then in
       record {
-        one = one;
-        pages = λ p h.
-            ap (λ x. pageAt x p) (e .pages ∙ ap (releasedOf (n₂ .state .core .pages)) range) ∙ released-at (n₂ .state .core .pages) (rangeOf r₀) p (long p h)
-            ∙ pick-yes (pageInside (rangeOf r₀) p) Unmapped _ (inside-made (rangeOf r₀) (16 * p) (omega arith) (omega arith));
-        quiet = running-by (n .state .core) ∙ ap (λ l. not (none (dyings l))) one;
-        claims = e .claims ∙ ap (λ x. x .claims) (revoke-core m 0 0 revoke-went) ∙ revoke-claims c₀ 0 0 ∙ bare .free;
+        rows =
+            e .rows ∙ ap (λ r. set (live t₂) (e .row) (collectedRow r)) row ∙ ap (λ y. set (live t₂) y (collectedRow r₀)) j ∙ ap (λ l. set l i (collectedRow r₀)) rows-then
+            ∙ set-twice (live t) i (revokingRow r₀) (collectedRow r₀);
+        pages = λ p b.
+            ap (λ s. pageAt s p) (e .pages ∙ ap (λ r. releasedOf (n₂ .state .core .pages) (rangeOf r)) row ∙ ap (λ s. releasedOf s (rangeOf r₀)) pages-then)
+            ∙ freed-released (c₀ .pages) (rangeOf r₀) p (page-long m v f k p b);
+        quiet = finished-quiet (n₂ .state .core) n (standing-core n₂ v f k₂) e;
+        claims = e .claims ∙ ap (λ x. x .claims) (revoke-core m 0 (r₀ .base) revoke-went) ∙ revoke-claims c₀ 0 (r₀ .base);
       }
-    where
-      long : (p : ℕ) → p < v → p < length (n₂ .state .core .pages .pages)
-      long p h =
-          let k₂ = standing-next m v f (Revoke 0 0) k in
-          let l = layered (n₂ .state .core .pages) (standing-facts n₂ v f k₂ .layer) in
-          omega (arith, l .long-pages, l .v-most, k₂ .of-v)
 
-  pub revoking-leads : Leads (λ n. Restored n v) m (revoking m)
+  pub revoking-leads : Leads (Recovered c₀ v i) m (revoking (r₀ .base) m)
   unfolding revoking
   revoking-leads =
-      leads-more (λ n. Restored n v) m (Revoke 0 0) (ending (c₀ .pages .f)) revoke-goes
-      (subst (λ x. Leads (λ n. Restored n v) n₂ (ending x)) (sym (k .of-f))
-      (leads-to (Finished (n₂ .state .core)) (λ n. Restored n v) n₂ (ending f) (ending-leads n₂ v f (standing-next m v f (Revoke 0 0) k) (revoke-runs m 0 0 revoke-went))
-      (restored (run n₂ (ending f)))))
+      leads-more (Recovered c₀ v i) m call (ending (c₀ .pages .f)) revoke-goes
+      (subst (λ x. Leads (Recovered c₀ v i) n₂ (ending x)) (sym (k .of-f))
+      (leads-to (Finished (n₂ .state .core)) (Recovered c₀ v i) n₂ (ending f) (ending-leads n₂ v f k₂ (revoke-runs m 0 (r₀ .base) revoke-went))
+      (recovered (run n₂ (ending f)))))

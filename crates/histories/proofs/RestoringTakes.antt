@@ -51,7 +51,7 @@ none-revoking (r ∷ l) zero e h = go (isRevoking (r .state)) refl
 none-revoking (r ∷ l) (suc i) e h = none-revoking l i (omega (arith, revokings-first r l)) (omega arith)
 
 -- A reservation is Taken, and party 0 holds it.
-abbrev Lent : Reservation → Type 0
+abbrev pub Lent : Reservation → Type 0
 Lent r = (r .state ≡ Taken) × (r .holder ≡ 0)
 
 is-taken : (s : ReservationState) → isOpen s ≡ false → isRevoking s ≡ false → s ≡ Taken
@@ -63,7 +63,7 @@ held-by : (b : Bool) (n : ℕ) → b ≡ false → b || eqb n 0 ≡ true → n �
 held-by true n p e = absurd (true≢false p)
 held-by false n p e = eqb-true n 0 e
 
-lent-row : (r : Reservation) → rowSound r ≡ true → isOpen (r .state) ≡ false → isRevoking (r .state) ≡ false → Lent r
+pub lent-row : (r : Reservation) → rowSound r ≡ true → isOpen (r .state) ≡ false → isRevoking (r .state) ≡ false → Lent r
 lent-row r e o q =
     (is-taken (r .state) o q, held-by (isOpen (r .state)) (r .holder) o (and-right (ltb 0 (r .length) && leb (r .holder) 7) (isOpen (r .state) || eqb (r .holder) 0) e))
 

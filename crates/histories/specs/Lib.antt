@@ -12,6 +12,7 @@ pub mod Cleaning
 pub mod Forming
 pub mod Losing
 pub mod Restoring
+pub mod Manager
 pub mod Forgetting
 pub mod Takers
 pub mod Sharing

@@ -1,7 +1,7 @@
 -- Nothing lost, from every state. After every history some calls, each of them granted in its turn, lead back to one Open reservation of
--- all cells, held by party 0, with every page Unmapped and the claims of a fresh start. The calls are computed from the state. Assumes
--- nothing.
-use Prim.Native.Nat.{ℕ, zero, suc, _-_, _*_, _<_}
+-- all cells, held by party 0, with every page Unmapped, the claims of a fresh start and no live capability. The calls are computed from the
+-- state. Assumes nothing.
+use Prim.Native.Nat.{ℕ, zero, suc, _+_, _-_, _*_, _<_, _≤_}
 use mathlib.Core.Bool.{Bool, true, false, not, _&&_}
 use mathlib.Core.List.{List, [], _∷_, _++_}
 use mathlib.Core.Path.{_≡_}
@@ -22,6 +22,7 @@ use Rattle.calls.specs.declared.Call.{Call}
 use Rattle.calls.specs.declared.Call.the-variants.{Take, Merge, Revoke, Sweep, Collect, Unmap, Release, Destroy}
 use Rattle.calls.specs.Commands.{page}
 use Rattle.histories.specs.Runs.{Machine, run, Reached}
+use Rattle.histories.specs.Live.{Spot, Live}
 use Rattle.histories.specs.Inv.{rowAt}
 use Rattle.histories.specs.Losing.{AllGranted}
 
@@ -70,34 +71,47 @@ destroying m = eachBelow (topAt (m .state .core .claims)) (λ p. Destroy 0 p) 32
 unfoldable pub releasing : Machine → List Call
 releasing m = manyBelow (λ k. countOf (m .state .core .claims) 0 k) (λ k. Release 0 0 (page k)) (m .state .core .pages .v)
 
--- 6. Each Mapped page is unmapped.
+-- 6. Each Mapped page is unmapped, of those that pass a test.
 abbrev pub mappedAt : Pages → ℕ → Bool
 mappedAt s p = isMapped (pageAt s p)
 
-unfoldable pub unmapping : Machine → List Call
-unmapping m =
+unfoldable pub unmapping : (ℕ → Bool) → Machine → List Call
+unmapping among m =
     let s = m .state .core .pages in
-    eachBelow (mappedAt s) (λ p. Unmap 0 (page p)) (s .v)
+    eachBelow (λ p. among p && mappedAt s p) (λ p. Unmap 0 (page p)) (s .v)
 
--- 7. The one reservation is revoked, and the revocation brought to its end.
-unfoldable pub revoking : Machine → List Call
-revoking m = Revoke 0 0 ∷ ending (m .state .core .pages .f)
+-- 7. The reservation at a base is revoked, and the revocation brought to its end.
+unfoldable pub revoking : ℕ → Machine → List Call
+revoking base m = Revoke 0 base ∷ ending (m .state .core .pages .f)
 
 -- Calls computed from a state, and then those computed from the state that they lead to.
 infixr 5 _andThen_
 unfoldable pub _andThen_ : (Machine → List Call) → (Machine → List Call) → Machine → List Call
 (a andThen b) m = a m ++ b (run m (a m))
 
-unfoldable pub restoring : Machine → List Call
-restoring = finishing andThen taking andThen merging andThen destroying andThen releasing andThen unmapping andThen revoking
+-- 4 and 5. No page has a claim then, and each can be unmapped.
+unfoldable pub unclaiming : Machine → List Call
+unclaiming = destroying andThen releasing
 
--- One Open reservation of 16 V cells, held by party 0; every page Unmapped; no revocation runs; and principal 0 alone is in being, with all
--- limit unspent and no count.
+abbrev pub everyPage : ℕ → Bool
+everyPage p = true
+
+unfoldable pub restoring : Machine → List Call
+restoring = finishing andThen taking andThen merging andThen unclaiming andThen unmapping everyPage andThen revoking 0
+
+-- One Open reservation of 16 V cells, held by party 0; every page Unmapped; no revocation runs; principal 0 alone is in being, with all
+-- limit unspent and no count; and no register, mailbox or virtual cell holds a capability, of whatever length.
 pub record Restored (m : Machine) (v : ℕ) : Type 0 where
   pub one : live (m .state .core .table) ≡ reservation 0 (16 * v) Open 0 noTaker ∷ []
   pub pages : (p : ℕ) → p < v → pageAt (m .state .core .pages) p ≡ Unmapped
   pub quiet : running (m .state .core) ≡ false
   pub claims : m .state .core .claims ≡ freshClaims true
+  pub none : (x : Spot) → Live m x → ⊥
 
+-- The takes are the holders': what party 0 brings about without them is in specs/Manager.antt.
 abbrev pub NothingLost : Type 0
 NothingLost = (m : Machine) (r : Reached m) → AllGranted m (restoring m) × Restored (run m (restoring m)) (r .v)
+
+-- So many calls are enough: 2 that end a revocation, 64 takes, 63 merges, 31 destroys, 65,535 releases and an unmap for each page, and 3.
+abbrev pub RestoringBounded : Type 0
+RestoringBounded = (m : Machine) (r : Reached m) → length (restoring m) ≤ 163 + 65536 * r .v
