@@ -1,6 +1,6 @@
 -- The walks one after the other come to the rule: the survey tells whether 25 comes (maps:Surveying), the list is written where it does not
 -- (maps:Listing), and the nearest is the survey's (maps:Nearing).
-use mathlib.Core.Path.{_≡_, refl, sym, _∙_, ap, subst}
+use mathlib.Core.Path.{_≡_, refl, sym, _∙_, ap}
 use Prim.Native.Nat.{ℕ, _≤_}
 use native.Mathlib.Omega.{arith}
 use native.Mathlib.Nat.{zero-add}
@@ -37,15 +37,6 @@ closing l q bases j = left (answerWith (j .code) (seenOver q nothing l) (walked 
 -- What the walks leave, as the code puts them together.
 abbrev pub asking : List Reservation → Question → List ℕ → Left
 asking l q bases = closing l q bases (judgeWith q (seenOver q nothing l) (length l) (length bases))
-
--- A refused question lists from no record, another from all.
-pub upto-within : (q : Question) (s : Seen) (n room : ℕ) → judgeWith q s n room .upto ≤ n
-unfolding judgeWith
-upto-within q s n room = go ((eqb n 0 || ltb 64 n) || (not (s .tiled) || badQuestion q (s .end) room))
-  where
-    go : (t : Bool) → pick t (judged 25 0) (judged 0 n) .upto ≤ n
-    go true = omega arith
-    go false = omega arith
 
 -- ---- Whether 25 comes
 not-sound : (a : Bool) (n : ℕ) → not (a && leb n 4096) ≡ (not a || ltb 4096 n)
@@ -153,9 +144,6 @@ module _ (l : List Reservation) (q : Question) (bases : List ℕ) (s : Seen) (j 
   -- What was judged, from the records alone.
   told-of : j ≡ judgeWith q (seenOver q nothing l) (length l) (length bases)
   told-of = told ∙ ap (λ (t : Seen). judgeWith q t (length l) (length bases)) known
-
-  pub few-enough : j .upto ≤ length l
-  few-enough = subst (λ (k : Judged). k .upto ≤ length l) (sym told) (upto-within q s (length l) (length bases))
 
   -- What the walks' promises come to, one after the other.
   pub asked : (count : ℕ) (after : List ℕ) (a : Answer) → listing count after ≡ listOver q (listing 0 bases) (take (j .upto) l) → a ≡ answerWith (j .code) s count

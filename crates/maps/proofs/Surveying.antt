@@ -6,9 +6,9 @@ use native.Mathlib.Nat.{add-assoc}
 use mathlib.Core.Bool.{Bool, true, false, _&&_, true≢false}
 use mathlib.Core.List.{List, [], _∷_}
 use lib.Dec.{eqb, leb, ltb}
-use borrow.Author.Tests.{leb-true, leb-false, le-leb, lt-leb}
+use borrow.Author.Tests.{eqb-true, leb-true, leb-false, le-leb, lt-leb}
 use Rattle.capabilities.specs.Lists.{pick}
-use Rattle.capabilities.proofs.Choice.{and-right, pick-yes}
+use Rattle.capabilities.proofs.Choice.{and-left, and-right}
 use Rattle.table.specs.declared.Reservation.{Reservation}
 use Rattle.table.specs.declared.ReservationState.{ReservationState}
 use Rattle.maps.specs.declared.Question.{Question}
@@ -34,11 +34,17 @@ with-tiled (Sharing first cells) s b l state = refl
 with-tiled (Within first cells) s b l state = refl
 with-tiled (Nearest cell cells) s b l state = near-tiled cell cells (tileWith s b l) b l state .0
 
-with-end : (q : Question) (s : Seen) (b l : ℕ) (state : ReservationState) → goesOn s b l ≡ true → seenWith q s b l state .end ≡ s .end + l
+own-end : (q : Question) (s : Seen) (b l : ℕ) (state : ReservationState) → seenWith q s b l state .end ≡ b + l
 unfolding seenWith tileWith
-with-end (Sharing first cells) s b l state e = pick-yes (goesOn s b l) (s .end + l) (s .end) e
-with-end (Within first cells) s b l state e = pick-yes (goesOn s b l) (s .end + l) (s .end) e
-with-end (Nearest cell cells) s b l state e = near-tiled cell cells (tileWith s b l) b l state .1 ∙ pick-yes (goesOn s b l) (s .end + l) (s .end) e
+own-end (Sharing first cells) s b l state = refl
+own-end (Within first cells) s b l state = refl
+own-end (Nearest cell cells) s b l state = near-tiled cell cells (tileWith s b l) b l state .1
+
+-- One that goes on begins where the others end.
+with-end : (q : Question) (s : Seen) (b l : ℕ) (state : ReservationState) → goesOn s b l ≡ true → seenWith q s b l state .end ≡ s .end + l
+with-end q s b l state e =
+    own-end q s b l state ∙ ap (λ (k : ℕ). k + l)
+    (eqb-true b (s .end) (and-right (s .tiled) (eqb b (s .end)) (and-left (s .tiled && eqb b (s .end)) (ltb 0 l && leb (b + l) 4096) e)))
 
 -- Once it is off, it stays off.
 stays-off : (q : Question) (s : Seen) (l : List Reservation) → s .tiled ≡ false → seenOver q s l .tiled ≡ false
@@ -46,7 +52,7 @@ unfolding seenOver
 stays-off q s [] e = e
 stays-off q s (r ∷ l) e =
     stays-off q (seenWith q s (r .base) (r .length) (r .state)) l
-    (with-tiled q s (r .base) (r .length) (r .state) ∙ ap (λ (t : Bool). (t && eqb (r .base) (s .end)) && (ltb 0 (r .length) && leb (s .end + r .length) 4096)) e)
+    (with-tiled q s (r .base) (r .length) (r .state) ∙ ap (λ (t : Bool). (t && eqb (r .base) (s .end)) && (ltb 0 (r .length) && leb (r .base + r .length) 4096)) e)
 
 -- What a survey comes to that goes on.
 unfoldable pub soundFrom : ℕ → List Reservation → Bool
@@ -84,7 +90,11 @@ fits-low e r t =
     leb-true (e + r .length) 4096 (and-right (ltb 0 (r .length)) (leb (e + r .length) 4096) (and-right (eqb (r .base) e) (ltb 0 (r .length) && leb (e + r .length) 4096) t))
 
 still-on : (s : Seen) (r : Reservation) → s .tiled ≡ true → goesOn s (r .base) (r .length) ≡ fits (s .end) r
-still-on s r e = ap (λ (t : Bool). (t && eqb (r .base) (s .end)) && (ltb 0 (r .length) && leb (s .end + r .length) 4096)) e
+still-on s r e = ap (λ (t : Bool). (t && eqb (r .base) (s .end)) && (ltb 0 (r .length) && leb (r .base + r .length) 4096)) e ∙ go (eqb (r .base) (s .end)) refl
+  where
+    go : (t : Bool) → eqb (r .base) (s .end) ≡ t → t && (ltb 0 (r .length) && leb (r .base + r .length) 4096) ≡ (t && (ltb 0 (r .length) && leb (s .end + r .length) 4096))
+    go true t = ap (λ (k : ℕ). ltb 0 (r .length) && leb (k + r .length) 4096) (eqb-true (r .base) (s .end) t)
+    go false t = refl
 
 -- A survey that goes on so far goes on exactly if the rest is sound.
 pub goes-on : (q : Question) (s : Seen) (l : List Reservation) → s .tiled ≡ true → s .end ≤ 4096 → seenOver q s l .tiled ≡ soundFrom (s .end) l

@@ -1,12 +1,11 @@
 -- What one step of a walk leaves, by the tests that the code makes.
 use mathlib.Core.Path.{_≡_, sym, _∙_, ap}
 use Prim.Native.Nat.{ℕ, _+_, _<_}
-use native.Mathlib.Omega.{arith}
 use mathlib.Core.Bool.{Bool, true, false, not, _&&_, _||_}
 use mathlib.Core.List.{List}
 use lib.ListN.{length, set}
 use lib.Dec.{eqb, leb, ltb}
-use borrow.Author.Tests.{leb-true, ltb-true, eq-eqb}
+use borrow.Author.Tests.{ltb-true, eq-eqb}
 use Rattle.capabilities.specs.Lists.{pick}
 use Rattle.capabilities.proofs.Choice.{pick-yes, pick-no, kept, and-right}
 use Rattle.table.specs.Rows.{isOpen}
@@ -15,20 +14,7 @@ use Rattle.maps.specs.declared.Question.{Question}
 use Rattle.maps.specs.declared.Seen.{Seen}
 use Rattle.maps.specs.Cells.{span, distance}
 use Rattle.maps.specs.Questions.{answer, listed, badQuestion}
-use Rattle.maps.specs.Walks.{seen, goesOn, tileWith, closer, nearWith, judged, judgeWith, listing, listWith, answerWith}
-
--- ---- The tiling
-pub tile-on : (s : Seen) (b l : ℕ) → goesOn s b l ≡ true → seen (goesOn s b l) (s .end + l) (s .found) (s .base) (s .distance) ≡ tileWith s b l
-unfolding tileWith
-tile-on s b l e = ap (λ (n : ℕ). seen (goesOn s b l) n (s .found) (s .base) (s .distance)) (sym (pick-yes (goesOn s b l) (s .end + l) (s .end) e))
-
-pub tile-off : (s : Seen) (b l : ℕ) → goesOn s b l ≡ false → seen (goesOn s b l) (s .end) (s .found) (s .base) (s .distance) ≡ tileWith s b l
-unfolding tileWith
-tile-off s b l e = ap (λ (n : ℕ). seen (goesOn s b l) n (s .found) (s .base) (s .distance)) (sym (pick-no (goesOn s b l) (s .end + l) (s .end) e))
-
-pub ends-low : (s : Seen) (b l : ℕ) → goesOn s b l ≡ true → s .end + l < 65536
-ends-low s b l e =
-    let h = leb-true (s .end + l) 4096 (and-right (ltb 0 l) (leb (s .end + l) 4096) (and-right (s .tiled && eqb b (s .end)) (ltb 0 l && leb (s .end + l) 4096) e)) in omega (arith, h)
+use Rattle.maps.specs.Walks.{seen, closer, nearWith, judged, judgeWith, listing, listWith, answerWith}
 
 -- ---- The nearest
 pub near-more : (c n : ℕ) (s : Seen) (b l : ℕ) (state : ReservationState) (o : Bool) (d : ℕ) → o ≡ isOpen state → d ≡ distance c (span b l)

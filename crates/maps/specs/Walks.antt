@@ -1,13 +1,11 @@
 -- What the walks carry from one record to the next: promises of functions that only this crate uses. Assumes nothing.
-use Prim.Native.Nat.{ℕ, _+_, _<_, _≤_}
-use mathlib.Core.Path.{_≡_}
+use Prim.Native.Nat.{ℕ, _+_}
 use mathlib.Core.Bool.{Bool, true, false, not, _&&_, _||_}
 use mathlib.Core.List.{List, [], _∷_}
-use lib.ListN.{length, getD, set}
+use lib.ListN.{length, set}
 use lib.Dec.{leb, ltb, eqb}
 use Rattle.capabilities.specs.Lists.{pick}
-use Rattle.table.specs.Rows.{isOpen, blank}
-use Rattle.table.specs.Numbers.{rowFrom}
+use Rattle.table.specs.Rows.{isOpen}
 use Rattle.table.specs.declared.Reservation.{Reservation}
 use Rattle.table.specs.declared.ReservationState.{ReservationState}
 use Rattle.maps.specs.declared.Question.{Question}
@@ -27,12 +25,11 @@ nothing = seen true 0 false 0 0
 
 -- The record goes on where the others end, has a cell, and ends at 4,096 at most.
 abbrev pub goesOn : Seen → ℕ → ℕ → Bool
-goesOn s base length = (s .tiled && eqb base (s .end)) && (ltb 0 length && leb (s .end + length) 4096)
+goesOn s base length = (s .tiled && eqb base (s .end)) && (ltb 0 length && leb (base + length) 4096)
 
 -- One record more, of the tiling.
 unfoldable pub tileWith : Seen → ℕ → ℕ → Seen
-tileWith s base length =
-    seen (goesOn s base length) (pick (goesOn s base length) (s .end + length) (s .end)) (s .found) (s .base) (s .distance)
+tileWith s base length = seen (goesOn s base length) (base + length) (s .found) (s .base) (s .distance)
 
 -- The record is nearer than the nearest so far: by its distance, or by its base at the same distance.
 abbrev pub closer : Seen → ℕ → ℕ → Bool
@@ -85,15 +82,3 @@ listOver q s (r ∷ l) = listOver q (listWith q s (r .base) (r .length)) l
 -- The answer to a list's length and to the nearest one.
 unfoldable pub answerWith : ℕ → Seen → ℕ → Answer
 answerWith code s count = pick (eqb code 0) (answer 0 (pick (s .found) 1 count) (s .base)) (answer code 0 0)
-
--- How many records a slice of numbers has, if they are no more than 64.
-abbrev pub within64 : ℕ → ℕ
-within64 n = pick (leb n 64) n 0
-
--- The first records are what the first numbers read as.
-abbrev pub ReadUpto : ℕ → List Reservation → List ℕ → Type 0
-ReadUpto n l numbers = (i : ℕ) → i < n → getD l i blank ≡ rowFrom (getD numbers i 0)
-
--- Of 64 records as many as there are numbers are what these read as.
-abbrev pub ReadAs : List Reservation → List ℕ → Type 0
-ReadAs l numbers = (length l ≡ 64) × (length numbers ≤ 64 → ReadUpto (length numbers) l numbers)

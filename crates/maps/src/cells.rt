@@ -48,7 +48,7 @@ pub fn distance(base: u16, length: u16, cell: u64) -> u64
 }
 
 // `cells` cells from `first` on run past an end.
-pub fn beyond(end: u16, first: u64, cells: u64) -> bool
+pub fn beyond(end: u32, first: u64, cells: u64) -> bool
     ensures { λ r. ⌜ r ≡ beyond end (span first cells) ⌝ }
 {
     let last = end as u64;

@@ -1,5 +1,5 @@
-// Which reservations lie where: questions about a lent slice of reservation records, apart from the machine. Of the records only what
-// refusal 25 names is judged.
+// Which reservations lie where: questions about reservation records, apart from the machine. The records lie as plain numbers (`numbers`)
+// or, above the same steps, in a lent slice of records (`records`). Of them only what refusal 25 names is judged.
 pub mod cells;
 pub mod numbers;
 pub mod records;
@@ -20,11 +20,11 @@ pub struct Answer {
     pub base: u16,
 }
 
-// What a walk has seen of the records so far: whether they tile from cell 0 on and end at 4,096 at most, and where they end; and of the
-// Open ones that are asked for whether there is one, the base of the nearest and its distance.
+// What a walk has seen of the records so far: whether they tile from cell 0 on and end at 4,096 at most, and where the last one ends; and
+// of the Open ones that are asked for whether there is one, the base of the nearest and its distance.
 pub struct Seen {
     pub tiled: bool,
-    pub end: u16,
+    pub end: u32,
     pub found: bool,
     pub base: u16,
     pub distance: u64,

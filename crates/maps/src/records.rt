@@ -1,5 +1,5 @@
-// Walks over a lent slice of records: each calls a function of plain numbers on each record's numbers. Their proofs are walked by hand, so
-// they hold nothing else.
+// The same walks over a lent slice of records: each turn calls a function of plain numbers on a record's numbers, the one that the walk over
+// numbers calls. Their proofs are walked by hand, so they hold nothing else.
 use crate::Answer;
 use crate::Question;
 use crate::Seen;
@@ -11,8 +11,7 @@ use crate::steps::seen_with;
 use table::Reservation;
 ghost use mathlib.Core.Path.{_≡_};
 ghost use mathlib.Core.List.{[]};
-ghost use Prim.Native.Nat.{_≤_};
-ghost use lib.ListN.{length, take};
+ghost use lib.ListN.{take};
 ghost use Rattle.maps.specs.declared.Question.the-variants.{Sharing, Within, Nearest};
 ghost use Rattle.maps.specs.Questions.{left, askOf};
 ghost use Rattle.maps.specs.Walks.{seenOver, nothing, listing, listOver};
@@ -38,12 +37,11 @@ pub(crate) fn list(
     question: Question,
     bases: &mut [u16],
 ) -> usize
-    requires { ⌜ upto ≤ length (now records) ⌝ }
     ensures { λ r. ⌜ listing r (now (bases .exit)) ≡ listOver question (listing 0 (now (bases .entry))) (take upto (now (records .entry))) ⌝ }
 {
     let mut count: usize = 0;
     let mut i: usize = 0;
-    while i < upto {
+    while (i < upto) & (i < records.len()) {
         let record = records[i];
         count = list_with(bases, count, question, record.base, record.length);
         i = i + 1;

@@ -8,21 +8,11 @@ use crate::cells::distance;
 use crate::cells::lies_within;
 use crate::cells::shares;
 use table::ReservationState;
+use table::row::is_open;
 ghost use mathlib.Core.Path.{_≡_};
-ghost use Rattle.table.specs.Rows.{isOpen};
 ghost use Rattle.maps.specs.Cells.{span};
 ghost use Rattle.maps.specs.Questions.{listed, badList, badQuestion};
 ghost use Rattle.maps.specs.Walks.{nothing, tileWith, nearWith, seenWith, judgeWith, listing, listWith, answerWith};
-
-fn is_open(state: ReservationState) -> bool
-    ensures { λ r. ⌜ r ≡ isOpen state ⌝ }
-{
-    match state {
-        ReservationState::Open => true,
-        ReservationState::Taken => false,
-        ReservationState::Revoking => false,
-    }
-}
 
 // Before the first record.
 pub(crate) fn nothing() -> Seen
@@ -41,11 +31,10 @@ pub(crate) fn nothing() -> Seen
 fn tile_with(seen: Seen, base: u16, length: u16) -> Seen
     ensures { λ r. ⌜ r ≡ tileWith seen base length ⌝ }
 {
-    let end = seen.end as u32 + length as u32;
-    let goes_on = (seen.tiled & (base == seen.end)) & ((0 < length) & (end <= 4096));
+    let end = base as u32 + length as u32;
     Seen {
-        tiled: goes_on,
-        end: if goes_on { end as u16 } else { seen.end },
+        tiled: (seen.tiled & (base as u32 == seen.end)) & ((0 < length) & (end <= 4096)),
+        end,
         found: seen.found,
         base: seen.base,
         distance: seen.distance,
@@ -97,13 +86,13 @@ pub(crate) fn seen_with(
     }
 }
 
-fn bad_list(end: u16, first: u64, cells: u64, room: usize) -> bool
+fn bad_list(end: u32, first: u64, cells: u64, room: usize) -> bool
     ensures { λ r. ⌜ r ≡ badList end (span first cells) room ⌝ }
 {
     ((cells == 0) | beyond(end, first, cells)) | (room < 64)
 }
 
-fn bad_question(question: Question, end: u16, room: usize) -> bool
+fn bad_question(question: Question, end: u32, room: usize) -> bool
     ensures { λ r. ⌜ r ≡ badQuestion question end room ⌝ }
 {
     match question {
