@@ -1,17 +1,14 @@
--- What a call leaves: refused, granted, or of a slice that does not fit. Assumes nothing.
+-- What a call leaves, read as a table: refused, or granted. Assumes nothing.
 use Prim.Native.Nat.{ℕ, _+_, _-_, _<_, _≤_}
 use native.Mathlib.Omega.{arith}
 use mathlib.Core.Bool.{true, false, true≢false}
 use mathlib.Core.List.{List}
 use mathlib.Core.Path.{_≡_, refl, sym, ap, subst, _∙_}
-use borrow.Author.Tests.{eq-eqb, ne-eqb, leb-false}
+use borrow.Author.Tests.{leb-false}
 use lib.ListN.{length, getD}
-use lib.Dec.{eqb}
 use Rattle.capabilities.specs.Refusals.{first}
-use Rattle.capabilities.proofs.Choice.{pick-yes, pick-no}
 use Rattle.table.specs.declared.Reservation.{Reservation}
 use Rattle.table.specs.Table.{Table}
-use Rattle.table.specs.Table.{Tabled}
 use Rattle.table.specs.declared.Found.{Found}
 use Rattle.table.specs.declared.Found.the-variants.{At, Nowhere}
 use Rattle.table.specs.Rows.{live, blank, table}
@@ -21,7 +18,7 @@ use Rattle.table.proofs.Answers.{granted, refused, Splits}
 use Rattle.table.proofs.Finding.{found-at, next-below}
 use Rattle.table.proofs.Takers.{joined-most}
 use Rattle.table.specs.Numbers.{rowCode, tableOf, allWritten}
-use Rattle.table.specs.Lent.{Leaves, fitting, putAt, placeOf, spreadAt, gatherAt, splitCode, mergeCode}
+use Rattle.table.specs.Lent.{Leaves, putAt, placeOf, spreadAt, gatherAt, splitCode, mergeCode}
 use Rattle.table.proofs.Numbers.{Sized, read-sized, read-back, number-written}
 use Rattle.table.proofs.Reading.{row-read, put-reads, used-length}
 use Rattle.table.proofs.Shifting.{spread-reads, gather-reads}
@@ -37,15 +34,6 @@ pub left-granted :
     → Leaves l m code n (tabled told (tableOf l count) after)
 left-granted l m code count n told after e z p w =
     record { answers = e; reads = p ∙ sym (granted code told e after (tableOf l count) z); keeps = λ k. absurd (k z); sound = w }
-
-pub left-fit : (l m : List ℕ) (code count n : ℕ) (rule : Tabled) → length l ≡ 64 → Leaves l m code n rule → Leaves l m code n (fitting l count rule)
-left-fit l m code count n rule h d =
-    subst (Leaves l m code n) (sym (pick-yes (eqb (length l) 64) rule (record { code = 1; table = tableOf l count }) (eq-eqb (length l) 64 h))) d
-
-pub left-unfit : (l : List ℕ) (count : ℕ) (rule : Tabled) → (length l ≡ 64 → ⊥) → Leaves l l 1 count (fitting l count rule)
-left-unfit l count rule h =
-    subst (Leaves l l 1 count) (sym (pick-no (eqb (length l) 64) rule (record { code = 1; table = tableOf l count }) (ne-eqb (length l) 64 h)))
-    (record { answers = refl; reads = refl; keeps = λ _. refl; sound = λ w. w })
 
 -- Every row of a table read from numbers, and every row that a call makes of it, has fields of their sizes.
 pub row-sized : (l : List ℕ) (count : ℕ) (f : Found) → Sized (rowOf (tableOf l count) f)

@@ -21,9 +21,11 @@ pub mod Shifting
 pub mod Forgetting
 pub mod Written
 pub mod Leaving
+pub mod Numbered
 pub mod Testing
 pub mod RoundTrip
 pub mod Places
 pub mod Counted
 pub mod Once
 pub mod WritesExamples
+pub mod NumberedExamples

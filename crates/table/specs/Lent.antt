@@ -51,8 +51,8 @@ fitting l count rule = pick (eqb (length l) 64) rule (record { code = 1; table =
 abbrev pub tabledOf : Took → Tabled
 tabledOf a = record { code = a .code; table = a .table }
 
--- What a call on the numbers l leaves: its answer is the rule's, and the numbers m read as the rule's table. A refusal keeps every
--- number, and written numbers stay written.
+-- What a call on the numbers l leaves, read as a table: its answer is the rule's, and the numbers m read as the rule's table. A refusal
+-- keeps every number, and written numbers stay written. It follows from what Numbered.antt says of each call.
 pub record Leaves (l m : List ℕ) (code count : ℕ) (rule : Tabled) : Type 0 where
   pub answers : code ≡ rule .code
   pub reads : tableOf m count ≡ rule .table

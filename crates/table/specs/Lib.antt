@@ -9,3 +9,4 @@ pub mod Lent
 pub mod Writes
 pub mod Sound
 pub mod Promises
+pub mod Numbered

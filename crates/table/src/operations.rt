@@ -7,13 +7,14 @@ use crate::parts::given_row;
 use crate::parts::open_code;
 use crate::parts::taken_row;
 ghost use mathlib.Core.Path.{_≡_};
-ghost use Rattle.table.specs.Operations.{takeOf, giveOf};
+ghost use Rattle.table.specs.Operations.{giveOf};
 ghost use Rattle.table.specs.Numbers.{tableOf};
-ghost use Rattle.table.specs.Lent.{Leaves, tabledOf};
+ghost use Rattle.table.specs.Numbered.{takeAnswer, takenIn, givenIn};
 
 // Open becomes Taken with holder 0, by the party; the length is answered.
 pub fn take(rows: &mut [u64], count: usize, party: u8, base: u16) -> TakeAnswer
-    ensures { λ r. ⌜ Leaves (now (rows .entry)) (now (rows .exit)) (r .code) count (tabledOf (takeOf (tableOf (now (rows .entry)) count) party base)) × (r .length ≡ takeOf (tableOf (now (rows .entry)) count) party base .length) ⌝ }
+    ensures { λ r. ⌜ r ≡ takeAnswer (now (rows .entry)) count party base ⌝ }
+    ensures { λ _. ⌜ now (rows .exit) ≡ takenIn (now (rows .entry)) count party base ⌝ }
 {
     let found = find(&rows[..], count, party, base);
     let row = row_in(&rows[..], count, found);
@@ -30,7 +31,8 @@ pub fn take(rows: &mut [u64], count: usize, party: u8, base: u16) -> TakeAnswer
 
 // The holder becomes `to`.
 pub fn give(rows: &mut [u64], count: usize, party: u8, base: u16, to: u8) -> u8
-    ensures { λ r. ⌜ Leaves (now (rows .entry)) (now (rows .exit)) r count (giveOf (tableOf (now (rows .entry)) count) party base to) ⌝ }
+    ensures { λ r. ⌜ r ≡ giveOf (tableOf (now (rows .entry)) count) party base to .code ⌝ }
+    ensures { λ _. ⌜ now (rows .exit) ≡ givenIn (now (rows .entry)) count party base to ⌝ }
 {
     let found = find(&rows[..], count, party, base);
     let row = row_in(&rows[..], count, found);

@@ -15,10 +15,9 @@ use crate::parts::split_code;
 ghost use mathlib.Core.Path.{_≡_};
 ghost use Prim.Native.Nat.{_+_, _-_, _<_, _≤_};
 ghost use lib.ListN.{length, set};
-ghost use Rattle.table.specs.Operations.{upperPart, splitOf, mergeOf};
-ghost use Rattle.table.specs.Numbers.{tableOf};
-ghost use Rattle.table.specs.Lent.{Leaves, fitting, raised, lowered, spreadAt, gatherAt};
-ghost use Rattle.table.specs.Writes.{splitWrites, mergeWrites};
+ghost use Rattle.table.specs.Operations.{upperPart};
+ghost use Rattle.table.specs.Lent.{raised, lowered, spreadAt, gatherAt};
+ghost use Rattle.table.specs.Numbered.{splitAnswer, splitIn, mergeAnswer, mergedIn};
 
 fn upper_part(row: Reservation, len: u16) -> Reservation
     requires { ⌜ len ≤ row .length ⌝ }
@@ -98,7 +97,8 @@ fn gather(rows: &mut [u64], n: usize, i: usize, joined: u64) -> usize
 
 // One Open reservation becomes two, the lower of `len` cells.
 pub fn split(rows: &mut [u64], count: usize, party: u8, base: u16, len: u16) -> Moved
-    ensures { λ r. ⌜ Leaves (now (rows .entry)) (now (rows .exit)) (r .code) (r .count) (fitting (now (rows .entry)) count (splitOf (tableOf (now (rows .entry)) count) party base len)) × (r .writes ≡ splitWrites (tableOf (now (rows .entry)) count) party base (r .code)) ⌝ }
+    ensures { λ r. ⌜ r ≡ splitAnswer (now (rows .entry)) count party base len ⌝ }
+    ensures { λ _. ⌜ now (rows .exit) ≡ splitIn (now (rows .entry)) count party base len ⌝ }
 {
     if rows.len() != 64 {
         return Moved {
@@ -129,7 +129,8 @@ pub fn split(rows: &mut [u64], count: usize, party: u8, base: u16, len: u16) -> 
 
 // The reservation and the next one above become one.
 pub fn merge(rows: &mut [u64], count: usize, party: u8, base: u16) -> Moved
-    ensures { λ r. ⌜ Leaves (now (rows .entry)) (now (rows .exit)) (r .code) (r .count) (fitting (now (rows .entry)) count (mergeOf (tableOf (now (rows .entry)) count) party base)) × (r .writes ≡ mergeWrites (tableOf (now (rows .entry)) count) party base (r .code)) ⌝ }
+    ensures { λ r. ⌜ r ≡ mergeAnswer (now (rows .entry)) count party base ⌝ }
+    ensures { λ _. ⌜ now (rows .exit) ≡ mergedIn (now (rows .entry)) count party base ⌝ }
 {
     if rows.len() != 64 {
         return Moved {

@@ -1,6 +1,7 @@
 -- Refused under 4, or else what the table's own call leaves, which is the rule's table written.
 use Rattle.arrays.specs.Steps.{withRows}
 use Rattle.calls_in_place.proofs.Tabling.{give-unknown, give-judged}
+use Rattle.table.proofs.Numbered.{give-leaves}
 use borrow.Author.Needs.{needs}
 use Rattle.calls_in_place.proofs.table_calls.give.Statement.{statement}
 use Rattle.calls_in_place.proofs.table_calls.give.Tie as tie
@@ -30,7 +31,7 @@ same-length c = search needs
 returns-2 : tie.Need-returns-2
 returns-2 c =
     let a = c .before .before .before .before .before .before .before .args in
-    λ m ec f cells tags. rw (c .coded .ensures) (give-judged (withRows m (a .rows .now)) f (a .count) ec (a .party) (a .base) (a .to) cells tags (c .before .before .before .before .before .if1 .left) _ _ (c .before .before .before .give .ensures))
+    λ m ec f cells tags. rw (c .coded .ensures) (give-judged (withRows m (a .rows .now)) f (a .count) ec (a .party) (a .base) (a .to) cells tags (c .before .before .before .before .before .if1 .left) _ _ (give-leaves (a .rows .now) _ (a .count) (a .party) (a .base) (a .to) (c .before .before .before .before .before .before .before .fits .to .fits) _ (c .before .before .before .give .ensures .0) (c .before .before .before .give .ensures .1)))
 
 pub give-spec : {M : Type 1} → statement M
 give-spec =

@@ -1,6 +1,7 @@
 -- Refused under 4, or else what the table's own call leaves, which is the rule's table written.
 use Rattle.arrays.specs.Steps.{withTable}
 use Rattle.calls_in_place.proofs.Tabling.{merge-unknown, merge-judged}
+use Rattle.table.proofs.Numbered.{merge-leaves}
 use borrow.Author.Needs.{needs}
 use Rattle.calls_in_place.proofs.table_calls.merge.Statement.{statement}
 use Rattle.calls_in_place.proofs.table_calls.merge.Tie as tie
@@ -30,7 +31,7 @@ same-length c = search needs
 returns-2 : tie.Need-returns-2
 returns-2 c =
     let a = c .before .before .before .before .before .before .before .args in
-    λ m f cells tags. rw (c .coded .ensures) (merge-judged (withTable m (a .nums) (a .rows .now)) f (a .party) (a .base) cells tags (c .before .before .before .before .before .if1 .left) _ _ _ (c .before .before .before .merge .ensures .0))
+    λ m f cells tags. rw (c .coded .ensures) (merge-judged (withTable m (a .nums) (a .rows .now)) f (a .party) (a .base) cells tags (c .before .before .before .before .before .if1 .left) _ _ _ (merge-leaves (a .rows .now) _ (a .nums .count) (a .party) (a .base) _ (c .before .before .before .merge .ensures .0) (c .before .before .before .merge .ensures .1)))
 
 pub merge-spec : {M : Type 1} → statement M
 merge-spec =

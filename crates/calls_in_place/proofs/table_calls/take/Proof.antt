@@ -1,5 +1,7 @@
 -- Refused under 4, or else what the table's own call leaves, which is the rule's table written with the register put beside it.
-use mathlib.Core.Path.{refl}
+use mathlib.Core.Path.{refl, ap}
+use Rattle.table.specs.declared.TakeAnswer.{TakeAnswer}
+use Rattle.table.proofs.Numbered.{take-leaves}
 use Rattle.arrays.specs.Steps.{withTable, withWords}
 use Rattle.calls_in_place.proofs.Tabling.{take-unknown, take-down, take-done}
 use borrow.Author.Needs.{needs}
@@ -34,7 +36,7 @@ same-length c = search needs
 returns-2 : tie.Need-returns-2
 returns-2 c =
     let a = c .before .before .before .before .before .before .before .before .before .before .before .args in
-    λ m f cells tags. rw (c .refused2 .ensures) (take-down (withTable (withWords m (a .words .now) (a .marks .now)) (a .nums) (a .rows .now)) f (a .nums .count) refl (a .party) (a .base) (a .reg) (a .mask) cells tags (c .before .before .before .before .before .before .before .if1 .left) _ _ (c .before .before .before .before .before .take .ensures .0) (c .before .if2 .taken))
+    λ m f cells tags. rw (c .refused2 .ensures) (take-down (withTable (withWords m (a .words .now) (a .marks .now)) (a .nums) (a .rows .now)) f (a .nums .count) refl (a .party) (a .base) (a .reg) (a .mask) cells tags (c .before .before .before .before .before .before .before .if1 .left) _ _ (take-leaves (a .rows .now) _ (a .nums .count) (a .party) (a .base) (c .before .before .before .before .before .before .before .before .before .before .before .fits .party .fits) _ (c .before .before .before .before .before .take .ensures .0) (c .before .before .before .before .before .take .ensures .1)) (c .before .if2 .taken))
 
 mul-at : tie.Need-mul-at
 mul-at c = search needs
@@ -71,7 +73,7 @@ returns-3 c =
     let a = c .before .before .before .before .before .before .before .before .before .before .before .before .before .before .before .before .before .before .before .before .before .args in
     let put = c .before .before .before .before .before .before .put-word .ensures in
     λ m f cells tags. rw (c .granted .ensures, put .0, put .1, c .before .before .before .before .before .before .before .before .before .capability .ensures, c .before .before .before .before .before .before .before .before .before .before .permitted .ensures)
-    (take-done (withTable (withWords m (a .words .now) (a .marks .now)) (a .nums) (a .rows .now)) f (a .nums .count) refl (a .party) (a .base) (a .reg) (a .mask) cells tags (c .before .before .before .before .before .before .before .before .before .before .before .before .before .before .before .before .before .if1 .left) _ _ (c .before .before .before .before .before .before .before .before .before .before .before .before .before .before .before .take .ensures .0) _ (c .before .before .before .before .before .before .before .before .before .before .before .before .before .before .before .take .ensures .1) (c .before .before .before .before .before .before .before .before .before .before .before .if2 .left))
+    (take-done (withTable (withWords m (a .words .now) (a .marks .now)) (a .nums) (a .rows .now)) f (a .nums .count) refl (a .party) (a .base) (a .reg) (a .mask) cells tags (c .before .before .before .before .before .before .before .before .before .before .before .before .before .before .before .before .before .if1 .left) _ _ (take-leaves (a .rows .now) _ (a .nums .count) (a .party) (a .base) (c .before .before .before .before .before .before .before .before .before .before .before .before .before .before .before .before .before .before .before .before .before .fits .party .fits) _ (c .before .before .before .before .before .before .before .before .before .before .before .before .before .before .before .take .ensures .0) (c .before .before .before .before .before .before .before .before .before .before .before .before .before .before .before .take .ensures .1)) _ (ap (λ (r : TakeAnswer). r .length) (c .before .before .before .before .before .before .before .before .before .before .before .before .before .before .before .take .ensures .0)) (c .before .before .before .before .before .before .before .before .before .before .before .if2 .left))
 
 pub take-spec : {M : Type 1} → statement M
 take-spec =

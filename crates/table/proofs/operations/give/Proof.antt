@@ -1,11 +1,12 @@
 -- `table::operations::give` meets its contract.
-use mathlib.Core.Path.{sym, ap, _∙_, subst}
+use mathlib.Core.Path.{sym, ap, _∙_}
 use Rattle.capabilities.specs.Refusals.{first}
 use Rattle.table.specs.Find.{findOf, rowOf}
 use Rattle.table.specs.Numbers.{tableOf, rowCode}
-use Rattle.table.specs.Lent.{Leaves, putAt}
+use Rattle.table.specs.Lent.{putAt}
+use Rattle.table.specs.Numbered.{givenIn}
 use Rattle.table.specs.Operations.{openReasons, giveReasons, giveOf, givenRow}
-use Rattle.table.proofs.Leaving.{left-refused, left-put, row-sized, given-sized}
+use Rattle.table.proofs.Answers.{granted, refused}
 use borrow.Author.Needs.{needs}
 use Rattle.table.proofs.operations.give.Statement.{statement}
 use Rattle.table.proofs.operations.give.Tie as tie
@@ -23,7 +24,7 @@ same-length : tie.Need-same-length
 same-length c = search needs
 
 returns : tie.Need-returns
-unfolding giveOf giveReasons
+unfolding givenIn giveOf giveReasons
 returns c =
     let a = c .before .before .before .before .before .before .before .args in
     let l = a .rows .now in
@@ -32,7 +33,7 @@ returns c =
     let here = c .before .before .before .before .find .ensures in
     let row = c .before .before .row-in .ensures ∙ ap (rowOf t) here in
     let told = c .before .open-code .ensures ∙ ap (λ g. first (openReasons g (c .before .before .row-in .result))) here ∙ ap (λ r. first (openReasons f r)) row in
-    left-refused l _ _ _ _ told (c .if1 .taken)
+    (told, sym (refused _ _ told (putAt l f (rowCode (givenRow (rowOf t f) (a .to)))) l (c .if1 .taken)))
 
 given-row-requires : tie.Need-given-row-requires
 given-row-requires c κs = search needs
@@ -44,7 +45,7 @@ same-length-2 : tie.Need-same-length-2
 same-length-2 c = search needs
 
 returns-2 : tie.Need-returns-2
-unfolding giveOf giveReasons
+unfolding givenIn giveOf giveReasons
 returns-2 c =
     let a = c .before .before .before .before .before .before .before .before .before .before .before .before .args in
     let l = a .rows .now in
@@ -52,12 +53,13 @@ returns-2 c =
     let f = findOf t (a .party) (a .base) in
     let here = c .before .before .before .before .before .before .before .before .before .find .ensures in
     let row = c .before .before .before .before .before .before .before .row-in .ensures ∙ ap (rowOf t) here in
-    let told = c .before .before .before .before .before .before .open-code .ensures ∙ ap (λ g. first (openReasons g (c .before .before .before .before .before .before .before .row-in .result))) here ∙ ap (λ r. first (openReasons f r)) row in
-    subst (λ m. Leaves l m (c .before .before .before .before .before .before .open-code .result) (a .count) (giveOf t (a .party) (a .base) (a .to))) (sym
-    (c .before .before .put-row .ensures
-    ∙ ap (λ g. putAt l g (rowCode (c .before .before .before .given-row .result))) here
-    ∙ ap (λ r. putAt l f (rowCode r)) (c .before .before .before .given-row .ensures ∙ ap (λ r. givenRow r (a .to)) row)))
-    (left-put l _ _ _ f (givenRow (rowOf t f) (a .to)) told (c .before .before .before .before .before .if1 .left) (given-sized (rowOf t f) (a .to) (c .before .before .before .before .before .before .before .before .before .before .before .before .fits .to .fits) (row-sized l (a .count) f)))
+    let told = c .before .before .before .before .before .before .open-code .ensures ∙ ap (λ g. first (openReasons g (c .before .before .before .before .before .before .before .row-in .result))) here ∙ ap (λ r. first (openReasons f r)) row in (
+      told,
+      c .before .before .put-row .ensures
+          ∙ ap (λ g. putAt l g (rowCode (c .before .before .before .given-row .result))) here
+          ∙ ap (λ r. putAt l f (rowCode r)) (c .before .before .before .given-row .ensures ∙ ap (λ r. givenRow r (a .to)) row)
+          ∙ sym (granted _ _ told (putAt l f (rowCode (givenRow (rowOf t f) (a .to)))) l (c .before .before .before .before .before .if1 .left)),
+    )
 
 pub give-spec : {M : Type 1} → statement M
 give-spec =

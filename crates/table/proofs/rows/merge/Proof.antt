@@ -1,23 +1,29 @@
 -- `table::rows::merge` meets its contract.
 use native.Mathlib.Omega.{arith}
-use mathlib.Core.Path.{_≡_, refl, sym, ap, _∙_, subst}
+use mathlib.Core.Path.{_≡_, sym, ap, _∙_}
 use Prim.Native.Nat.{_-_}
 use lib.ListN.{length}
-use borrow.Author.Tests.{eq-eqb, ne-eqb}
-use Rattle.capabilities.proofs.Choice.{pick-yes, pick-no}
+use Rattle.capabilities.specs.Refusals.{first}
 use Rattle.table.specs.Rows.{live}
 use Rattle.table.specs.Find.{findOf, nextOf, rowOf}
 use Rattle.table.specs.Numbers.{tableOf, rowCode}
-use Rattle.table.specs.Lent.{Leaves, placeOf, gatherAt}
-use Rattle.table.specs.Operations.{mergeReasons, mergeOf, joined}
+use Rattle.table.specs.Lent.{placeOf, gatherAt}
+use Rattle.table.specs.Writes.{mergeWrites}
+use Rattle.table.specs.Numbered.{mergedIn}
+use Rattle.table.specs.Operations.{mergeReasons, mergeReasonsAt, mergeOf, mergeAt, joined}
 use Rattle.table.proofs.Answers.{merge-clear, merge-found, merge-next}
-use Rattle.table.proofs.Leaving.{left-unfit, left-fit, left-refused, left-merge, merge-told, merge-place}
+use Rattle.table.proofs.Leaving.{merge-told, merge-place}
+use Rattle.table.proofs.Numbered.{returns-unfit, returns-refused, returns-granted, merge-count}
 use borrow.Author.Needs.{needs}
 use Rattle.table.proofs.rows.merge.Statement.{statement}
 use Rattle.table.proofs.rows.merge.Tie as tie
 
 returns : tie.Need-returns
-returns c = (left-unfit (c .before .before .args .rows .now) _ _ (c .if1 .taken), refl)
+unfolding mergedIn mergeOf mergeReasons
+returns c =
+    let a = c .before .before .args in
+    let t = tableOf (a .rows .now) (a .count) in
+    returns-unfit (a .rows .now) (a .count) _ (mergeAt t (findOf t (a .party) (a .base))) (mergeWrites t (a .party) (a .base) 0) _ (c .if1 .taken)
 
 find-requires : tie.Need-find-requires
 find-requires c κs = search needs
@@ -38,7 +44,7 @@ same-length : tie.Need-same-length
 same-length c = search needs
 
 returns-2 : tie.Need-returns-2
-unfolding mergeOf mergeReasons
+unfolding mergedIn mergeOf mergeReasons
 returns-2 c =
     let a = c .before .before .before .before .before .before .before .before .before .before .before .before .args in
     let l = a .rows .now in
@@ -49,7 +55,7 @@ returns-2 c =
     let row = c .before .before .before .before .row-in .ensures ∙ ap (rowOf t) here in
     let other = c .before .before .row-in2 .ensures ∙ ap (rowOf t) above in
     let told = merge-told l (a .count) (c .before .merge-code .result) (c .before .before .before .before .before .before .before .before .find .result) (c .before .before .before .before .before .before .next .result) f (c .before .before .before .before .row-in .result) (c .before .before .row-in2 .result) (a .party) (c .before .merge-code .ensures) here above row other in
-    (left-fit l l _ (a .count) _ _ (c .before .before .before .before .before .before .before .before .before .before .if1 .left) (left-refused l _ _ _ _ told (c .if2 .taken)), sym (pick-no _ _ _ (ne-eqb (c .before .merge-code .result) 0 (c .if2 .taken))))
+    returns-refused l (a .count) _ (mergeAt t f) (mergeWrites t (a .party) (a .base) 0) _ (c .before .before .before .before .before .before .before .before .before .before .if1 .left) (c .before .merge-code .result) told (c .if2 .taken)
 
 used-requires : tie.Need-used-requires
 used-requires c κs = search needs
@@ -100,7 +106,7 @@ same-length-2 : tie.Need-same-length-2
 same-length-2 c = search needs
 
 returns-3 : tie.Need-returns-3
-unfolding mergeOf mergeReasons
+unfolding mergedIn mergeOf mergeReasons
 returns-3 c =
     let a = c .before .before .before .before .before .before .before .before .before .before .before .before .before .before .before .before .before .before .before .before .before .args in
     let l = a .rows .now in
@@ -124,12 +130,9 @@ returns-3 c =
     c .before .before .gather .ensures .0 ∙ ap (λ k. gatherAt l n k (c .before .before .before .before .before .number-of .result) 0) at
     ∙ ap (λ x. gatherAt l n (placeOf f) x 0) one
     in
-    let writes : c .before .before .gather .result ≡ length (live t) - placeOf f = omega (arith, c .before .before .gather .ensures .1, at, c .before .before .before .before .before .before .before .used .ensures) in (
-      left-fit l _ _ (a .count) (n - 1) _ (c .before .before .before .before .before .before .before .before .before .before .before .before .before .before .before .before .before .before .before .if1 .left)
-          (subst (λ m. Leaves l m (c .before .before .before .before .before .before .before .before .before .before .merge-code .result) (n - 1) (mergeOf t (a .party) (a .base))) (sym moved)
-          (left-merge l (a .count) _ _ f n (c .before .before .before .before .before .before .before .used .ensures) told (c .before .before .before .before .before .before .before .before .before .if2 .left) found)),
-      writes ∙ sym (pick-yes _ _ _ (eq-eqb (c .before .before .before .before .before .before .before .before .before .before .merge-code .result) 0 (c .before .before .before .before .before .before .before .before .before .if2 .left))),
-    )
+    let writes : c .before .before .gather .result ≡ length (live t) - placeOf f = omega (arith, c .before .before .gather .ensures .1, at, c .before .before .before .before .before .before .before .used .ensures) in
+    let used = c .before .before .before .before .before .before .before .used .ensures in
+    returns-granted l (a .count) (first (mergeReasonsAt t f (a .party))) (mergeAt t f) (mergeWrites t (a .party) (a .base) 0) (gatherAt l (length (live t)) (placeOf f) (rowCode (joined (rowOf t f) (rowOf t (nextOf t f)))) 0) (c .before .before .before .before .before .before .before .before .before .before .before .before .before .before .before .before .before .before .before .if1 .left) (c .before .before .before .before .before .before .before .before .before .before .merge-code .result) (n - 1) (c .before .before .gather .result) _ told (c .before .before .before .before .before .before .before .before .before .if2 .left) (ap (λ k. k - 1) used ∙ sym (merge-count t f found)) writes (moved ∙ ap (λ k. gatherAt l k (placeOf f) (rowCode (joined (rowOf t f) (rowOf t (nextOf t f)))) 0) used)
 
 pub merge-spec : {M : Type 1} → statement M
 merge-spec =

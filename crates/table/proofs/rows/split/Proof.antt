@@ -1,24 +1,30 @@
 -- `table::rows::split` meets its contract.
 use native.Mathlib.Omega.{arith}
-use mathlib.Core.Path.{_≡_, refl, sym, ap, _∙_, subst}
+use mathlib.Core.Path.{_≡_, refl, sym, ap, _∙_}
 use Prim.Native.Nat.{_+_, _-_}
 use lib.ListN.{length}
-use borrow.Author.Tests.{eq-eqb, ne-eqb}
-use Rattle.capabilities.proofs.Choice.{pick-yes, pick-no}
+use Rattle.capabilities.specs.Refusals.{first}
 use Rattle.table.specs.Rows.{live}
 use Rattle.table.specs.Find.{findOf, rowOf}
 use Rattle.table.specs.Numbers.{tableOf, rowCode}
-use Rattle.table.specs.Lent.{Leaves, placeOf, spreadAt}
+use Rattle.table.specs.Lent.{placeOf, spreadAt}
+use Rattle.table.specs.Writes.{splitWrites}
+use Rattle.table.specs.Numbered.{splitIn}
 use Rattle.table.proofs.Reading.{used-length}
-use Rattle.table.specs.Operations.{splitReasons, splitOf, badSplit, lowerPart, upperPart}
+use Rattle.table.specs.Operations.{splitReasons, splitReasonsAt, splitOf, splitAt, badSplit, lowerPart, upperPart}
 use Rattle.table.proofs.Answers.{split-clear, split-fits}
-use Rattle.table.proofs.Leaving.{left-unfit, left-fit, left-refused, left-split, split-told, split-place}
+use Rattle.table.proofs.Leaving.{split-told, split-place}
+use Rattle.table.proofs.Numbered.{returns-unfit, returns-refused, returns-granted, split-count}
 use borrow.Author.Needs.{needs}
 use Rattle.table.proofs.rows.split.Statement.{statement}
 use Rattle.table.proofs.rows.split.Tie as tie
 
 returns : tie.Need-returns
-returns c = (left-unfit (c .before .before .args .rows .now) _ _ (c .if1 .taken), refl)
+unfolding splitIn splitOf splitReasons
+returns c =
+    let a = c .before .before .args in
+    let t = tableOf (a .rows .now) (a .count) in
+    returns-unfit (a .rows .now) (a .count) _ (splitAt t (findOf t (a .party) (a .base)) (a .len)) (splitWrites t (a .party) (a .base) 0) _ (c .if1 .taken)
 
 find-requires : tie.Need-find-requires
 find-requires c κs = search needs
@@ -33,7 +39,7 @@ same-length : tie.Need-same-length
 same-length c = search needs
 
 returns-2 : tie.Need-returns-2
-unfolding splitOf splitReasons
+unfolding splitIn splitOf splitReasons
 returns-2 c =
     let a = c .before .before .before .before .before .before .before .before .args in
     let l = a .rows .now in
@@ -42,7 +48,7 @@ returns-2 c =
     let here = c .before .before .before .before .find .ensures in
     let row = c .before .before .row-in .ensures ∙ ap (rowOf t) here in
     let told = split-told l (a .count) (c .before .split-code .result) (c .before .before .before .before .find .result) f (c .before .before .row-in .result) (a .len) (c .before .split-code .ensures) here row in
-    (left-fit l l _ (a .count) _ _ (c .before .before .before .before .before .before .if1 .left) (left-refused l _ _ _ _ told (c .if2 .taken)), sym (pick-no _ _ _ (ne-eqb (c .before .split-code .result) 0 (c .if2 .taken))))
+    returns-refused l (a .count) _ (splitAt t f (a .len)) (splitWrites t (a .party) (a .base) 0) _ (c .before .before .before .before .before .before .if1 .left) (c .before .split-code .result) told (c .if2 .taken)
 
 lower-part-requires : tie.Need-lower-part-requires
 lower-part-requires c κs = search needs
@@ -99,7 +105,7 @@ same-length-2 : tie.Need-same-length-2
 same-length-2 c = search needs
 
 returns-3 : tie.Need-returns-3
-unfolding splitOf splitReasons
+unfolding splitIn splitOf splitReasons
 returns-3 c =
     let a = c .before .before .before .before .before .before .before .before .before .before .before .before .before .before .before .before .before .args in
     let l = a .rows .now in
@@ -121,12 +127,8 @@ returns-3 c =
     ∙ ap (λ x. spreadAt l n (placeOf f) x (c .before .before .before .before .before .number-of2 .result)) lower
     ∙ ap (λ x. spreadAt l n (placeOf f) (rowCode (lowerPart r (a .len))) x) upper
     in
-    let writes : c .before .before .spread .result ≡ length (live t) - placeOf f + 1 = omega (arith, c .before .before .spread .ensures .1, at, used-length l n, place .1) in (
-      left-fit l _ _ n (n + 1) _ (c .before .before .before .before .before .before .before .before .before .before .before .before .before .before .before .if1 .left)
-          (subst (λ m. Leaves l m (c .before .before .before .before .before .before .before .before .before .before .split-code .result) (n + 1) (splitOf t (a .party) (a .base) (a .len))) (sym moved)
-          (left-split l n _ _ f (a .len) (c .before .before .before .before .before .before .before .before .before .before .before .before .before .before .before .before .before .fits .len .fits) told (c .before .before .before .before .before .before .before .before .before .if2 .left) (clear .found))),
-      writes ∙ sym (pick-yes _ _ _ (eq-eqb (c .before .before .before .before .before .before .before .before .before .before .split-code .result) 0 (c .before .before .before .before .before .before .before .before .before .if2 .left))),
-    )
+    let writes : c .before .before .spread .result ≡ length (live t) - placeOf f + 1 = omega (arith, c .before .before .spread .ensures .1, at, used-length l n, place .1) in
+    returns-granted l n (first (splitReasonsAt t f (a .len))) (splitAt t f (a .len)) (splitWrites t (a .party) (a .base) 0) (spreadAt l n (placeOf f) (rowCode (lowerPart r (a .len))) (rowCode (upperPart r (a .len)))) (c .before .before .before .before .before .before .before .before .before .before .before .before .before .before .before .if1 .left) (c .before .before .before .before .before .before .before .before .before .before .split-code .result) (n + 1) (c .before .before .spread .result) _ told (c .before .before .before .before .before .before .before .before .before .if2 .left) (sym (split-count t f (a .len) (clear .found))) writes moved
 
 pub split-spec : {M : Type 1} → statement M
 split-spec =
