@@ -7,14 +7,17 @@ use Rattle.pages.specs.declared.Frame.{Frame}
 use Rattle.pages.specs.declared.VirtualPage.{VirtualPage}
 use Rattle.calls.specs.declared.Call.{Call}
 use Rattle.calls.specs.declared.Call.the-variants.{Map, Unmap}
-use Rattle.histories.specs.Runs.{Machine, Granted, next, run, Reached}
+use Rattle.histories.specs.Runs.{Machine, Granted, next, run, Reached, Always}
 use Rattle.histories.specs.Lending.{Ended}
 
 -- The cells of a page.
 abbrev pub pageRange : VirtualPage → Range
 pageRange page = record { base = 16 * page .0; length = 16 }
 
-abbrev pub CleanedBetween : Type 0
-CleanedBetween =
-    (m : Machine) → Reached m → (p : ℕ) (page : VirtualPage) → Granted m (Unmap p page) → (calls : List Call) → (q : ℕ) (frame : Frame)
+abbrev pub CleanedBetweenAt : (m : Machine) → Reached m → Type 0
+CleanedBetweenAt m r =
+    (p : ℕ) (page : VirtualPage) → Granted m (Unmap p page) → (calls : List Call) → (q : ℕ) (frame : Frame)
     → Granted (run (next m (Unmap p page)) calls) (Map q page frame) → Ended (next m (Unmap p page)) calls (pageRange page)
+
+abbrev pub CleanedBetween : Type 0
+CleanedBetween = Always CleanedBetweenAt

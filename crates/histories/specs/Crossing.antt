@@ -10,7 +10,7 @@ use Rattle.pages.specs.declared.VirtualPage.{VirtualPage}
 use Rattle.pages.specs.Layer.{frameAt}
 use Rattle.pages.specs.Mapping.{lookupOf}
 use Rattle.calls.specs.declared.Call.the-variants.{Map}
-use Rattle.histories.specs.Runs.{Machine, Granted, next, Reached}
+use Rattle.histories.specs.Runs.{Machine, Granted, next, Reached, Always}
 
 -- A place of lent memory holds 0, and its tag byte is 0.
 pub record Zeros (m : Machine) (at : ℕ) : Type 0 where
@@ -23,8 +23,13 @@ pub record ShowsZero (m : Machine) (v : ℕ) : Type 0 where
   pub mapped : lookupOf (m .state .core .pages) v ≡ At at
   pub zeros : Zeros m at
 
+abbrev pub MappedIsZeroAt : (m : Machine) → Reached m → Type 0
+MappedIsZeroAt m r =
+    (p : ℕ) (page : VirtualPage) (frame : Frame) → Granted m (Map p page frame) → (i : ℕ) → i < 16
+    → ShowsZero (next m (Map p page frame)) (16 * page .0 + i)
+
 abbrev pub MappedIsZero : Type 0
-MappedIsZero = (m : Machine) → Reached m → (p : ℕ) (page : VirtualPage) (frame : Frame) → Granted m (Map p page frame) → (i : ℕ) → i < 16 → ShowsZero (next m (Map p page frame)) (16 * page .0 + i)
+MappedIsZero = Always MappedIsZeroAt
 
 abbrev pub FreeIsZero : Type 0
 FreeIsZero = (m : Machine) → Reached m → (k i : ℕ) → frameAt (m .state .core .pages) k ≡ Free → i < 16 → Zeros m (16 * k + i)

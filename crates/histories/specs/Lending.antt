@@ -14,7 +14,7 @@ use Rattle.table.specs.Rows.{rangeOf}
 use Rattle.reservations.specs.Revocation.{revoked}
 use Rattle.calls.specs.declared.Call.{Call}
 use Rattle.machine.specs.Roles.{IsTake, IsCollect}
-use Rattle.histories.specs.Runs.{Machine, Granted, outcome, next, run, Reached}
+use Rattle.histories.specs.Runs.{Machine, Granted, outcome, next, run, Reached, Always}
 use Rattle.words.specs.Words.{slot}
 use Rattle.histories.specs.Live.{Spot, register, Live, wordIn, Into, NoneInto}
 
@@ -22,10 +22,12 @@ use Rattle.histories.specs.Live.{Spot, register, Live, wordIn, Into, Non
 abbrev pub lentRange : Machine → Call → ℕ → Range
 lentRange m take base = record { base = base; length = outcome m take .answer .number }
 
+abbrev pub LentOnceAt : (m : Machine) → Reached m → Type 0
+LentOnceAt m r =
+    (take : Call) (p base reg permissions : ℕ) → IsTake take p base reg permissions → Granted m take → NoneInto m (lentRange m take base)
+
 abbrev pub LentOnce : Type 0
-LentOnce =
-    (m : Machine) → Reached m → (take : Call) (p base reg permissions : ℕ) → IsTake take p base reg permissions → Granted m take
-    → NoneInto m (lentRange m take base)
+LentOnce = Always LentOnceAt
 
 -- The range of the reservation that begins at base and is the party's, said of the table and not of an answer.
 abbrev pub namedRange : Machine → ℕ → ℕ → Range
@@ -38,10 +40,12 @@ pub record LentBy (m : Machine) (take : Call) (p base reg permissions : ℕ) : T
   pub holds : wordIn (next m take) (register (8 * p + reg)) ≡ slot (capability base (namedRange m p base .length) permissions) true
   pub only : (x : Spot) → Live (next m take) x → Into (namedRange m p base) (wordIn (next m take) x .cell) → x ≡ register (8 * p + reg)
 
+abbrev pub LentByCapabilityAt : (m : Machine) → Reached m → Type 0
+LentByCapabilityAt m r =
+    (take : Call) (p base reg permissions : ℕ) → IsTake take p base reg permissions → Granted m take → LentBy m take p base reg permissions
+
 abbrev pub LentByCapability : Type 0
-LentByCapability =
-    (m : Machine) → Reached m → (take : Call) (p base reg permissions : ℕ) → IsTake take p base reg permissions → Granted m take
-    → LentBy m take p base reg permissions
+LentByCapability = Always LentByCapabilityAt
 
 -- Among the calls from a state on there is a granted collect, and the range that it ends covers another.
 pub record Ended (m : Machine) (calls : List Call) (r : Range) : Type 0 where

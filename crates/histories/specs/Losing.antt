@@ -10,11 +10,14 @@ use Rattle.table.specs.Rows.{isOpen, live, reservation, noTaker}
 use Rattle.table.specs.Tiling.{tiles}
 use Rattle.calls.specs.declared.Call.{Call}
 use Rattle.calls.specs.declared.Call.the-variants.{Merge}
-use Rattle.histories.specs.Runs.{Machine, Granted, next, run, Reached}
+use Rattle.histories.specs.Runs.{Machine, Granted, next, run, Reached, Always}
 use Rattle.histories.specs.Inv.{rowAt}
 
+abbrev pub TiledAt : (m : Machine) → Reached m → Type 0
+TiledAt m r = tiles 0 (16 * r .v) (live (m .state .core .table)) ≡ true
+
 abbrev pub AlwaysTiled : Type 0
-AlwaysTiled = (m : Machine) (r : Reached m) → tiles 0 (16 * r .v) (live (m .state .core .table)) ≡ true
+AlwaysTiled = Always TiledAt
 
 -- All reservations are Open, and a party holds them.
 pub record Alone (m : Machine) (p : ℕ) : Type 0 where

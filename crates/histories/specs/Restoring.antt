@@ -21,7 +21,7 @@ use Rattle.reservations.specs.Revocation.{running}
 use Rattle.calls.specs.declared.Call.{Call}
 use Rattle.calls.specs.declared.Call.the-variants.{Take, Merge, Revoke, Sweep, Collect, Unmap, Release, Destroy}
 use Rattle.calls.specs.Commands.{page}
-use Rattle.histories.specs.Runs.{Machine, run, Reached}
+use Rattle.histories.specs.Runs.{Machine, run, Reached, Always}
 use Rattle.histories.specs.Live.{Spot, Live}
 use Rattle.histories.specs.Inv.{rowAt}
 use Rattle.histories.specs.Losing.{AllGranted}
@@ -109,8 +109,11 @@ pub record Restored (m : Machine) (v : ℕ) : Type 0 where
   pub none : (x : Spot) → Live m x → ⊥
 
 -- The takes are the holders': what party 0 brings about without them is in specs/Manager.antt.
+abbrev pub NothingLostAt : (m : Machine) → Reached m → Type 0
+NothingLostAt m r = AllGranted m (restoring m) × Restored (run m (restoring m)) (r .v)
+
 abbrev pub NothingLost : Type 0
-NothingLost = (m : Machine) (r : Reached m) → AllGranted m (restoring m) × Restored (run m (restoring m)) (r .v)
+NothingLost = Always NothingLostAt
 
 -- So many calls are enough: 2 that end a revocation, 64 takes, 63 merges, 31 destroys, 65,535 releases and an unmap for each page, and 3.
 abbrev pub RestoringBounded : Type 0

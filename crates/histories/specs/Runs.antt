@@ -61,3 +61,7 @@ pub record Reached (m : Machine) : Type 0 where
   pub begins : Begins v f cells tags
   pub calls : List Call
   pub is : m ≡ run (begun v f cells tags) calls
+
+-- What holds after every history.
+abbrev pub Always : ((m : Machine) → Reached m → Type 0) → Type 0
+Always P = (m : Machine) (r : Reached m) → P m r

@@ -11,12 +11,15 @@ use Rattle.reservations.specs.Revocation.{revoked}
 use Rattle.calls.specs.declared.Call.{Call}
 use Rattle.calls.specs.declared.Call.the-variants.{Collect}
 use Rattle.machine.specs.Roles.{IsTake}
-use Rattle.histories.specs.Runs.{Machine, Granted, next, run, Reached}
+use Rattle.histories.specs.Runs.{Machine, Granted, next, run, Reached, Always}
 use Rattle.histories.specs.Live.{NoneInto}
 use Rattle.histories.specs.Lending.{namedRange}
 
+abbrev pub NoSurvivorAt : (m : Machine) → Reached m → Type 0
+NoSurvivorAt m r = (p : ℕ) → Granted m (Collect p) → NoneInto (next m (Collect p)) (revoked (m .state .core))
+
 abbrev pub NoSurvivor : Type 0
-NoSurvivor = (m : Machine) → Reached m → (p : ℕ) → Granted m (Collect p) → NoneInto (next m (Collect p)) (revoked (m .state .core))
+NoSurvivor = Always NoSurvivorAt
 
 -- Among the calls from a state on, no granted take names a reservation that shares a cell with a range.
 abbrev pub Untaken : Machine → List Call → Range → Type 0
@@ -24,7 +27,10 @@ Untaken m calls r =
     (before : List Call) (take : Call) (after : List Call) → calls ≡ before ++ take ∷ after → (q base reg permissions : ℕ)
     → IsTake take q base reg permissions → Granted (run m before) take → (v : ℕ) → inside (namedRange (run m before) q base) v ≡ true → inside r v ≡ true → ⊥
 
-abbrev pub NoSurvivorUntilTaken : Type 0
-NoSurvivorUntilTaken =
-    (m : Machine) → Reached m → (p : ℕ) → Granted m (Collect p) → (calls : List Call) → Untaken (next m (Collect p)) calls (revoked (m .state .core))
+abbrev pub NoSurvivorUntilTakenAt : (m : Machine) → Reached m → Type 0
+NoSurvivorUntilTakenAt m r =
+    (p : ℕ) → Granted m (Collect p) → (calls : List Call) → Untaken (next m (Collect p)) calls (revoked (m .state .core))
     → NoneInto (run (next m (Collect p)) calls) (revoked (m .state .core))
+
+abbrev pub NoSurvivorUntilTaken : Type 0
+NoSurvivorUntilTaken = Always NoSurvivorUntilTakenAt

@@ -5,7 +5,7 @@ use Rattle.machine.specs.State.{State}
 use Rattle.arrays.specs.Reading.{stateOf, arraysOf}
 use Rattle.arrays.specs.declared.Arrays.{Arrays}
 use Rattle.arrays.proofs.RoundTrip.{state-back-again}
-use Rattle.histories.specs.Runs.{Machine, machine, run, begun, Reached}
+use Rattle.histories.specs.Runs.{Machine, machine, run, begun, Reached, Always}
 use Rattle.histories.specs.Forming.{Standing}
 use Rattle.histories.proofs.Forming.{standing-run, standing-begun}
 use Rattle.histories.proofs.Lending.{lent-once, lent-by-capability}
@@ -27,7 +27,7 @@ machine-back m v f k =
     ap (λ (a : Arrays). machine (stateOf a) (m .cells) (m .tags)) (lists-back (arraysOf (m .state)))
     ∙ ap (λ (s : State). machine s (m .cells) (m .tags)) (state-back-again (m .state) (k .formed))
 
-pub of-library : (P : (m : Machine) → Reached m → Type 0) → ((m : Machine) (r : Reached m) → P m r) → OfLibrary P
+pub of-library : (P : (m : Machine) → Reached m → Type 0) → Always P → OfLibrary P
 of-library P theorem v f l cells tags s uses =
     let b = start-begins v f l cells tags s in
     let k = standing-run (callsOf uses) (begun v f cells tags) v f (standing-begun v f cells tags b) in
