@@ -3,7 +3,7 @@
 use Prim.Native.Nat.{ℕ, _/_}
 use native.Mathlib.Omega.{arith}
 use mathlib.Core.Bool.{Bool, true, false, _&&_}
-use mathlib.Core.List.{List, [], _∷_, _++_}
+use mathlib.Core.List.{List, [], _∷_, _++_, append-nil}
 use mathlib.Core.Path.{_≡_, refl, sym, ap, ap₂, subst, _∙_}
 use lib.ListN.{length, drop}
 use lib.Dec.{eqb, leb, ltb}
@@ -13,11 +13,16 @@ use Rattle.capabilities.proofs.Choice.{pick-yes, pick-no, and-left}
 use Rattle.calls.specs.declared.Call.{Call}
 use Rattle.calls.specs.declared.Reading.{Reading}
 use Rattle.calls.specs.declared.Reading.the-variants.{Read, Refused}
+use Rattle.calls.specs.Commands.{bytesOf}
 use Rattle.calls.specs.Reader.{readOf}
+use Rattle.calls.proofs.RoundTrip.{round-trip}
 use Rattle.machine.specs.Formed.{startOf}
-use Rattle.arrays.specs.Reading.{arraysOf}
+use Rattle.machine.specs.State.{State}
+use Rattle.arrays.specs.declared.Arrays.{Arrays}
+use Rattle.arrays.specs.Reading.{stateOf, arraysOf}
+use Rattle.arrays.proofs.RoundTrip.{state-back-again}
 use Rattle.formed.specs.Test.{sized}
-use Rattle.histories.specs.Runs.{Machine, outcome, next, run, answers, begun, Begins}
+use Rattle.histories.specs.Runs.{Machine, machine, outcome, next, run, answers, begun, Begins}
 use Rattle.histories.specs.Forming.{Standing}
 use Rattle.histories.proofs.Forming.{standing-run, standing-begun}
 use Rattle.privacy.proofs.Main.{run-on}
@@ -25,9 +30,9 @@ use Rattle.cetomuhi.specs.Lent.{Lent, lent, numbersOver, arraysIn, arraysOver}
 use Rattle.cetomuhi.specs.Exports.{Done, done, Started, started, startLent, commandLent}
 use Rattle.refinement.specs.Inputs.{readThen, parseFrom}
 use Rattle.refinement.specs.Uses.{Served, serving, Use, command, commands, formed, cost, list, nearest, exported, begins, callsIn, callsOf, Reply, repliesIn, used, servedAll, repliesOf}
-use Rattle.refinement.specs.Bytes.{lentOf, writing, Starts, replying, replies, Refined, BytesAreHistories}
+use Rattle.refinement.specs.Bytes.{lentOf, writing, machineIn, Starts, replying, replies, Refined, BytesAreHistories, BytesReach, EveryHistorySent}
 use Rattle.refinement.specs.Answers.{leaves, numbersOf, noCall, ranFrom, Answers, AnsweredByHistory}
-use Rattle.refinement.proofs.Answers.{answers-written}
+use Rattle.refinement.proofs.Answers.{lists-back, answers-written}
 
 -- What a use that did some calls leaves.
 record Did (m : Machine) (calls : List Call) (d : Done) : Type 0 where
@@ -140,6 +145,25 @@ pub bytes-are-histories : BytesAreHistories
 bytes-are-histories v f l cells tags s uses =
     subst (λ (x : Served). Refined exported x (begun v f cells tags) uses) (sym (start-written v f l cells tags s))
     (refined uses (begun v f cells tags) v f (standing-begun v f cells tags (start-begins v f l cells tags s)))
+
+-- The writing of a history's machine reads as that machine.
+pub machine-back : (m : Machine) (v f : ℕ) → Standing m v f → machineIn (writing m) ≡ m
+machine-back m v f k =
+    ap (λ (a : Arrays). machine (stateOf a) (m .cells) (m .tags)) (lists-back (arraysOf (m .state)))
+    ∙ ap (λ (s : State). machine s (m .cells) (m .tags)) (state-back-again (m .state) (k .formed))
+
+pub bytes-reach : BytesReach
+bytes-reach v f l cells tags s uses =
+    let k = standing-run (callsOf uses) (begun v f cells tags) v f (standing-begun v f cells tags (start-begins v f l cells tags s)) in
+    ap machineIn (bytes-are-histories v f l cells tags s uses .left) ∙ machine-back (run (begun v f cells tags) (callsOf uses)) v f k
+
+-- A call that is sent is read.
+pub every-history-sent : EveryHistorySent
+unfolding callsOf callsIn parseFrom
+every-history-sent [] = refl
+every-history-sent (c ∷ calls) =
+    ap₂ (λ (r : Reading) (l : List Call). readThen r 0 (ltb 0 (length (bytesOf c))) (λ next. parseFrom 0 (bytesOf c) next) .calls ++ l)
+    (ap readOf (sym (append-nil (bytesOf c))) ∙ round-trip c []) (every-history-sent calls)
 
 pub answered-by-history : AnsweredByHistory
 answered-by-history v f l cells tags s uses =

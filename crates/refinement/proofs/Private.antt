@@ -33,8 +33,7 @@ use Rattle.privacy.proofs.Main.{privacy, cores-unnoticed}
 use Rattle.refinement.specs.Uses.{Served, exported, begins, Reply, reply, servedAll, repliesOf}
 use Rattle.refinement.specs.Bytes.{writing, machineIn, replying, replies}
 use Rattle.refinement.specs.Private.{toOther, SameAt, Unnoticed, LibraryPrivacy}
-use Rattle.refinement.proofs.Bytes.{bytes-are-histories}
-use Rattle.refinement.proofs.Checklist.{machine-back}
+use Rattle.refinement.proofs.Bytes.{bytes-are-histories, machine-back}
 
 -- A call of another party.
 abbrev other : ℕ → Call → Bool

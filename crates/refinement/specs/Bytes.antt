@@ -2,9 +2,9 @@
 -- machine that a history leaves: the one of the calls that its bytes read as. And what the server finds among its lent answers are that
 -- history's answers. Assumes nothing.
 use Prim.Native.Nat.{ℕ, _*_}
-use mathlib.Core.List.{List, [], _∷_}
+use mathlib.Core.List.{List, [], _∷_, map}
 use mathlib.Core.Path.{_≡_}
-use lib.ListN.{length}
+use lib.ListN.{length, replicate}
 use Rattle.calls.specs.declared.Call.{Call}
 use Rattle.calls.specs.Commands.{bytesOf}
 use Rattle.words.specs.Words.{byteOf}
@@ -14,7 +14,7 @@ use Rattle.arrays.specs.Reading.{arraysOf, stateOf}
 use Rattle.histories.specs.Runs.{Machine, machine, run, answers, begun}
 use Rattle.cetomuhi.specs.Lent.{Lent, lent, arraysIn}
 use Rattle.cetomuhi.specs.Exports.{startLent}
-use Rattle.refinement.specs.Uses.{Served, serving, Use, Entries, exported, begins, callsOf, Reply, reply, servedAll, repliesOf}
+use Rattle.refinement.specs.Uses.{Served, serving, Use, command, Entries, exported, begins, callsOf, Reply, reply, servedAll, repliesOf}
 
 -- Arrays as the ten lists that cross the boundary; a machine so written; and the machine that what is lent reads as.
 abbrev pub lentOf : Arrays → Lent
@@ -55,3 +55,16 @@ Refines e =
 
 abbrev pub BytesAreHistories : Type 0
 BytesAreHistories = Refines exported
+
+-- So the machine that the lent lists, cells and tags read as is the one that these calls reach.
+abbrev pub BytesReach : Type 0
+BytesReach =
+    (v f : ℕ) (l : Lent) (cells tags : List ℕ) → Starts v f l cells tags → (uses : List Use)
+    → machineIn (servedAll exported (begins v f l cells tags) uses) ≡ run (begun v f cells tags) (callsOf uses)
+
+-- And there is no history that bytes do not reach: each call by a command of its own.
+abbrev pub sending : List Call → List Use
+sending calls = map (λ c. command (bytesOf c) 0 (replicate 4 0)) calls
+
+abbrev pub EveryHistorySent : Type 0
+EveryHistorySent = (calls : List Call) → callsOf (sending calls) ≡ calls

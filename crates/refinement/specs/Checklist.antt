@@ -4,7 +4,7 @@ use Prim.Native.Nat.{ℕ}
 use mathlib.Core.List.{List}
 use mathlib.Core.Path.{_≡_}
 use Rattle.calls.specs.declared.Call.{Call}
-use Rattle.histories.specs.Runs.{Machine, Reached}
+use Rattle.histories.specs.Runs.{Machine, Reached, Always}
 use Rattle.histories.specs.Lending.{LentOnceAt, LentByCapabilityAt}
 use Rattle.histories.specs.Crossing.{MappedIsZeroAt}
 use Rattle.histories.specs.Cleaning.{CleanedBetweenAt}
@@ -28,6 +28,10 @@ abbrev pub OfLibrary : ((m : Machine) → Reached m → Type 0) → Type 0
 OfLibrary P =
     (v f : ℕ) (l : Lent) (cells tags : List ℕ) → Starts v f l cells tags → (uses : List Use)
     → ByCalls P v f (callsOf uses) (machineIn (servedAll exported (begins v f l cells tags) uses))
+
+-- Whatever holds of all that is reached is so.
+abbrev pub FromHistories : Type 1
+FromHistories = (P : (m : Machine) → Reached m → Type 0) → Always P → OfLibrary P
 
 -- Lent once.
 abbrev pub LibraryLentOnce : Type 0
