@@ -1,5 +1,6 @@
 pub mod Histories
 pub mod Restoring
+pub mod Manager
 pub mod Takers
 pub mod Sharing
 pub mod Pairs

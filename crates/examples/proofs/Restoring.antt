@@ -14,11 +14,11 @@ use Rattle.calls.specs.Commands.{page, frame}
 use Rattle.machine.specs.State.{Answered}
 use Rattle.machine.proofs.Computing.{computing}
 use Rattle.histories.specs.Runs.{Machine, outcome, next, run, answers, begun}
-use Rattle.histories.specs.Restoring.{eachBelow, manyBelow, ending, finishing, taking, merging, destroying, releasing, unmapping, revoking, _andThen_, restoring}
+use Rattle.histories.specs.Restoring.{eachBelow, manyBelow, ending, finishing, taking, merging, destroying, releasing, unclaiming, unmapping, revoking, _andThen_, restoring}
 use Rattle.examples.proofs.Histories.{start}
 
 -- A revocation in its middle: the sweep has passed five cells.
-pub swept : Machine
+unfoldable pub swept : Machine
 swept = run start (Zero 0 (frame 0) ∷ Map 0 (page 0) (frame 0) ∷ Split 0 0 16 ∷ TakeMasked 0 0 0 15 ∷ Store 0 0 3 0 ∷ Unmap 0 (page 0) ∷ Revoke 0 0 ∷ Sweep 0 5 ∷ [])
 
 -- Splits inside of pages, one part Taken, one page Mapped.
@@ -30,7 +30,7 @@ pub shared : Machine
 shared = run start (Split 0 0 16 ∷ Give 0 16 3 ∷ Split 3 16 7 ∷ Give 3 23 5 ∷ Take 3 16 2 ∷ Revoke 0 0 ∷ [])
 
 -- A Mapped page that three principals count, one of them below another.
-pub counted : Machine
+unfoldable pub counted : Machine
 counted =
     run start
     (Zero 0 (frame 0) ∷ Map 0 (page 1) (frame 0) ∷ Create 0 0 3 100 2 ∷ Create 2 3 7 10 4 ∷ Create 0 0 5 1 6
@@ -44,7 +44,7 @@ pub lists :
     ∷ (Sweep 0 16 ∷ Collect 0 ∷ Take 5 23 0 ∷ Take 0 0 0 ∷ Merge 0 0 ∷ Merge 0 0 ∷ Revoke 0 0 ∷ Sweep 0 16 ∷ Collect 0 ∷ [])
     ∷ (Take 0 0 0 ∷ Destroy 0 5 ∷ Destroy 0 3 ∷ Release 0 0 (page 1) ∷ Release 0 0 (page 1) ∷ Release 0 0 (page 0) ∷ Unmap 0 (page 1) ∷ Revoke 0 0 ∷ Sweep 0 16 ∷ Collect 0 ∷ [])
     ∷ []
-unfolding swept cut shared counted start eachBelow manyBelow ending finishing taking merging destroying releasing unmapping revoking _andThen_ restoring outcome next run answers begun computing
+unfolding swept cut shared counted start eachBelow manyBelow ending finishing taking merging destroying releasing unclaiming unmapping revoking _andThen_ restoring outcome next run answers begun computing
 lists = refl
 
 -- Their answers' codes, the reservations that they leave, and the two pages.
@@ -58,5 +58,5 @@ pub back :
     ∷ (replicate 9 0, reservation 0 32 Open 0 9 ∷ [], Unmapped, Unmapped)
     ∷ (replicate 10 0, reservation 0 32 Open 0 9 ∷ [], Unmapped, Unmapped)
     ∷ []
-unfolding told swept cut shared counted start eachBelow manyBelow ending finishing taking merging destroying releasing unmapping revoking _andThen_ restoring outcome next run answers begun computing
+unfolding told swept cut shared counted start eachBelow manyBelow ending finishing taking merging destroying releasing unclaiming unmapping revoking _andThen_ restoring outcome next run answers begun computing
 back = refl
