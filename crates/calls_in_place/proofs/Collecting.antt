@@ -1,23 +1,19 @@
 -- 07 in place. Assumes nothing.
-use Prim.Native.Nat.{ℕ, suc, _+_, _*_, _/_, _%_, _≤_}
+use Prim.Native.Nat.{ℕ, suc, _+_, _*_, _≤_}
 use native.Mathlib.Omega.{arith}
 use mathlib.Core.Bool.{Bool, true, false, not, _&&_, _||_, true≢false}
 use mathlib.Core.List.{List, [], _∷_, _++_, map}
 use mathlib.Core.Path.{_≡_, refl, sym, ap, subst, fun-ext, _∙_}
-use lib.ListN.{length, getD, set, take, drop, length-append}
+use lib.ListN.{length, getD, take, drop, length-append}
 use lib.Dec.{eqb, leb}
-use borrow.Author.Tests.{eq-eqb, eqb-true, not-true, not-false}
+use borrow.Author.Tests.{eq-eqb, not-true, not-false}
 use Rattle.capabilities.specs.declared.Range.{Range}
 use Rattle.capabilities.specs.Death.{dies}
 use Rattle.capabilities.specs.Lists.{pick, each}
 use Rattle.capabilities.specs.Refusals.{first}
 use Rattle.capabilities.proofs.Refusals.{pick-clear}
-use Rattle.capabilities.proofs.Choice.{pick-yes, and-left, and-right}
-use Rattle.pages.specs.Pages.{PageEntry}
-use Rattle.pages.specs.Freed.{allFreed}
+use Rattle.capabilities.proofs.Choice.{pick-yes}
 use Rattle.pages.specs.Mapping.{releasedOf}
-use Rattle.pages.specs.Numbers.{pageCode, filled}
-use Rattle.pages.proofs.Filling.{released-filled}
 use Rattle.table.specs.declared.Reservation.{Reservation}
 use Rattle.table.specs.declared.Found.{Found}
 use Rattle.table.specs.declared.Found.the-variants.{At as Row, Nowhere as None}
@@ -28,12 +24,14 @@ use Rattle.table.proofs.Sound.{Sound, sound}
 use Rattle.table.proofs.Finding.{found-at}
 use Rattle.table.proofs.Dying.{dyings, firstOf, revoking-row, dyings-length, dyings-yes, dyings-not, no-dyings}
 use Rattle.table.proofs.Unrevoked.{after-dyings, before-dyings}
-use Rattle.table.specs.Numbers.{rowFrom, rowCode, tableOf}
-use Rattle.table.specs.Lent.{putAt}
+use Rattle.table.specs.Numbers.{tableOf}
+use Rattle.claims.specs.Numbers.{claimsIn}
 use Rattle.reservations.specs.Core.{Core}
-use Rattle.reservations.specs.Revocation.{running, revoked, dying, wholePages, collectReasons, collectedRow, collected, collectOf, revocationSound}
+use Rattle.reservations.specs.Revocation.{running, revoked, dying, collectReasons, collectedRow, collected, collectOf}
+use Rattle.reservations.specs.Lent.{collectedRows, collectedPages}
 use Rattle.reservations.proofs.CoreKept.{CoreFacts, core-facts}
 use Rattle.reservations.proofs.Revocations.{collected-at, collect-clear}
+use Rattle.reservations.proofs.RowsAndPages.{collect-rows, collect-pages}
 use Rattle.calls.specs.declared.Call.the-variants.{Collect}
 use Rattle.words.specs.declared.Slot.{Slot}
 use Rattle.words.specs.Words.{empty, keepTag, collectedRegister, collectedMailbox}
@@ -50,11 +48,9 @@ use Rattle.arrays.specs.declared.Arrays.{Arrays}
 use Rattle.arrays.specs.declared.Numbers.{Numbers}
 use Rattle.arrays.specs.Reading.{arrays, numbersOf, coreOf, stateOf, arraysOf, Formed}
 use Rattle.arrays.specs.Steps.{answer, leaving, leftOf}
-use Rattle.arrays.proofs.Lists.{map-set}
 use Rattle.arrays.proofs.Facts.{lengths}
 use Rattle.arrays.proofs.Ruling.{wrote, down}
-use Rattle.calls_in_place.specs.Parts.{collectedRows, releasedPages}
-use Rattle.calls_in_place.proofs.Cached.{cachedRange, revoked-cached, dying-cached}
+use Rattle.calls_in_place.proofs.Cached.{cachedRange, dying-cached}
 use Rattle.calls_in_place.proofs.Sweeping.{still-cached}
 
 -- No reservation is Revoking once the one that was is exchanged for another.
@@ -94,11 +90,6 @@ module _ (b : Arrays) (f : Formed b) (run : running (stateOf b .core) ≡ true) 
   cf : CoreFacts (stateOf b .core)
   cf = core-facts (stateOf b .core) (facts (stateOf b) (f .well) .core)
 
-  whole : wholePages (rowOf (stateOf b .core .table) (revokingOf (stateOf b .core .table))) ≡ true
-  whole =
-      and-left (wholePages (rowOf (c .table) (revokingOf (c .table)))) (allFreed (c .pages) (revoked c))
-      (sym (pick-yes (running c) (wholePages (rowOf (c .table) (revokingOf (c .table))) && allFreed (c .pages) (revoked c)) (eqb (c .place) 0) run) ∙ (unfold revocationSound in cf .revocation))
-
   range-gone : revoked (collected (stateOf b .core)) ≡ rangeOf blank
   unfolding revoked
   range-gone = go (revokingOf (c .table)) refl
@@ -108,21 +99,6 @@ module _ (b : Arrays) (f : Formed b) (run : running (stateOf b .core) ≡ true) 
           ap revoked (collected-at c (Row i) e)
           ∙ ap rangeOf (none-revoking (16 * c .pages .v) (c .table) (sound (16 * c .pages .v) (c .table) (cf .rows)) i e (collectedRow (rowOf (c .table) (Row i))) refl)
       go None e = absurd (true≢false (sym (ap missing e) ∙ not-true (missing (revokingOf (c .table))) (unfold running in run)))
-
-  rows-put : (g : Found) (x : Reservation) → map rowCode (withRow (stateOf b .core .table) g x .rows) ≡ putAt (b .rows) g (rowCode x)
-  unfolding withRow putAt stateOf coreOf arraysOf
-  rows-put (Row i) x = map-set rowCode (map rowFrom (b .rows)) i x ∙ ap (λ (l : List ℕ). set l i (rowCode x)) (ap (λ (y : Arrays). y .rows) (f .kept))
-  rows-put None x = ap (λ (y : Arrays). y .rows) (f .kept)
-
-  pages-filled : (range : Range) → range ≡ revoked (stateOf b .core)
-      → map (λ (x : PageEntry). pageCode (x .state)) (releasedOf (stateOf b .core .pages) (revoked (stateOf b .core)) .pages)
-      ≡ filled (range .base / 16) (range .base / 16 + range .length / 16) 0 (b .pages)
-  unfolding releasedOf stateOf coreOf arraysOf revoked
-  pages-filled range e =
-      let b16 = eqb-true (range .base % 16) 0 (ap (λ (r : Range). eqb (r .base % 16) 0) e ∙ and-left (eqb (revoked (stateOf b .core) .base % 16) 0) (eqb (revoked (stateOf b .core) .length % 16) 0) whole) in
-      let l16 = eqb-true (range .length % 16) 0 (ap (λ (r : Range). eqb (r .length % 16) 0) e ∙ and-right (eqb (revoked (stateOf b .core) .base % 16) 0) (eqb (revoked (stateOf b .core) .length % 16) 0) whole) in
-      ap (λ (r : Range). map (λ (x : PageEntry). pageCode (x .state)) (releasedOf (stateOf b .core .pages) r .pages)) (sym e)
-      ∙ released-filled (b .pages) (ap (λ (x : Arrays). x .pages) (f .kept)) range (range .base / 16) (range .length / 16) (omega (arith, b16)) (omega (arith, l16))
 
 -- Registers and mailboxes after a collect.
 module _ (b : Arrays) (f : Formed b) (range : Range) (e : cachedRange b ≡ range) where
@@ -167,18 +143,20 @@ collectedState s = record { core = collected (s .core); registers = map (collect
 abbrev pub collectedArrays : Arrays → Range → Arrays
 collectedArrays b range =
     arrays (numbersCollected (b .nums)) (b .words) (collectedMarks range (b .words) (b .marks)) (collectedMail range (b .mail) (b .flags)) (collectedMarks range (b .mail) (b .flags))
-    (collectedRows (b .rows) (b .nums .count)) (releasedPages range (b .pages)) (b .frames) (b .principals) (b .counts)
+    (collectedRows (b .rows) (b .nums .count)) (collectedPages (b .rows) (b .nums .count) (b .pages)) (b .frames) (b .principals) (b .counts)
 
 module _ (b : Arrays) (f : Formed b) where
   put-collected : running (stateOf b .core) ≡ true → collectedArrays b (cachedRange b) ≡ arraysOf (collectedState (stateOf b))
-  unfolding arraysOf numbersOf collected stateOf coreOf releasedOf collectedRows releasedPages
+  unfolding arraysOf numbersOf collected releasedOf stateOf coreOf
   put-collected run =
-      let t = tableOf (b .rows) (b .nums .count) in
+      let n = b .nums in
+      let t = tableOf (b .rows) (n .count) in
+      let claims = claimsIn (b .principals) (b .counts) in
       let gone = range-gone b f run in
       same-arrays (same-count t (revokingOf t) (collectedRow (rowOf t (revokingOf t)))) (sym (ap (λ (r : Range). r .base) gone)) (sym (ap (λ (r : Range). r .length) gone))
       (sym (words-after b f (cachedRange b) refl)) (sym (marks-after b f (cachedRange b) refl)) (sym (mail-after b f (cachedRange b) refl)) (sym (flags-after b f (cachedRange b) refl))
-      (sym (rows-put b f run (revokingOf t) (collectedRow (rowOf t (revokingOf t)))))
-      (sym (pages-filled b f run (cachedRange b) (sym (revoked-cached b f))))
+      (sym (collect-rows (b .rows) (n .count) (b .pages) (n .v) (n .f) (n .place) (b .frames) claims (ap (λ (x : Arrays). x .rows) (f .kept))))
+      (sym (collect-pages (b .rows) (n .count) (b .pages) (n .v) (n .f) (n .place) (b .frames) claims (ap (λ (x : Arrays). x .pages) (f .kept))))
       (sym (ap (λ (x : Arrays). x .frames) (f .kept))) (sym (ap (λ (x : Arrays). x .principals) (f .kept))) (sym (ap (λ (x : Arrays). x .counts) (f .kept)))
 
   module _ (p k : ℕ) (e : k ≡ pick (unnamed p) 4 (pick (notManager p) 5 (pick (eqb (b .nums .length) 0 || not (leb (16 * b .nums .f) (b .nums .place))) 11 0))) (cells tags : List ℕ) where

@@ -1,5 +1,5 @@
 -- What stands in the arrays, entry by entry, and what a call on some of them promises. Assumes nothing.
-use Prim.Native.Nat.{ℕ, _+_, _*_, _/_}
+use Prim.Native.Nat.{ℕ, _*_}
 use mathlib.Core.Bool.{Bool}
 use mathlib.Core.List.{List, []}
 use mathlib.Core.Path.{_≡_}
@@ -8,17 +8,13 @@ use Rattle.capabilities.specs.declared.Range.{Range}
 use Rattle.capabilities.specs.Death.{dies}
 use Rattle.pages.specs.declared.Place.{Place}
 use Rattle.pages.specs.Mapping.{lookupOf}
-use Rattle.table.specs.Find.{revokingOf, rowOf}
-use Rattle.reservations.specs.Revocation.{collectedRow}
 use Rattle.calls.specs.declared.Call.{Call}
 use Rattle.machine.specs.Step.{ruled}
 use Rattle.arrays.specs.declared.Arrays.{Arrays}
 use Rattle.arrays.specs.declared.Answer.{Answer}
 use Rattle.arrays.specs.declared.Numbers.{Numbers}
 use Rattle.calls_in_place.specs.declared.Stepped.{Stepped}
-use Rattle.pages.specs.Numbers.{layerOf, filled}
-use Rattle.table.specs.Numbers.{rowCode, tableOf}
-use Rattle.table.specs.Lent.{putAt}
+use Rattle.pages.specs.Numbers.{layerOf}
 use Rattle.arrays.specs.Reading.{arrays, Formed, stateOf}
 use Rattle.arrays.specs.Steps.{Does, leaving, leftOf, withWords, withRows, withPages, withMails, withTable, withClaims}
 
@@ -105,15 +101,6 @@ abbrev pub OnSweep : Numbers → List ℕ → Stepped → List ℕ → List ℕ 
 OnSweep n frames r cells tags tags′ c =
     (m : Arrays) → m .frames ≡ frames → length cells ≡ 16 * n .f → length tags ≡ 16 * n .f → Formed (withNumbers m n)
     → leaving (r .answer) (withNumbers m (r .nums)) cells tags′ ≡ leftOf (ruled (stateOf (withNumbers m n)) c cells tags)
-
--- 07 on the rows and pages alone: the Revoking row is Open, and the pages of the range are Unmapped.
-unfoldable pub collectedRows : List ℕ → ℕ → List ℕ
-collectedRows rows count =
-    let t = tableOf rows count in
-    putAt rows (revokingOf t) (rowCode (collectedRow (rowOf t (revokingOf t))))
-
-unfoldable pub releasedPages : Range → List ℕ → List ℕ
-releasedPages range pages = filled (range .base / 16) (range .base / 16 + range .length / 16) 0 pages
 
 -- A call that reads the registers' cells and changes all but these, the frames and the claims.
 abbrev pub OnCollect : Numbers → List ℕ → Stepped → List ℕ → List ℕ → List ℕ → List ℕ → List ℕ → List ℕ → List ℕ → List ℕ → List ℕ → List ℕ → Call → Type 0

@@ -5,38 +5,14 @@ use crate::word_calls::refused;
 use arrays::Numbers;
 use capabilities::Range;
 use capabilities::refusal::first;
-use pages::lent::fill;
-use reservations::collected_row;
-use table::find::put_row;
-use table::find::revoking;
-use table::find::row_in;
 use words::codes::manager_code;
 use words::collecting::collect_mail;
 use words::collecting::collect_words;
 use words::empty;
-ghost use mathlib.Core.Path.{_≡_};
 ghost use Rattle.calls.specs.declared.Call.the-variants.{Collect};
-ghost use Rattle.calls_in_place.specs.Parts.{collectedRows, releasedPages, OnCollect};
+ghost use Rattle.calls_in_place.specs.Parts.{OnCollect};
 
-// The Revoking row becomes Open.
-fn open_row(rows: &mut [u64], count: usize)
-    ensures { λ _. ⌜ now (rows .exit) ≡ collectedRows (now (rows .entry)) count ⌝ }
-{
-    let found = revoking(rows, count);
-    let row = row_in(rows, count, found);
-    put_row(rows, found, collected_row(row));
-}
-
-// The pages of a range become Unmapped.
-fn release(pages: &mut [u16], range: Range)
-    ensures { λ _. ⌜ now (pages .exit) ≡ releasedPages range (now (pages .entry)) ⌝ }
-{
-    let from = (range.base / 16) as usize;
-    let upto = from + (range.length / 16) as usize;
-    fill(pages, from, upto, 0);
-}
-
-// 07. The range is kept beside the table; afterwards none is.
+// 07. The revoked range is kept beside the table; afterwards none is.
 pub fn collect(
     mut nums: Numbers,
     rows: &mut [u64],
@@ -62,8 +38,7 @@ pub fn collect(
     };
     collect_words(range, words, marks);
     collect_mail(range, mail, flags);
-    release(pages, range);
-    open_row(rows, nums.count);
+    reservations::lent::collect(rows, nums.count, pages);
     nums.base = 0;
     nums.length = 0;
     nums.place = 0;

@@ -1,8 +1,8 @@
 // A start in place: a fresh state written over lent arrays.
 use arrays::Numbers;
 use pages::lent::clear_cells;
+use pages::lent::clear_pages;
 use pages::lent::clear_tags;
-use pages::lent::fill;
 ghost use mathlib.Core.Path.{_≡_};
 ghost use Rattle.pages.specs.Layer.{inRange};
 ghost use Rattle.arrays.specs.declared.Numbers.{Numbers};
@@ -55,12 +55,10 @@ fn clear(
     clear_cells(mail);
     clear_tags(flags);
     clear_cells(rows);
-    let n = pages.len();
-    fill(pages, 0, n, 0);
+    clear_pages(pages);
     clear_tags(frames);
     clear_cells(principals);
-    let k = counts.len();
-    fill(counts, 0, k, 0);
+    clear_pages(counts);
 }
 
 // A fresh state for V and F over any arrays. Refused for V or F out of range, it leaves the all-zero state; refused for the length of

@@ -9,5 +9,5 @@ pub mod Shows
 pub mod AllFreed
 pub mod Reading
 pub mod OnNumbers
-pub mod Filling
+pub mod RangeNumbers
 pub mod Testing

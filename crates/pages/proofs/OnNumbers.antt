@@ -1,5 +1,5 @@
 -- The rules on the layer that lent numbers read as, in terms of the numbers. Assumes nothing.
-use Prim.Native.Nat.{ℕ, _+_, _*_, _/_, _%_, _<_, _≤_, min}
+use Prim.Native.Nat.{ℕ, _+_, _*_, _-_, _/_, _%_, _<_, _≤_, min}
 use native.Mathlib.Nat.{zero-add}
 use native.Mathlib.Omega.{arith}
 use mathlib.Core.Bool.{Bool, true, false, not, _&&_, _||_, false≢true}
@@ -7,17 +7,17 @@ use mathlib.Core.List.{List, map}
 use mathlib.Core.Path.{_≡_, refl, sym, ap, _∙_}
 use lib.ListN.{length, getD, take, length-map, length-take, List·getD-map}
 use lib.Dec.{eqb, leb, ltb}
-use borrow.Author.Tests.{eq-eqb, le-leb, lt-leb, lt-ltb, le-ltb, not-false}
+use borrow.Author.Tests.{eq-eqb, leb-true, leb-false, le-leb, lt-leb, lt-ltb, le-ltb, not-false}
 use Rattle.capabilities.proofs.Choice.{never}
 use Rattle.capabilities.specs.declared.Range.{Range}
 use Rattle.capabilities.specs.Lists.{pick, each}
 use Rattle.capabilities.specs.Range.{inside, pageInside}
 use Rattle.capabilities.specs.Refusals.{first}
 use Rattle.capabilities.proofs.Refusals.{first-clear}
-use Rattle.capabilities.proofs.Lists.{each-more, each-all, each-rest}
+use Rattle.capabilities.proofs.Lists.{each-more, each-all, each-rest, each-same}
 use Rattle.pages.specs.declared.Frame.{Frame}
 use Rattle.pages.specs.declared.VirtualPage.{VirtualPage}
-use Rattle.pages.specs.Pages.{Pages}
+use Rattle.pages.specs.Pages.{Pages, PageEntry}
 use Rattle.pages.specs.declared.PageState.{PageState}
 use Rattle.pages.specs.declared.PageState.the-variants.{Unmapped, Freed, Mapped}
 use Rattle.pages.specs.declared.FrameState.the-variants.{Dirty}
@@ -88,37 +88,46 @@ module _ (r : Range) (k : ℕ) where
   unfolding inside
   beyond p = rw (le-ltb (16 * k) (r .base + r .length) (omega arith)) (never (leb (r .base) (16 * k)))
 
+  -- A loop from the range's first page on, up to its end or to n: of what it has passed, the pages from the first one on are in the range.
+  pub passed : (from upto n : ℕ) → from ≡ (r .base + 15) / 16 → upto - from ≤ min ((r .base + r .length + 15) / 16) n - from → k < upto → pageInside r k ≡ leb from k
+  passed from upto n e h q = go (leb from k) refl
+    where
+      go : (b : Bool) → leb from k ≡ b → pageInside r k ≡ b
+      go true t = let u = leb-true from k t in within (omega arith) (omega arith)
+      go false t = let u = leb-false from k t in before (omega arith)
+
 -- A loop over the range's pages alone: the others are not in it.
-module _ (r : Range) (pages : List ℕ) where
-  none-before : each (notMappedIn r) 0 (take ((r .base + 15) / 16) (map pageIn pages)) ≡ true
-  unfolding notMappedIn
-  none-before =
-      each-all (notMappedIn r) 0 (take ((r .base + 15) / 16) (map pageIn pages)) (pageIn 0)
-      (λ i h. rw (zero-add, before r i (omega (arith, length-take ((r .base + 15) / 16) (map pageIn pages)))))
+module _ (from : ℕ) (pages : List ℕ) where
+  abbrev pub notMappedFrom : ℕ → PageEntry → Bool
+  notMappedFrom k e = not (leb from k && isMapped (e .state))
 
-  pub mapped-none : false ≡ not (each (notMappedIn r) 0 (take ((r .base + 15) / 16) (map pageIn pages)))
-  mapped-none = rw none-before
+  pub mapped-none : false ≡ not (each notMappedFrom 0 (take from (map pageIn pages)))
+  mapped-none =
+      sym (ap not (each-all notMappedFrom 0 (take from (map pageIn pages)) (pageIn 0)
+      (λ i h. rw (zero-add, lt-leb from i (omega (arith, h, length-take from (map pageIn pages)))))))
 
-  pub mapped-more : (p : ℕ) (any here : Bool) → (r .base + 15) / 16 ≤ p → p < (r .base + r .length + 15) / 16 → p < length pages
-      → any ≡ not (each (notMappedIn r) 0 (take p (map pageIn pages))) → here ≡ isMapped (pageFrom (getD pages p 0))
-      → (any || here) ≡ not (each (notMappedIn r) 0 (take (p + 1) (map pageIn pages)))
-  unfolding notMappedIn
-  mapped-more p any here a b h e x =
+  pub mapped-more : (p : ℕ) (any here : Bool) → from ≤ p → p < length pages
+      → any ≡ not (each notMappedFrom 0 (take p (map pageIn pages))) → here ≡ isMapped (pageFrom (getD pages p 0))
+      → (any || here) ≡ not (each notMappedFrom 0 (take (p + 1) (map pageIn pages)))
+  mapped-more p any here a h e x =
       let l = map pageIn pages in
-      e2 ∙ sym (ap not (each-more (notMappedIn r) l p (pageIn 0) (omega (arith, length-map pages pageIn)) ∙ ap (λ y. each (notMappedIn r) 0 (take p l) && notMappedIn r p y) (List·getD-map pageIn pages p 0) ∙ ap (λ y. each (notMappedIn r) 0 (take p l) && not (y && isMapped (pageFrom (getD pages p 0)))) (within r p a b)))
+      e2 ∙ sym (ap not (each-more notMappedFrom l p (pageIn 0) (omega (arith, length-map pages pageIn)) ∙ ap (λ y. each notMappedFrom 0 (take p l) && notMappedFrom p y) (List·getD-map pageIn pages p 0) ∙ ap (λ y. each notMappedFrom 0 (take p l) && not (y && isMapped (pageFrom (getD pages p 0)))) (le-leb from p a)))
     where
       turn : (a b : Bool) → (not a || b) ≡ not (a && not b)
       turn true true = refl
       turn true false = refl
       turn false b = refl
 
-      e2 : (any || here) ≡ not (each (notMappedIn r) 0 (take p (map pageIn pages)) && not (isMapped (pageFrom (getD pages p 0))))
-      e2 = rw (e, x) (turn (each (notMappedIn r) 0 (take p (map pageIn pages))) (isMapped (pageFrom (getD pages p 0))))
+      e2 : (any || here) ≡ not (each notMappedFrom 0 (take p (map pageIn pages)) && not (isMapped (pageFrom (getD pages p 0))))
+      e2 = rw (e, x) (turn (each notMappedFrom 0 (take p (map pageIn pages))) (isMapped (pageFrom (getD pages p 0))))
 
-  pub mapped-all : (p : ℕ) → min ((r .base + r .length + 15) / 16) (length pages) ≤ p
-      → not (each (notMappedIn r) 0 (take p (map pageIn pages))) ≡ not (each (notMappedIn r) 0 (map pageIn pages))
+  pub mapped-all : (r : Range) (p : ℕ) → from ≡ (r .base + 15) / 16 → p - from ≤ min ((r .base + r .length + 15) / 16) (length pages) - from
+      → min ((r .base + r .length + 15) / 16) (length pages) ≤ p
+      → not (each notMappedFrom 0 (take p (map pageIn pages))) ≡ not (each (notMappedIn r) 0 (map pageIn pages))
   unfolding notMappedIn
-  mapped-all p h =
+  mapped-all r p e q h =
       ap not
-      (each-rest (notMappedIn r) p (map pageIn pages) (pageIn 0)
+      (each-same notMappedFrom (notMappedIn r) 0 (take p (map pageIn pages))
+      (λ i x k. ap (λ b. not (b && isMapped (x .state))) (sym (passed r (0 + i) from p (length pages) e q (omega (arith, k, length-take p (map pageIn pages))))))
+      ∙ each-rest (notMappedIn r) p (map pageIn pages) (pageIn 0)
       (λ i a b. rw (beyond r i (omega (arith, length-map pages pageIn)))))

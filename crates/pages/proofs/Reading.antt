@@ -6,7 +6,7 @@ use mathlib.Core.List.{List, map}
 use mathlib.Core.Path.{_≡_, refl, sym, ap, _∙_}
 use lib.ListN.{length, getD, List·getD-map}
 use lib.Dec.{eqb, ltb}
-use borrow.Author.Tests.{ltb-true, lt-ltb}
+use borrow.Author.Tests.{ne-eqb, ltb-true, lt-ltb}
 use Rattle.capabilities.specs.Lists.{pick, each}
 use Rattle.capabilities.proofs.Codes.{other-code}
 use Rattle.capabilities.proofs.Lists.{back}
@@ -17,7 +17,7 @@ use Rattle.pages.specs.declared.PageState.{PageState}
 use Rattle.pages.specs.declared.PageState.the-variants.{Unmapped, Freed, Mapped}
 use Rattle.pages.specs.declared.FrameState.{FrameState}
 use Rattle.pages.specs.declared.FrameState.the-variants.{Dirty, Free, Mapped as Shown}
-use Rattle.pages.specs.Entries.{isMapped, mapsBelow, pageEntry, frameEntry}
+use Rattle.pages.specs.Entries.{isUnmapped, isMapped, mapsBelow, pageEntry, frameEntry}
 use Rattle.pages.specs.Layer.{pageAt, frameAt, pageSound, wellFormed}
 use Rattle.pages.specs.Numbers.{pageFrom, pageCode, frameFrom, frameCode, pageIn, frameIn, layerOf}
 use Rattle.pages.proofs.Formed.{sound}
@@ -46,6 +46,12 @@ unfolding pageFrom
 mapped-code zero = refl
 mapped-code (suc zero) = refl
 mapped-code (suc (suc n)) = lt-ltb 1 (suc (suc n)) (omega arith) ∙ sym (ap isMapped (page-shown (suc (suc n)) (omega arith)))
+
+pub unmapped-code : (n : ℕ) → eqb n 0 ≡ isUnmapped (pageFrom n)
+unfolding pageFrom
+unmapped-code zero = refl
+unmapped-code (suc zero) = refl
+unmapped-code (suc (suc n)) = ne-eqb (suc (suc n)) 0 (λ z. omega arith) ∙ sym (ap isUnmapped (page-shown (suc (suc n)) (omega arith)))
 
 -- Written and read again: the same.
 pub page-back : (s : PageState) → mapsBelow 256 s ≡ true → pageFrom (pageCode s) ≡ s

@@ -2,8 +2,10 @@
 use Prim.Native.Nat.{ℕ, _+_, _-_, _%_}
 use mathlib.Core.Bool.{Bool, _&&_}
 use mathlib.Core.List.{List, map}
-use lib.Dec.{eqb, leb, ltb}
+use lib.Dec.{eqb}
+use Rattle.capabilities.specs.declared.Range.{Range}
 use Rattle.capabilities.specs.Lists.{pick, each, mapEach}
+use Rattle.capabilities.specs.Range.{pageInside}
 use Rattle.pages.specs.declared.PageState.{PageState}
 use Rattle.pages.specs.declared.PageState.the-variants.{Unmapped, Freed, Mapped}
 use Rattle.pages.specs.declared.FrameState.{FrameState}
@@ -11,7 +13,7 @@ use Rattle.pages.specs.declared.FrameState.the-variants.{Dirty, Free, Ma
 use Rattle.pages.specs.Pages.{PageEntry}
 use Rattle.pages.specs.Pages.{FrameEntry}
 use Rattle.pages.specs.Pages.{Pages}
-use Rattle.pages.specs.Entries.{pageEntry, frameEntry}
+use Rattle.pages.specs.Entries.{isUnmapped, pageEntry, frameEntry}
 use Rattle.pages.specs.Layer.{wellFormed}
 
 -- A page: 0 Unmapped, 1 Freed, 2 + n Mapped to frame n. Every number reads as a state.
@@ -42,9 +44,18 @@ frameIn n = frameEntry (frameFrom n)
 abbrev pub layerOf : ℕ → ℕ → List ℕ → List ℕ → Pages
 layerOf v f pages frames = record { v = v; f = f; pages = map pageIn pages; frames = map frameIn frames }
 
--- The entries from one number up to another are replaced by one code.
-unfoldable pub filled : ℕ → ℕ → ℕ → List ℕ → List ℕ
-filled from upto code l = mapEach (λ k x. pick (leb from k && ltb k upto) code x) 0 l
+-- 05 and 07 on the numbers: in the range 0 becomes 1, or every number 0; one that stays is kept to the bit.
+unfoldable pub freedNumber : Range → ℕ → ℕ → ℕ
+freedNumber r p n = pick (pageInside r p && isUnmapped (pageFrom n)) (pageCode Freed) n
+
+unfoldable pub freedNumbers : Range → List ℕ → List ℕ
+freedNumbers r l = mapEach (freedNumber r) 0 l
+
+unfoldable pub releasedNumber : Range → ℕ → ℕ → ℕ
+releasedNumber r p n = pick (pageInside r p) (pageCode Unmapped) n
+
+unfoldable pub releasedNumbers : Range → List ℕ → List ℕ
+releasedNumbers r l = mapEach (releasedNumber r) 0 l
 
 -- A number is what its entry is written as.
 unfoldable pub pageKept : ℕ → ℕ → Bool

@@ -13,7 +13,7 @@ use crate::numbers::frame_from;
 use crate::numbers::page_from;
 use capabilities::Range;
 use capabilities::refusal::first;
-ghost use Prim.Native.Nat.{ℕ, _+_, _*_, _<_, _≤_, min};
+ghost use Prim.Native.Nat.{ℕ, _+_, _*_, _/_, _<_, _≤_, min};
 ghost use mathlib.Core.Path.{_≡_};
 ghost use mathlib.Core.List.{List};
 ghost use lib.ListN.{length, getD, set, replicate};
@@ -22,9 +22,9 @@ ghost use Rattle.capabilities.specs.Lists.{pick};
 ghost use Rattle.capabilities.specs.Refusals.{first};
 ghost use Rattle.pages.specs.declared.PageState.the-variants.{Freed, Mapped};
 ghost use Rattle.pages.specs.declared.FrameState.the-variants.{Dirty, Free, Mapped as Shown};
-ghost use Rattle.pages.specs.Entries.{isMapped, frameNumber};
-ghost use Rattle.pages.specs.Mapping.{mapReasons, unmapReasons, zeroReasons, cleared, placeIn, lookupOf, anyMapped};
-ghost use Rattle.pages.specs.Numbers.{pageFrom, pageCode, frameFrom, frameCode, layerOf, filled};
+ghost use Rattle.pages.specs.Entries.{isUnmapped, isMapped, frameNumber};
+ghost use Rattle.pages.specs.Mapping.{mapReasons, unmapReasons, zeroReasons, cleared, placeIn, lookupOf, anyMapped, freedOf, releasedOf};
+ghost use Rattle.pages.specs.Numbers.{pageFrom, pageCode, frameFrom, frameCode, layerOf, freedNumbers, releasedNumbers};
 
 pub fn clear_cells(cells: &mut [u64])
     ensures { λ _. ⌜ now (cells .exit) ≡ replicate (length (now (cells .entry))) 0 ⌝ }
@@ -42,6 +42,16 @@ pub fn clear_tags(tags: &mut [u8])
     let mut i: usize = 0;
     while i < tags.len() {
         tags[i] = 0;
+        i += 1;
+    }
+}
+
+pub fn clear_pages(pages: &mut [u16])
+    ensures { λ _. ⌜ now (pages .exit) ≡ replicate (length (now (pages .entry))) 0 ⌝ }
+{
+    let mut i: usize = 0;
+    while i < pages.len() {
+        pages[i] = 0;
         i += 1;
     }
 }
@@ -227,15 +237,28 @@ fn shows(code: u16) -> bool
     1 < code
 }
 
-// Whether a page of the range is Mapped. Only the range's pages are read: those whose first cell lies in it.
+// The pages of a range are those whose first cell lies in it: from this one on,
+fn first_page(range: Range) -> usize
+    ensures { λ r. ⌜ r ≡ (range .base + 15) / 16 ⌝ }
+{
+    (range.base as usize + 15) / 16
+}
+
+// up to this one, or to the last there is.
+fn end_page(range: Range, count: usize) -> usize
+    ensures { λ r. ⌜ r ≡ min ((range .base + range .length + 15) / 16) count ⌝ }
+{
+    let end = range.base as usize + range.length as usize;
+    lesser((end + 15) / 16, count)
+}
+
+// Whether a page of the range is Mapped.
 pub fn any_mapped(pages: &[u16], range: Range) -> bool
     ensures { λ r. ⌜ ((v f : ℕ) (frames : List ℕ) → r ≡ anyMapped (layerOf v f (now (pages .entry)) frames) range) ⌝ }
 {
-    let base = range.base as usize;
-    let end = base + range.length as usize;
-    let upto = lesser((end + 15) / 16, pages.len());
+    let upto = end_page(range, pages.len());
     let mut any = false;
-    let mut p = (base + 15) / 16;
+    let mut p = first_page(range);
     while p < upto {
         any = any | shows(pages[p]);
         p += 1;
@@ -243,14 +266,34 @@ pub fn any_mapped(pages: &[u16], range: Range) -> bool
     any
 }
 
-// The pages from one number up to another get one code; past the end nothing is written.
-pub fn fill(pages: &mut [u16], from: usize, upto: usize, code: u16)
-    ensures { λ _. ⌜ now (pages .exit) ≡ filled from upto code (now (pages .entry)) ⌝ }
+fn freed(code: u16) -> u16
+    ensures { λ r. ⌜ r ≡ pick (isUnmapped (pageFrom code)) (pageCode Freed) code ⌝ }
 {
-    let end = lesser(upto, pages.len());
-    let mut i = from;
-    while i < end {
-        pages[i] = code;
-        i += 1;
+    if code == 0 { 1 } else { code }
+}
+
+// 05: the Unmapped pages of the range become Freed.
+pub fn free(pages: &mut [u16], range: Range)
+    ensures { λ _. ⌜ now (pages .exit) ≡ freedNumbers range (now (pages .entry)) ⌝ }
+    ensures { λ _. ⌜ ((v f : ℕ) (frames : List ℕ) → layerOf v f (now (pages .exit)) frames ≡ freedOf (layerOf v f (now (pages .entry)) frames) range) ⌝ }
+{
+    let upto = end_page(range, pages.len());
+    let mut p = first_page(range);
+    while p < upto {
+        pages[p] = freed(pages[p]);
+        p += 1;
+    }
+}
+
+// 07: the pages of the range become Unmapped.
+pub fn release(pages: &mut [u16], range: Range)
+    ensures { λ _. ⌜ now (pages .exit) ≡ releasedNumbers range (now (pages .entry)) ⌝ }
+    ensures { λ _. ⌜ ((v f : ℕ) (frames : List ℕ) → layerOf v f (now (pages .exit)) frames ≡ releasedOf (layerOf v f (now (pages .entry)) frames) range) ⌝ }
+{
+    let upto = end_page(range, pages.len());
+    let mut p = first_page(range);
+    while p < upto {
+        pages[p] = 0;
+        p += 1;
     }
 }

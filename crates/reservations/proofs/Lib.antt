@@ -6,3 +6,4 @@ pub mod Refused
 pub mod CoreAfter
 pub mod Takers
 pub mod Forgetting
+pub mod RowsAndPages

@@ -7,12 +7,14 @@ use Rattle.capabilities.specs.declared.Range.{Range}
 use Rattle.capabilities.specs.Death.{dies}
 use Rattle.capabilities.specs.Lists.{pick}
 use Rattle.capabilities.specs.Refusals.{Reason, reason, first}
+use Rattle.pages.specs.Pages.{Pages}
 use Rattle.pages.specs.Freed.{allFreed}
 use Rattle.pages.specs.Layer.{wellFormed, inRange, freshOf}
 use Rattle.pages.specs.Mapping.{anyMapped, freedOf, releasedOf}
 use Rattle.table.specs.declared.Reservation.{Reservation}
 use Rattle.table.specs.declared.ReservationState.the-variants.{Open, Revoking}
 use Rattle.table.specs.declared.Found.{Found}
+use Rattle.table.specs.Table.{Table}
 use Rattle.table.specs.Rows.{isOpen, isRevoking, noTaker, reservation, rangeOf, forgetTable}
 use Rattle.table.specs.Find.{missing, findOf, revokingOf, rowOf, withRow}
 use Rattle.table.specs.Tiling.{tableSound, freshTable}
@@ -47,13 +49,15 @@ cored code before after = record { code = code; core = pick (eqb code 0) after b
 abbrev pub wholePages : Reservation → Bool
 wholePages r = eqb (r .base % 16) 0 && eqb (r .length % 16) 0
 
--- 05 revoke: 6, 7 if it is Revoking, 10, 11 if a revocation runs, 13 if a page of it is Mapped.
-unfoldable pub revokeReasonsAt : Core → Found → List Reason
-revokeReasonsAt c f =
-    let r = rowOf (c .table) f in
+-- 05 revoke of a row, told whether a revocation runs: 6, 7 if it is Revoking, 10, 11 if one runs, 13 if a page of it is Mapped.
+abbrev pub revokeReasonsOf : Pages → Table → Found → Bool → List Reason
+revokeReasonsOf s t f runs =
+    let r = rowOf t f in
     reason 6 (missing f)
-    ∷ reason 7 (isRevoking (r .state))
-    ∷ reason 10 (not (wholePages r)) ∷ reason 11 (running c) ∷ reason 13 (anyMapped (c .pages) (rangeOf r)) ∷ []
+    ∷ reason 7 (isRevoking (r .state)) ∷ reason 10 (not (wholePages r)) ∷ reason 11 runs ∷ reason 13 (anyMapped s (rangeOf r)) ∷ []
+
+unfoldable pub revokeReasonsAt : Core → Found → List Reason
+revokeReasonsAt c f = revokeReasonsOf (c .pages) (c .table) f (running c)
 
 unfoldable pub revokeReasons : Core → ℕ → ℕ → List Reason
 revokeReasons c party base = revokeReasonsAt c (findOf (c .table) party base)

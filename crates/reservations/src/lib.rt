@@ -1,4 +1,6 @@
-// What a revocation makes of a reservation.
+// Reservations above the page layer: what a revocation makes of a row, and of lent rows and pages.
+pub mod lent;
+
 use capabilities::Range;
 use table::Reservation;
 use table::ReservationState;

@@ -1,5 +1,4 @@
 -- `formed::fresh::clear` meets its contract. Nine lists, each cleared by a loop.
-use Rattle.pages.proofs.Filling.{fill-all}
 use borrow.Author.Needs.{needs}
 use Rattle.formed.proofs.fresh.clear.Statement.{statement}
 use Rattle.formed.proofs.fresh.clear.Tie as tie
@@ -7,7 +6,7 @@ use Rattle.formed.proofs.fresh.clear.Reads as reads
 use Rattle.formed.proofs.fresh.clear.Lts as lts
 use Rattle.pages.proofs.lent.clear_cells.Reads as clear-cells-reads
 use Rattle.pages.proofs.lent.clear_tags.Reads as clear-tags-reads
-use Rattle.pages.proofs.lent.fill.Reads as fill-reads
+use Rattle.pages.proofs.lent.clear_pages.Reads as clear-pages-reads
 
 clear-cells-requires : tie.Need-clear-cells-requires
 clear-cells-requires c κs = search needs
@@ -24,8 +23,8 @@ clear-tags-requires-2 c κs = search needs
 clear-cells-requires-3 : tie.Need-clear-cells-requires-3
 clear-cells-requires-3 c κs = search needs
 
-fill-requires : tie.Need-fill-requires
-fill-requires c κs = search needs
+clear-pages-requires : tie.Need-clear-pages-requires
+clear-pages-requires c κs = search needs
 
 clear-tags-requires-3 : tie.Need-clear-tags-requires-3
 clear-tags-requires-3 c κs = search needs
@@ -33,8 +32,8 @@ clear-tags-requires-3 c κs = search needs
 clear-cells-requires-4 : tie.Need-clear-cells-requires-4
 clear-cells-requires-4 c κs = search needs
 
-fill-requires-2 : tie.Need-fill-requires-2
-fill-requires-2 c κs = search needs
+clear-pages-requires-2 : tie.Need-clear-pages-requires-2
+clear-pages-requires-2 c κs = search needs
 
 same-length : tie.Need-same-length
 same-length c = c .before .before .before .before .before .before .before .before .before .before .before .before .before .before .before .before .before .before .before .before .before .before .before .before .before .before .before .before .before .before .before .before .before .words .given
@@ -64,9 +63,7 @@ same-length-9 : tie.Need-same-length-9
 same-length-9 c = c .before .counts .given
 
 returns : tie.Need-returns
-returns c =
-    let a = c .before .before .before .before .before .before .before .before .before .before .before .before .before .before .before .before .before .before .before .before .before .before .before .before .before .before .before .before .before .before .before .before .before .before .before .before .before .before .before .before .before .before .before .before .before .args in
-    λ n. rw (c .before .before .before .before .before .before .before .before .before .before .before .before .before .before .before .before .before .before .before .before .before .before .before .before .before .before .before .before .before .before .before .before .before .before .clear-cells .ensures, c .before .before .before .before .before .before .before .before .before .before .before .before .before .before .before .before .before .before .before .before .before .before .before .before .before .before .before .before .before .before .clear-tags .ensures, c .before .before .before .before .before .before .before .before .before .before .before .before .before .before .before .before .before .before .before .before .before .before .before .before .before .before .clear-cells2 .ensures, c .before .before .before .before .before .before .before .before .before .before .before .before .before .before .before .before .before .before .before .before .before .before .clear-tags2 .ensures, c .before .before .before .before .before .before .before .before .before .before .before .before .before .before .before .before .before .before .clear-cells3 .ensures, c .before .before .before .before .before .before .before .before .before .before .before .before .before .before .fill .ensures, c .before .before .before .before .before .before .before .before .before .before .clear-tags3 .ensures, c .before .before .before .before .before .before .clear-cells4 .ensures, c .before .before .fill2 .ensures, fill-all 0 (a .pages .now), fill-all 0 (a .counts .now))
+returns c = λ n. rw (c .before .before .before .before .before .before .before .before .before .before .before .before .before .before .before .before .before .before .before .before .before .before .before .before .before .before .before .before .before .before .before .before .before .before .clear-cells .ensures, c .before .before .before .before .before .before .before .before .before .before .before .before .before .before .before .before .before .before .before .before .before .before .before .before .before .before .before .before .before .before .clear-tags .ensures, c .before .before .before .before .before .before .before .before .before .before .before .before .before .before .before .before .before .before .before .before .before .before .before .before .before .before .clear-cells2 .ensures, c .before .before .before .before .before .before .before .before .before .before .before .before .before .before .before .before .before .before .before .before .before .before .clear-tags2 .ensures, c .before .before .before .before .before .before .before .before .before .before .before .before .before .before .before .before .before .before .clear-cells3 .ensures, c .before .before .before .before .before .before .before .before .before .before .before .before .before .before .clear-pages .ensures, c .before .before .before .before .before .before .before .before .before .before .clear-tags3 .ensures, c .before .before .before .before .before .before .clear-cells4 .ensures, c .before .before .clear-pages2 .ensures)
 
 pub clear-spec : {M : Type 1} → statement M
 clear-spec =
@@ -77,10 +74,10 @@ clear-spec =
     clear-cells-requires-2
     clear-tags-requires-2
     clear-cells-requires-3
-    fill-requires
+    clear-pages-requires
     clear-tags-requires-3
     clear-cells-requires-4
-    fill-requires-2
+    clear-pages-requires-2
     same-length
     same-length-2
     same-length-3
