@@ -43,9 +43,9 @@ use Rattle.claims.specs.Claims.{Claims}
 use Rattle.reservations.proofs.ClaimsApart.{dying-apart}
 use Rattle.machine.specs.State.{State}
 use Rattle.machine.specs.Roles.{Asked}
-use Rattle.machine.specs.Effects.{Effect, withTable, withPages, withClaims, sweptTo, taking, RegisterChange, keepRegisters, putRegister, MailboxChange, keepMailboxes, putMailbox, keepMemory, effectOf}
+use Rattle.machine.specs.Effects.{Effect, withTable, withPages, withClaims, sweeping, sweptTo, taking, RegisterChange, keepRegisters, putRegister, MailboxChange, keepMailboxes, putMailbox, keepMemory, effectOf}
 use Rattle.machine.specs.Step.{done, registersAfter, mailboxesAfter, writtenCells, writtenTags, cellsAfter, tagsAfter}
-use Rattle.machine.proofs.Deeds.{coreAlone, sweeping, collecting, zeroing, storing, Recored, splits, merges, gives, revokes, maps, unmaps, reclaims, aimedAt, Deed, took, recored, swept, collectedAll, zeroed, filled, wrote, mailed, received}
+use Rattle.machine.proofs.Deeds.{coreAlone, collecting, zeroing, storing, Recored, splits, merges, gives, revokes, maps, unmaps, reclaims, aimedAt, Deed, took, recored, swept, collectedAll, zeroed, filled, wrote, mailed, received}
 use Rattle.machine.proofs.Found.{Addressing}
 use Rattle.machine.proofs.PagesKept.{zero-clear}
 use Rattle.histories.specs.Runs.{Machine, machine}

@@ -19,9 +19,8 @@ use Rattle.pages.specs.Mapping.{noPage, mapReasons, mapOf, unmapReasons, unmapO
 use Rattle.table.specs.Operations.{takeReasons, splitReasons, splitOf, mergeReasons, mergeOf, giveReasons, giveOf}
 use Rattle.claims.specs.Claims.{Claims, claimed}
 use Rattle.claims.specs.Operations.{createReasons, createOf, claimReasons, claimOf, releaseReasons, releaseOf, destroyReasons, destroyOf}
-use Rattle.reservations.specs.Core.{Core, withPlace}
-use Rattle.reservations.specs.Revocation.{running, revoked, revokeReasons, revokeOf, collectReasons, collectOf}
-use Rattle.sweep.specs.Sweep.{cellsLeft}
+use Rattle.reservations.specs.Core.{Core}
+use Rattle.reservations.specs.Revocation.{running, revokeReasons, revokeOf, collectReasons, collectOf}
 use Rattle.calls.specs.declared.Call.{Call}
 use Rattle.calls.specs.declared.Call.the-variants.{Take, Split, Merge, Give, Revoke, Sweep, Collect, Map, Unmap, Zero, Load, Store, Narrow, Number, Grant, Receive, TakeMasked, Create, Claim, Release, Destroy}
 use Rattle.words.specs.declared.Slot.{Slot}
@@ -30,7 +29,7 @@ use Rattle.words.specs.WordReasons.{unnamed, notManager, mayNotLoad, mayNotStor
 use Rattle.machine.specs.State.{State}
 use Rattle.machine.specs.Roles.{Sources, fromNone, fromOne, fromCell, Role, takes, collects, fills, stores, grants, receives, plain, Asked, asked, plainPermissions, roleOf, IsTake}
 use Rattle.machine.specs.Reasons.{addressed, fetched, found, takingReasons, reasons}
-use Rattle.machine.specs.Effects.{keepRegisters, putRegister, collectRegisters, keepMailboxes, putMailbox, collectMailboxes, keepMemory, write, writeWords, clearFrame, sweepCells, Effect, effectOf, withTable, withPages, withClaims, sweptTo, taking, effect}
+use Rattle.machine.specs.Effects.{keepRegisters, putRegister, collectRegisters, keepMailboxes, putMailbox, collectMailboxes, keepMemory, write, writeWords, clearFrame, Effect, effectOf, withTable, withPages, withClaims, sweeping, taking, effect}
 use Rattle.machine.specs.Step.{reasonsOn, effectOn}
 use Rattle.machine.proofs.Found.{after-five, low-two, low-three, Addressing, addressing, Narrowing, narrowing}
 
@@ -38,12 +37,7 @@ use Rattle.machine.proofs.Found.{after-five, low-two, low-three, Addres
 abbrev pub coreAlone : Core → Effect
 coreAlone k = effectOf k keepRegisters keepMailboxes keepMemory empty
 
--- 06, 07, 0A.
-abbrev pub sweeping : Core → ℕ → Effect
-sweeping c n =
-    effectOf (withPlace c (sweptTo c n)) keepRegisters keepMailboxes (sweepCells (revoked c) (c .place) (sweptTo c n))
-    (slot (cellsLeft (c .pages) (sweptTo c n)) false)
-
+-- 07, 0A.
 abbrev pub collecting : Core → Effect
 collecting c = effectOf (collectOf c .core) collectRegisters collectMailboxes keepMemory empty
 

@@ -12,7 +12,6 @@ use Rattle.capabilities.specs.Refusals.{reason, first}
 use Rattle.capabilities.proofs.Choice.{pick-no, and-left, and-right}
 use Rattle.pages.specs.Pages.{Pages}
 use Rattle.pages.specs.Layer.{inRange, serves}
-use Rattle.sweep.specs.Sweep.{cellsLeft}
 use Rattle.table.specs.Table.{Table}
 use Rattle.table.specs.Rows.{blank, table, forgetTable, live}
 use Rattle.table.specs.Tiling.{takersSound, freshTable}
@@ -21,7 +20,7 @@ use Rattle.table.proofs.Truth.{both}
 use Rattle.table.proofs.Forgetting.{pick-like, granted-like, table-twice, take-reasons, take-length, take-forgets, split-reasons, split-forgets, merge-reasons, merge-forgets, give-reasons, give-forgets}
 use Rattle.claims.specs.Claims.{Claims}
 use Rattle.claims.specs.Sound.{claimsSound}
-use Rattle.reservations.specs.Core.{Core, core, withTable, withPlace}
+use Rattle.reservations.specs.Core.{Core, core, withTable}
 use Rattle.reservations.specs.Revocation.{forgetCore, freshCore, coreSound}
 use Rattle.reservations.proofs.Forgetting.{core-twice, running-forgets, revoked-forgets, dying-forgets, revoke-reasons, revoke-forgets, collect-reasons, collect-forgets, core-forgets}
 use Rattle.calls.specs.declared.Call.{Call}
@@ -33,7 +32,7 @@ use Rattle.machine.specs.State.{State}
 use Rattle.machine.specs.Roles.{Sources, fromNone, fromOne, fromTwo, fromCell, plainPermissions, roleOf, callerOf, sourcesOf}
 use Rattle.machine.specs.Formed.{mailboxesSound, sized, formedBare, wellFormed, fresh, startOf}
 use Rattle.machine.specs.Reasons.{Reads, reading, addressed, found, wordsIn, reads, reasons}
-use Rattle.machine.specs.Effects.{RegisterChange, keepRegisters, putRegister, collectRegisters, MailboxChange, keepMailboxes, putMailbox, collectMailboxes, MemoryChange, keepMemory, write, writeWords, clearFrame, sweepCells, Effect, effectOf, sweptTo, taking, effect}
+use Rattle.machine.specs.Effects.{RegisterChange, keepRegisters, putRegister, collectRegisters, MailboxChange, keepMailboxes, putMailbox, collectMailboxes, MemoryChange, keepMemory, write, writeWords, clearFrame, sweepCells, Effect, effectOf, sweeping, sweptTo, taking, effect}
 use Rattle.machine.specs.Step.{refused, registersAfter, mailboxesAfter, tagsAfter, done, reasonsOn, effectOn, ruled, judged, stepOf}
 use Rattle.machine.specs.Forgetting.{forget, forgetOutcome, stepBare}
 use Rattle.machine.proofs.Keeps.{step-keeps, start-formed}
@@ -92,8 +91,7 @@ module _ (c : Core) (mail : List Slot) (r : Reads) where
   effect-forgets (Revoke p base) = like (revoke-forgets c p base)
   effect-forgets (Sweep p n) =
       like (tabled (table-twice (c .table)))
-      ∙ ap (λ x. forgetEffect (effectOf (withPlace c (sweptTo c n)) keepRegisters keepMailboxes (sweepCells x (c .place) (sweptTo c n)) (slot (cellsLeft (c .pages) (sweptTo c n)) false)))
-      (revoked-forgets c)
+      ∙ ap (λ x. forgetEffect (effectOf (sweeping c n .core) keepRegisters keepMailboxes (sweepCells x (c .place) (sweptTo c n)) (sweeping c n .answer))) (revoked-forgets c)
   effect-forgets (Collect p) = like (collect-forgets c)
   effect-forgets (Map p page frame) = like (tabled (table-twice (c .table)))
   effect-forgets (Unmap p page) = like (tabled (table-twice (c .table)))

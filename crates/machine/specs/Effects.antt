@@ -11,7 +11,7 @@ use Rattle.pages.specs.declared.FrameState.the-variants.{Free}
 use Rattle.pages.specs.Pages.{Pages}
 use Rattle.pages.specs.Layer.{withFrame}
 use Rattle.pages.specs.Mapping.{mapOf, unmapOf}
-use Rattle.sweep.specs.Sweep.{reached, cellsLeft}
+use Rattle.sweep.specs.Sweep.{sweptFrom}
 use Rattle.table.specs.Table.{Table}
 use Rattle.table.specs.Operations.{takeOf, splitOf, mergeOf, giveOf}
 use Rattle.claims.specs.Claims.{Claims, claimed}
@@ -75,9 +75,14 @@ pageChange c p = effectOf (withPages c p) keepRegisters keepMailboxes keepMemory
 abbrev pub claimsChange : Core → Claims → Effect
 claimsChange c x = effectOf (withClaims c x) keepRegisters keepMailboxes keepMemory empty
 
--- 06: the place that a sweep of n cells reaches.
+-- 06: "Passes the next n cells of lent memory .. Answers the cells left", both by the sweep's own rule; and the place that it reaches.
+abbrev pub sweeping : Core → ℕ → Effect
+sweeping c n =
+    let a = sweptFrom (c .pages) (c .place) n in
+    effectOf (withPlace c (a .place)) keepRegisters keepMailboxes (sweepCells (revoked c) (c .place) (a .place)) (slot (a .left) false)
+
 abbrev pub sweptTo : Core → ℕ → ℕ
-sweptTo c n = reached (c .pages) (c .place) n
+sweptTo c n = sweptFrom (c .pages) (c .place) n .place
 
 -- 01 and 11: "Open becomes Taken with holder 0; reg gets a capability for it with permissions .. Answers the length."
 abbrev pub taking : Core → ℕ → ℕ → ℕ → ℕ → Effect
@@ -96,10 +101,8 @@ effect c mail r (Merge p base) = tableChange c (mergeOf (c .table) p base .table
 effect c mail r (Give p base to) = tableChange c (giveOf (c .table) p base to .table)
 -- 05 revoke: the core's own rule.
 effect c mail r (Revoke p base) = effectOf (revokeOf c p base .core) keepRegisters keepMailboxes keepMemory empty
--- 06 sweep: "Passes the next n cells of lent memory .. Answers the cells left."
-effect c mail r (Sweep p n) =
-    effectOf (withPlace c (sweptTo c n)) keepRegisters keepMailboxes (sweepCells (revoked c) (c .place) (sweptTo c n))
-    (slot (cellsLeft (c .pages) (sweptTo c n)) false)
+-- 06 sweep.
+effect c mail r (Sweep p n) = sweeping c n
 -- 07 collect: "Clears, in all registers and mailboxes, the tag of capabilities with base in the range."
 effect c mail r (Collect p) = effectOf (collectOf c .core) collectRegisters collectMailboxes keepMemory empty
 -- 08 map, 09 unmap: the page layer's own rules. 0A zero: "its cells and tags become 0, and the frame Free."

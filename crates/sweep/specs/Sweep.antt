@@ -48,9 +48,12 @@ swept code left place = record { code = code; left = left; place = place }
 abbrev pub passing : Swept → List ℕ → Passed
 passing answer tags = record { answer = answer; tags = tags }
 
--- "Answers the cells left." Lent memory of another size is refusal 2.
+-- The place that a granted sweep of n cells reaches; and it "answers the cells left".
+abbrev pub sweptFrom : Pages → ℕ → ℕ → Swept
+sweptFrom s place n = swept 0 (cellsLeft s (reached s place n)) (reached s place n)
+
+-- The sweep over lent memory, of which one of another size is refusal 2.
 unfoldable pub sweepOf : Pages → Range → ℕ → ℕ → List ℕ → List ℕ → Passed
 sweepOf s r place n cells tags =
-    let next = reached s place n in
-    pick (serves s (length cells) (length tags)) (passing (swept 0 (cellsLeft s next) next) (sweptTags (s .frames) r place next cells tags))
-    (passing (swept 2 0 place) tags)
+    let a = sweptFrom s place n in
+    pick (serves s (length cells) (length tags)) (passing a (sweptTags (s .frames) r place (a .place) cells tags)) (passing (swept 2 0 place) tags)
