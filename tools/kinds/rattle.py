@@ -48,10 +48,10 @@ def commands(kinds):
     head = f"""{RATTLE}
 // The byte of each command, and its length with that byte.
 ghost use mathlib.Core.Path.{{_≡_}};
-ghost use Rattle.calls.specs.Commands.{{lengthOf}};"""
+ghost use Rattle.calls.specs.Commands.{{commandLength}};"""
     length_of = """// A command's length; 0 for a byte that is no command.
 pub(crate) fn length_of(command: u8) -> usize
-    ensures { λ r. ⌜ r ≡ lengthOf command ⌝ }
+    ensures { λ r. ⌜ r ≡ commandLength command ⌝ }
 {
     match command {
 %s
@@ -99,11 +99,11 @@ def reader(kinds):
         "ghost use mathlib.Core.Path.{_≡_};",
         "ghost use Prim.Native.Nat.{_≤_};",
         "ghost use lib.ListN.{length};",
-        "ghost use Rattle.calls.specs.Commands.{callAt, lengthOf, lastByte};",
+        "ghost use Rattle.calls.specs.Commands.{callAt, commandLength, lastByte};",
     ])
     call_at = """// The call of a command's byte and the operands after it. In the last arm only the last command is left.
 pub(crate) fn call_at(command: u8, s: &[u8]) -> Call
-    requires { ⌜ ((1 ≤ command) × (command ≤ lastByte)) × (lengthOf command ≤ length (now s)) ⌝ }
+    requires { ⌜ ((1 ≤ command) × (command ≤ lastByte)) × (commandLength command ≤ length (now s)) ⌝ }
     ensures { λ r. ⌜ r ≡ callAt command (now (s .entry)) ⌝ }
 {
     match command {

@@ -11,7 +11,7 @@ use Rattle.words.specs.Words.{empty, byteOf}
 use Rattle.machine.specs.State.{State}
 use Rattle.machine.specs.Formed.{answered}
 use Rattle.machine.specs.Effects.{effectOf, keepRegisters, putRegister, keepMailboxes, putMailbox, keepMemory, write, writeWords}
-use Rattle.machine.specs.Step.{left, done, reasonsOn, effectOn, ruled, withCore}
+use Rattle.machine.specs.Step.{outcomeWith, done, reasonsOn, effectOn, ruled, withCore}
 use Rattle.machine.proofs.Ruled.{ruled-down, ruled-done, done-core, done-register, done-mailbox, done-both, done-write}
 use Rattle.arrays.specs.declared.Arrays.{Arrays}
 use Rattle.arrays.specs.Reading.{stateOf, arraysOf, Formed}
@@ -19,7 +19,7 @@ use Rattle.arrays.specs.Steps.{answer, leaving, leftOf, withWords, withM
 use Rattle.arrays.proofs.Writing.{put-register, put-mailbox, put-words, write-core-register}
 
 -- What an outcome with a state is written as.
-pub wrote : (code : ℕ) (w : Slot) (s : State) (a : Arrays) (cells tags : List ℕ) → a ≡ arraysOf s → leaving (answer code w) a cells tags ≡ leftOf (left (answered code w s) cells tags)
+pub wrote : (code : ℕ) (w : Slot) (s : State) (a : Arrays) (cells tags : List ℕ) → a ≡ arraysOf s → leaving (answer code w) a cells tags ≡ leftOf (outcomeWith (answered code w s) cells tags)
 unfolding leftOf
 wrote code w s a cells tags e = ap (λ b. leaving (answer code w) b cells tags) e
 

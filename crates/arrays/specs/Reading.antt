@@ -16,7 +16,7 @@ use Rattle.pages.specs.Numbers.{pageCode, frameCode, pageIn, frameIn, layerOf}
 use Rattle.table.specs.Numbers.{rowFrom, rowCode}
 use Rattle.claims.specs.Numbers.{claimsIn, laid}
 use Rattle.claims.specs.Numbers.{numbersOf as claimNumbers}
-use Rattle.words.specs.Lent.{slotsOf, cellsOf, bytesOf}
+use Rattle.words.specs.Lent.{slotsOf, cellsOf, tagBytes}
 
 abbrev pub arrays : Numbers → List ℕ → List ℕ → List ℕ → List ℕ → List ℕ → List ℕ → List ℕ → List ℕ → List ℕ → Arrays
 arrays nums words marks mail flags rows pages frames principals counts =
@@ -38,7 +38,7 @@ numbersOf c =
 
 unfoldable pub arraysOf : State → Arrays
 arraysOf s =
-    arrays (numbersOf (s .core)) (cellsOf (s .registers)) (bytesOf (s .registers)) (cellsOf (s .mailboxes)) (bytesOf (s .mailboxes))
+    arrays (numbersOf (s .core)) (cellsOf (s .registers)) (tagBytes (s .registers)) (cellsOf (s .mailboxes)) (tagBytes (s .mailboxes))
     (map rowCode (s .core .table .rows)) (map (λ e. pageCode (e .state)) (s .core .pages .pages)) (map (λ e. frameCode (e .state)) (s .core .pages .frames))
     (claimNumbers (s .core .claims)) (laid (s .core .claims .counts))
 

@@ -16,17 +16,17 @@ abbrev pub answer : ℕ → Slot → Answer
 answer code w = record { code = code; number = w .cell; tag = w .tag }
 
 -- What a call leaves: its answer, the arrays, and the lent cells and tags.
-pub record Left : Type 0 where
+pub record Leaving : Type 0 where
   pub answer : Answer
   pub arrays : Arrays
   pub cells : List ℕ
   pub tags : List ℕ
 
-abbrev pub leaving : Answer → Arrays → List ℕ → List ℕ → Left
+abbrev pub leaving : Answer → Arrays → List ℕ → List ℕ → Leaving
 leaving r a cells tags = record { answer = r; arrays = a; cells = cells; tags = tags }
 
 -- The outcome of a rule, its state written as arrays.
-unfoldable pub leftOf : Outcome → Left
+unfoldable pub leftOf : Outcome → Leaving
 leftOf o =
     leaving (record { code = o .answer .code; number = o .answer .number; tag = o .answer .tag }) (arraysOf (o .answer .state)) (o .cells) (o .tags)
 

@@ -8,7 +8,7 @@ use lib.Seq.{take-at, take-length}
 use native.Mathlib.Omega.{arith}
 use borrow.Author.Tests.{le-leb, lt-leb}
 use Rattle.capabilities.specs.Lists.{pick}
-use Rattle.calls.specs.Commands.{lengthOf, bytesOf, padded}
+use Rattle.calls.specs.Commands.{commandLength, bytesOf, padded}
 use Rattle.calls.specs.Writer.{Outcome, outcome, writeOf}
 use Rattle.calls.specs.declared.Call.{Call}
 use Rattle.calls.proofs.RoundTrip.{lengths-agree}
@@ -18,9 +18,9 @@ abbrev answer : Call → List ℕ → Bool → Outcome
 answer c out b = pick b (outcome 0 (length (bytesOf c)) (bytesOf c ++ drop (length (bytesOf c)) out)) (outcome 3 0 out)
 
 -- `all` begins with the bytes of `c`, and `n` is the length that the table has for its first byte.
-module _ (c : Call) (all : List ℕ) (n : ℕ) (filled : all ≡ padded (bytesOf c)) (long : n ≡ lengthOf (getD all 0 0)) where
+module _ (c : Call) (all : List ℕ) (n : ℕ) (filled : all ≡ padded (bytesOf c)) (long : n ≡ commandLength (getD all 0 0)) where
   exact : n ≡ length (bytesOf c)
-  exact = long ∙ ap (λ (s : List ℕ). lengthOf (getD s 0 0)) filled ∙ sym (lengths-agree c)
+  exact = long ∙ ap (λ (s : List ℕ). commandLength (getD s 0 0)) filled ∙ sym (lengths-agree c)
 
   pub within : n ≤ length all
   within = rw filled (simp length-append (omega (arith, exact)))

@@ -5,7 +5,7 @@ use mathlib.Core.Path.{_≡_, _∙_, refl, sym, ap, subst}
 use lib.ListN.{getD, List·getD-eq-default}
 use native.Mathlib.Omega.{arith}
 use Rattle.calls.specs.Bytes.{sum}
-use Rattle.calls.specs.Commands.{commandOf, lengths, lengthOf, lastByte, byteOf, operandsOf}
+use Rattle.calls.specs.Commands.{commandOf, lengths, commandLength, lastByte, byteOf, operandsOf}
 use Rattle.calls.specs.declared.Call.{Call}
 use Rattle.calls.proofs.Bytes.{formed}
 
@@ -32,11 +32,11 @@ last-case n {k} low high others =
     omega arith
 
 -- An input as long as the command's table says is as long as the arm's number says.
-pub long-enough : {k j n : ℕ} → k ≡ j → lengthOf k ≤ n → lengthOf j ≤ n
-long-enough {n = n} p h = subst (λ k. lengthOf k ≤ n) p h
+pub long-enough : {k j n : ℕ} → k ≡ j → commandLength k ≤ n → commandLength j ≤ n
+long-enough {n = n} p h = subst (λ k. commandLength k ≤ n) p h
 
 -- A byte that is no command has length 0.
-pub no-length : (k : ℕ) → NoneTo lastByte k → 0 ≡ lengthOf k
+pub no-length : (k : ℕ) → NoneTo lastByte k → 0 ≡ commandLength k
 no-length zero others = refl
 no-length (suc k) others =
     let low : 1 ≤ suc k = omega arith in
@@ -45,5 +45,5 @@ no-length (suc k) others =
 -- A call is made of its operands again; its command's length is that of the operands and a byte; each operand has a width.
 pub record Listed (c : Call) : Type 0 where
   pub made : commandOf (byteOf c) .make (λ i. getD (operandsOf c) i 0) ≡ c
-  pub long : lengthOf (byteOf c) ≡ suc (sum (commandOf (byteOf c) .widths))
+  pub long : commandLength (byteOf c) ≡ suc (sum (commandOf (byteOf c) .widths))
   pub shaped : formed (commandOf (byteOf c) .widths) (operandsOf c) ≡ true

@@ -8,7 +8,7 @@ use lib.Dec.{ltb, leb}
 use lib.ListN.{length, getD, take, length-append}
 use borrow.Author.Tests.{ltb-true, leb-true}
 use Rattle.calls.specs.Bytes.{numbersAt, bytesIn, Fit, Bytes}
-use Rattle.calls.specs.Commands.{commandOf, lengthOf, callAt, byteOf, operandsOf, bytesOf, Fitting}
+use Rattle.calls.specs.Commands.{commandOf, commandLength, callAt, byteOf, operandsOf, bytesOf, Fitting}
 use Rattle.calls.specs.Reader.{whole, readOf}
 use Rattle.calls.specs.Promises.{RoundTrip, WrittenInBytes, LengthsAgree, ReadFrom, ReadBack, OneCall, DifferentBytes}
 use Rattle.calls.specs.declared.Call.{Call}
@@ -51,7 +51,7 @@ both false b e = absurd (true≢false (sym e))
 joined : ℕ × List ℕ → List ℕ
 joined p = p .0 ∷ bytesIn (commandOf (p .0) .widths) (p .1)
 
-found : (k : ℕ) (t : List ℕ) → Bytes (k ∷ t) → whole (k ∷ t) ≡ true → ReadFrom (k ∷ t) (callAt k (k ∷ t)) (lengthOf k)
+found : (k : ℕ) (t : List ℕ) → Bytes (k ∷ t) → whole (k ∷ t) ≡ true → ReadFrom (k ∷ t) (callAt k (k ∷ t)) (commandLength k)
 unfolding whole joined
 found k t b w = record {
   inside = room;
@@ -63,14 +63,14 @@ found k t b w = record {
       subst (λ (p : ℕ × List ℕ). Fit (commandOf (p .0) .widths) (p .1)) (sym (row .parts (k ∷ t))) (numbers-fit ws 1 (k ∷ t) b);
 }
   where
-    tests : (ltb 0 (lengthOf k) ≡ true) × (leb (lengthOf k) (length (k ∷ t)) ≡ true)
-    tests = both (ltb 0 (lengthOf k)) (leb (lengthOf k) (length (k ∷ t))) w
+    tests : (ltb 0 (commandLength k) ≡ true) × (leb (commandLength k) (length (k ∷ t)) ≡ true)
+    tests = both (ltb 0 (commandLength k)) (leb (commandLength k) (length (k ∷ t))) w
 
-    room : lengthOf k ≤ length (k ∷ t)
-    room = leb-true (lengthOf k) (length (k ∷ t)) (tests .1)
+    room : commandLength k ≤ length (k ∷ t)
+    room = leb-true (commandLength k) (length (k ∷ t)) (tests .1)
 
     row : Entry k
-    row = entry k (λ z. omega (arith, ltb-true 0 (lengthOf k) (tests .0)))
+    row = entry k (λ z. omega (arith, ltb-true 0 (commandLength k) (tests .0)))
 
     ws : List ℕ
     ws = commandOf k .widths
@@ -86,11 +86,11 @@ read-back (k ∷ t) b c n e = go (whole (k ∷ t)) refl
     go : (w : Bool) → whole (k ∷ t) ≡ w → ReadFrom (k ∷ t) c n
     go false w = absurd (refused-differs c n (sym (answer-of (k ∷ t) false w) ∙ e))
     go true w =
-        let same : Read (callAt k (k ∷ t)) (lengthOf k) ≡ Read c n = sym (answer-of (k ∷ t) true w) ∙ e in
+        let same : Read (callAt k (k ∷ t)) (commandLength k) ≡ Read c n = sym (answer-of (k ∷ t) true w) ∙ e in
         let call : callAt k (k ∷ t) ≡ c = cc in
-        let used : lengthOf k ≡ n = cc in
+        let used : commandLength k ≡ n = cc in
         subst (λ (m : ℕ). ReadFrom (k ∷ t) c m) used
-        (subst (λ (d : Call). ReadFrom (k ∷ t) d (lengthOf k)) call (found k t b w))
+        (subst (λ (d : Call). ReadFrom (k ∷ t) d (commandLength k)) call (found k t b w))
 
 pub one-call : OneCall
 one-call c d rest others e =

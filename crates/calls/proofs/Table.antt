@@ -10,7 +10,7 @@ use lib.ListN.{length, getD, drop, List·getD-eq-default}
 use native.Mathlib.Numerals.{unary-clauses}
 use native.Mathlib.Omega.{arith}
 use Rattle.calls.specs.Bytes.{number, numbersAt, sum}
-use Rattle.calls.specs.Commands.{Command, commands, take-command, lastByte, commandOf, lengthOf, lengths, callAt}
+use Rattle.calls.specs.Commands.{Command, commands, take-command, lastByte, commandOf, commandLength, lengths, callAt}
 use Rattle.calls.specs.Parts.{partsOf}
 pub use Rattle.calls.proofs.Cases.{Listed}
 pub use Rattle.calls.proofs.Listed.{listed}
@@ -61,7 +61,7 @@ length-at (row ∷ rows) (suc i) h = length-at rows i (omega arith)
 -- ---- a byte
 
 -- A byte with a length is a command.
-pub in-table : (k : ℕ) → (lengthOf k ≡ 0 → ⊥) → (1 ≤ k) × (k ≤ lastByte)
+pub in-table : (k : ℕ) → (commandLength k ≡ 0 → ⊥) → (1 ≤ k) × (k ≤ lastByte)
 in-table zero h = absurd (h refl)
 in-table (suc k) h = (omega arith, go (leb (suc k) lastByte) refl)
   where
@@ -77,9 +77,9 @@ all-read (w ∷ ws) i s = ap (λ (l : List ℕ). number w i s ∷ l) (all-read w
 -- The call that a command's byte makes has this byte and the operands that were read.
 pub record Entry (k : ℕ) : Type 0 where
   pub parts : (s : List ℕ) → partsOf (callAt k s) ≡ (k, numbersAt (commandOf k .widths) 1 s)
-  pub long : lengthOf k ≡ suc (sum (commandOf k .widths))
+  pub long : commandLength k ≡ suc (sum (commandOf k .widths))
 
-pub entry : (k : ℕ) → (lengthOf k ≡ 0 → ⊥) → Entry k
+pub entry : (k : ℕ) → (commandLength k ≡ 0 → ⊥) → Entry k
 entry zero h = absurd (h refl)
 entry (suc k) h = record {
   parts = λ s.

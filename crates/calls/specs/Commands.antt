@@ -87,8 +87,8 @@ abbrev pub lengths : List ℕ
 lengths = 0 ∷ map (λ c. 1 + sum (c .widths)) commands
 
 -- A command's length; 0 for a byte that is no command.
-abbrev pub lengthOf : ℕ → ℕ
-lengthOf k = getD lengths k 0
+abbrev pub commandLength : ℕ → ℕ
+commandLength k = getD lengths k 0
 
 -- The call that the operands after a command's byte make.
 abbrev pub callAt : ℕ → List ℕ → Call

@@ -7,7 +7,7 @@ use lib.ListN.{length, take}
 use Rattle.calls.specs.declared.Call.{Call}
 use Rattle.calls.specs.declared.Reading.the-variants.{Read}
 use Rattle.calls.specs.Bytes.{Bytes}
-use Rattle.calls.specs.Commands.{lengthOf, byteOf, bytesOf, Fitting}
+use Rattle.calls.specs.Commands.{commandLength, byteOf, bytesOf, Fitting}
 use Rattle.calls.specs.Reader.{readOf}
 
 -- A call that was written is read, whatever follows it, and uses the bytes that were written. It holds of every call: one whose
@@ -20,7 +20,7 @@ WrittenInBytes = (c : Call) → Fitting c → Bytes (bytesOf c)
 
 -- The lengths of the reader and of the writer agree.
 abbrev pub LengthsAgree : Type 0
-LengthsAgree = (c : Call) → length (bytesOf c) ≡ lengthOf (byteOf c)
+LengthsAgree = (c : Call) → length (bytesOf c) ≡ commandLength (byteOf c)
 
 -- What a call that was read says of the input: the bytes it used are there, they are those that it is written as, and its numbers fit.
 pub record ReadFrom (s : List ℕ) (c : Call) (n : ℕ) : Type 0 where

@@ -19,9 +19,9 @@ abbrev pub outcome : ℕ → ℕ → List ℕ → Outcome
 outcome code n out = record { code = code; len = n; buffer = out }
 
 -- The paper's numbers for each case of the answer, with the buffer that goes with it.
-abbrev pub left : Written → List ℕ → Outcome
-left (Wrote n) out = outcome 0 n out
-left TooShort out = outcome 3 0 out
+abbrev pub outcomeOf : Written → List ℕ → Outcome
+outcomeOf (Wrote n) out = outcome 0 n out
+outcomeOf TooShort out = outcome 3 0 out
 
 unfoldable pub writeOf : Call → List ℕ → Outcome
 writeOf c out =

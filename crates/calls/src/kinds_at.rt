@@ -10,7 +10,7 @@ use crate::digits::two_at;
 ghost use mathlib.Core.Path.{_≡_};
 ghost use Prim.Native.Nat.{_≤_};
 ghost use lib.ListN.{length};
-ghost use Rattle.calls.specs.Commands.{callAt, lengthOf, lastByte};
+ghost use Rattle.calls.specs.Commands.{callAt, commandLength, lastByte};
 
 fn take_at(s: &[u8]) -> Call
     requires { ⌜ 5 ≤ length (now s) ⌝ }
@@ -244,7 +244,7 @@ fn destroy_at(s: &[u8]) -> Call
 
 // The call of a command's byte and the operands after it. In the last arm only the last command is left.
 pub(crate) fn call_at(command: u8, s: &[u8]) -> Call
-    requires { ⌜ ((1 ≤ command) × (command ≤ lastByte)) × (lengthOf command ≤ length (now s)) ⌝ }
+    requires { ⌜ ((1 ≤ command) × (command ≤ lastByte)) × (commandLength command ≤ length (now s)) ⌝ }
     ensures { λ r. ⌜ r ≡ callAt command (now (s .entry)) ⌝ }
 {
     match command {

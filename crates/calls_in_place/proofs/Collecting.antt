@@ -36,7 +36,7 @@ use Rattle.calls.specs.declared.Call.the-variants.{Collect}
 use Rattle.words.specs.declared.Slot.{Slot}
 use Rattle.words.specs.Words.{empty, keepTag, collectedRegister, collectedMailbox}
 use Rattle.words.specs.WordReasons.{unnamed, notManager}
-use Rattle.words.specs.Lent.{slotsOf, cellsOf, bytesOf, bit, collectedMarks, collectedMail}
+use Rattle.words.specs.Lent.{slotsOf, cellsOf, tagBytes, bit, collectedMarks, collectedMail}
 use Rattle.words.proofs.Lent.{bytes-bits, cells-collected, marks-collected, mail-collected, flags-collected}
 use Rattle.machine.specs.State.{State}
 use Rattle.machine.specs.Reasons.{reasons}
@@ -105,7 +105,7 @@ module _ (b : Arrays) (f : Formed b) (range : Range) (e : cachedRange b ≡ rang
   same-deaths : dying (stateOf b .core) ≡ dies range
   same-deaths = fun-ext (λ cell. dying-cached b f cell ∙ ap (λ (r : Range). dies r cell) e)
 
-  bits : (l : List Slot) (marks : List ℕ) → bytesOf l ≡ marks → each bit 0 marks ≡ true
+  bits : (l : List Slot) (marks : List ℕ) → tagBytes l ≡ marks → each bit 0 marks ≡ true
   bits l marks k = subst (λ (m : List ℕ). each bit 0 m ≡ true) k (bytes-bits 0 l)
 
   collected-registers : map (collectedRegister (stateOf b .core)) (stateOf b .registers) ≡ map (λ (w : Slot). keepTag w (not (dies range (w .cell)))) (slotsOf (b .words) (b .marks))
@@ -125,16 +125,16 @@ module _ (b : Arrays) (f : Formed b) (range : Range) (e : cachedRange b ≡ rang
   words-after : cellsOf (map (collectedRegister (stateOf b .core)) (stateOf b .registers)) ≡ b .words
   words-after = ap cellsOf collected-registers ∙ cells-collected range (b .words) (b .marks) even-words
 
-  marks-after : bytesOf (map (collectedRegister (stateOf b .core)) (stateOf b .registers)) ≡ collectedMarks range (b .words) (b .marks)
+  marks-after : tagBytes (map (collectedRegister (stateOf b .core)) (stateOf b .registers)) ≡ collectedMarks range (b .words) (b .marks)
   unfolding arraysOf
-  marks-after = ap bytesOf collected-registers ∙ marks-collected range 0 (b .words) (b .marks) even-words (bits (stateOf b .registers) (b .marks) (ap (λ (x : Arrays). x .marks) (f .kept)))
+  marks-after = ap tagBytes collected-registers ∙ marks-collected range 0 (b .words) (b .marks) even-words (bits (stateOf b .registers) (b .marks) (ap (λ (x : Arrays). x .marks) (f .kept)))
 
   mail-after : cellsOf (map (collectedMailbox (stateOf b .core)) (stateOf b .mailboxes)) ≡ collectedMail range (b .mail) (b .flags)
   mail-after = ap cellsOf collected-mailboxes ∙ mail-collected range (b .mail) (b .flags) even-mail
 
-  flags-after : bytesOf (map (collectedMailbox (stateOf b .core)) (stateOf b .mailboxes)) ≡ collectedMarks range (b .mail) (b .flags)
+  flags-after : tagBytes (map (collectedMailbox (stateOf b .core)) (stateOf b .mailboxes)) ≡ collectedMarks range (b .mail) (b .flags)
   unfolding arraysOf
-  flags-after = ap bytesOf collected-mailboxes ∙ flags-collected range 0 (b .mail) (b .flags) even-mail (bits (stateOf b .mailboxes) (b .flags) (ap (λ (x : Arrays). x .flags) (f .kept)))
+  flags-after = ap tagBytes collected-mailboxes ∙ flags-collected range 0 (b .mail) (b .flags) even-mail (bits (stateOf b .mailboxes) (b .flags) (ap (λ (x : Arrays). x .flags) (f .kept)))
 
 -- The state after a collect, and the arrays.
 abbrev pub collectedState : State → State

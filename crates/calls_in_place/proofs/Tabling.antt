@@ -37,7 +37,7 @@ use Rattle.table.specs.Lent.{Leaves, fitting, tabledOf}
 use Rattle.table.proofs.RoundTrip.{kept-written, left-numbers}
 use Rattle.arrays.specs.declared.Arrays.{Arrays}
 use Rattle.arrays.specs.Reading.{coreOf, stateOf, arraysOf, Formed}
-use Rattle.arrays.specs.Steps.{Left, answer, leaving, leftOf, withWords, withRows, withTable, counted}
+use Rattle.arrays.specs.Steps.{Leaving, answer, leaving, leftOf, withWords, withRows, withTable, counted}
 use Rattle.arrays.proofs.Facts.{lengths}
 use Rattle.arrays.proofs.Writing.{put-table}
 use Rattle.arrays.proofs.Ruling.{down, cored, core-registered}
@@ -154,7 +154,7 @@ module _ (b : Arrays) (f : Formed b) (count : ℕ) (ec : b .nums .count ≡ coun
     effect-is = refl
 
     -- The arrays after a granted take of so many cells.
-    abbrev taken : ℕ → ℕ → Left
+    abbrev taken : ℕ → ℕ → Leaving
     taken n len =
         leaving (answer 0 (slot len false))
         (withWords (withTable b (counted (b .nums) n) rows) (set (b .words) (8 * p + reg) (capability base len (permitted mask))) (set (b .marks) (8 * p + reg) (byteOf true))) cells tags
@@ -167,7 +167,7 @@ module _ (b : Arrays) (f : Formed b) (count : ℕ) (ec : b .nums .count ≡ coun
         (slot (capability base own-length (permitted mask)) true) (slot own-length false) z effect-is
 
 -- 01 is 11 with mask 3.
-pub take-plain : (s : State) (p base reg : ℕ) (cells tags : List ℕ) (x : Left) → x ≡ leftOf (ruled s (TakeMasked p base reg 3) cells tags)
+pub take-plain : (s : State) (p base reg : ℕ) (cells tags : List ℕ) (x : Leaving) → x ≡ leftOf (ruled s (TakeMasked p base reg 3) cells tags)
     → x ≡ leftOf (ruled s (Take p base reg) cells tags)
 take-plain s p base reg cells tags x e = e ∙ ap leftOf (plain-ruled s p base reg cells tags)
 

@@ -1,7 +1,6 @@
 // 12 to 15: the claims' own functions, after the refusals 4 and 12.
 use crate::page_calls::page_number;
-use crate::table_calls::coded;
-use crate::word_calls::refused;
+use crate::word_calls::coded;
 use arrays::Answer;
 use capabilities::refusal::first;
 use claims::destroying;
@@ -28,7 +27,7 @@ pub fn create(
     ensures { λ r. ⌜ ((v : ℕ) (counts : List ℕ) → OnClaims v r (now (principals .entry)) counts (now (principals .exit)) counts (Create party parent child limit holder)) ⌝ }
 {
     if !(party < 8) | !(holder < 8) {
-        return refused(4);
+        return coded(4);
     }
     coded(operations::create(principals, party, parent, child, limit, holder))
 }
@@ -53,7 +52,7 @@ pub fn claim(
 {
     let early = early_code(v, party, page);
     if early != 0 {
-        return refused(early);
+        return coded(early);
     }
     let at = page_number(page);
     coded(operations::claim(principals, counts, party, principal, at))
@@ -72,7 +71,7 @@ pub fn release(
 {
     let early = early_code(v, party, page);
     if early != 0 {
-        return refused(early);
+        return coded(early);
     }
     let at = page_number(page);
     coded(operations::release(principals, counts, party, principal, at))
@@ -83,7 +82,7 @@ pub fn destroy(principals: &mut [u64], counts: &mut [u16], party: u8, principal:
     ensures { λ r. ⌜ ((v : ℕ) → OnClaims v r (now (principals .entry)) (now (counts .entry)) (now (principals .exit)) (now (counts .exit)) (Destroy party principal)) ⌝ }
 {
     if !(party < 8) {
-        return refused(4);
+        return coded(4);
     }
     coded(destroying::destroy(principals, counts, party, principal))
 }

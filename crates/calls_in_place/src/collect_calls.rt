@@ -1,7 +1,7 @@
 // 07: a revocation ends.
 use crate::Stepped;
+use crate::word_calls::coded;
 use crate::word_calls::granted;
-use crate::word_calls::refused;
 use arrays::Numbers;
 use capabilities::Range;
 use capabilities::refusal::first;
@@ -29,7 +29,7 @@ pub fn collect(
     let none = nums.length == 0;
     let code = manager_code(party, first(11, none | !(end <= nums.place), 0));
     if code != 0 {
-        let answer = refused(code);
+        let answer = coded(code);
         return Stepped { answer, nums };
     }
     let range = Range {

@@ -1,5 +1,5 @@
 // Pages and frames: the layer's own functions, after the refusals of every manager's command.
-use crate::word_calls::refused;
+use crate::word_calls::coded;
 use arrays::Answer;
 use arrays::Numbers;
 use claims::lent::any_counts;
@@ -38,9 +38,9 @@ pub fn map(
 {
     let early = manager_code(party, 0);
     if early != 0 {
-        return refused(early);
+        return coded(early);
     }
-    refused(pages::lent::map(nums.v, nums.f, pages, frames, page, frame))
+    coded(pages::lent::map(nums.v, nums.f, pages, frames, page, frame))
 }
 
 // 09. The layer is told whether the page has a claim.
@@ -56,10 +56,10 @@ pub fn unmap(
 {
     let early = manager_code(party, 0);
     if early != 0 {
-        return refused(early);
+        return coded(early);
     }
     let claimed = any_counts(counts, page_number(page));
-    refused(pages::lent::unmap(nums.v, pages, frames, page, claimed))
+    coded(pages::lent::unmap(nums.v, pages, frames, page, claimed))
 }
 
 // 0A.
@@ -75,7 +75,7 @@ pub fn zero(
 {
     let early = manager_code(party, 0);
     if early != 0 {
-        return refused(early);
+        return coded(early);
     }
-    refused(pages::lent::zero(f, frames, frame, cells, tags))
+    coded(pages::lent::zero(f, frames, frame, cells, tags))
 }

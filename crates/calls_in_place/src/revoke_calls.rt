@@ -1,7 +1,7 @@
 // 05: a revocation begins.
 use crate::Stepped;
+use crate::word_calls::coded;
 use crate::word_calls::granted;
-use crate::word_calls::refused;
 use arrays::Numbers;
 use reservations::lent::revoke_code;
 use table::find::find;
@@ -25,7 +25,7 @@ pub fn revoke(
     let runs = !(nums.length == 0);
     let code = manager_code(party, revoke_code(rows, count, pages, found, runs));
     if code != 0 {
-        let answer = refused(code);
+        let answer = coded(code);
         return Stepped { answer, nums };
     }
     let range = reservations::lent::revoke(rows, count, pages, found);

@@ -1,7 +1,7 @@
 // 06: the sweep goes on.
 use crate::Stepped;
+use crate::word_calls::coded;
 use crate::word_calls::granted;
-use crate::word_calls::refused;
 use arrays::Numbers;
 use capabilities::Range;
 use capabilities::refusal::first;
@@ -24,7 +24,7 @@ pub fn sweep(
 {
     let code = manager_code(party, first(11, nums.length == 0, 0));
     if code != 0 {
-        let answer = refused(code);
+        let answer = coded(code);
         return Stepped { answer, nums };
     }
     let range = Range {

@@ -1,7 +1,7 @@
 // Calls 01 to 04 and 11, on the reservation table. Refusal 4 is judged here, the others by the table's own calls.
 use crate::Stepped;
+use crate::word_calls::coded;
 use crate::word_calls::granted;
-use crate::word_calls::refused;
 use arrays::Answer;
 use arrays::Numbers;
 use capabilities::capability::capability;
@@ -11,21 +11,8 @@ use table::rows;
 use words::Slot;
 use words::registers::put_word;
 ghost use mathlib.Core.Path.{_≡_};
-ghost use Rattle.words.specs.Words.{empty};
 ghost use Rattle.calls.specs.declared.Call.the-variants.{Split, Merge, Give, TakeMasked};
-ghost use Rattle.arrays.specs.Steps.{answer};
 ghost use Rattle.calls_in_place.specs.Parts.{OnRows, OnTable, OnRowsAndWords};
-
-// The answer of a call that names no word: 0, or the refusal's number.
-pub(crate) fn coded(code: u8) -> Answer
-    ensures { λ r. ⌜ r ≡ answer code empty ⌝ }
-{
-    Answer {
-        code,
-        number: 0,
-        tag: false,
-    }
-}
 
 // The mask with which 11 is 01.
 pub const PLAIN: u8 = 3;
@@ -44,12 +31,12 @@ pub fn take(
     ensures { λ r. ⌜ OnRowsAndWords nums r (now (rows .entry)) (now (words .entry)) (now (marks .entry)) (now (rows .exit)) (now (words .exit)) (now (marks .exit)) (TakeMasked party base reg mask) ⌝ }
 {
     if !(party < 8) | !(reg < 8) {
-        let answer = refused(4);
+        let answer = coded(4);
         return Stepped { answer, nums };
     }
     let taken = operations::take(rows, nums.count, party, base);
     if taken.code != 0 {
-        let answer = refused(taken.code);
+        let answer = coded(taken.code);
         return Stepped { answer, nums };
     }
     let at = 8 * (party as usize) + reg as usize;
@@ -72,7 +59,7 @@ pub fn split(mut nums: Numbers, rows: &mut [u64], party: u8, base: u16, len: u16
     ensures { λ r. ⌜ OnTable nums r (now (rows .entry)) (now (rows .exit)) (Split party base len) ⌝ }
 {
     if !(party < 8) {
-        let answer = refused(4);
+        let answer = coded(4);
         return Stepped { answer, nums };
     }
     let moved = rows::split(rows, nums.count, party, base, len);
@@ -86,7 +73,7 @@ pub fn merge(mut nums: Numbers, rows: &mut [u64], party: u8, base: u16) -> Stepp
     ensures { λ r. ⌜ OnTable nums r (now (rows .entry)) (now (rows .exit)) (Merge party base) ⌝ }
 {
     if !(party < 8) {
-        let answer = refused(4);
+        let answer = coded(4);
         return Stepped { answer, nums };
     }
     let moved = rows::merge(rows, nums.count, party, base);
@@ -100,7 +87,7 @@ pub fn give(count: usize, rows: &mut [u64], party: u8, base: u16, to: u8) -> Ans
     ensures { λ r. ⌜ OnRows count r (now (rows .entry)) (now (rows .exit)) (Give party base to) ⌝ }
 {
     if !(party < 8) | !(to < 8) {
-        return refused(4);
+        return coded(4);
     }
     coded(operations::give(rows, count, party, base, to))
 }

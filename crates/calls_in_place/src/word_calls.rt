@@ -25,7 +25,8 @@ ghost use Rattle.calls.specs.declared.Call.the-variants.{Load, Store, Narrow, N
 ghost use Rattle.arrays.specs.Steps.{answer};
 ghost use Rattle.calls_in_place.specs.Parts.{OnWords, OnMemory, OnStore, OnMail, diesIn};
 
-pub fn refused(code: u8) -> Answer
+// The answer of a call that names no word: 0, or the refusal's number.
+pub fn coded(code: u8) -> Answer
     ensures { λ r. ⌜ r ≡ answer code empty ⌝ }
 {
     Answer {
@@ -51,7 +52,7 @@ pub fn number(words: &mut [u64], marks: &mut [u8], party: u8, d: u8, value: u64)
 {
     let code = first(4, !(party < 8) | !(d < 8), 0);
     if code != 0 {
-        return refused(code);
+        return coded(code);
     }
     let at = 8 * (party as usize) + d as usize;
     let word = Slot {
@@ -92,7 +93,7 @@ pub fn load(
     let place = lookup(nums.v, pages, base_of(from.cell) as u32 + off as u32);
     let code = load_code(party, a, d, from, off, place);
     if code != 0 {
-        return refused(code);
+        return coded(code);
     }
     let fetched = word_at(cells, tags, place_number(place));
     let word = loaded(from, fetched, dies(nums, fetched.cell));
@@ -121,7 +122,7 @@ pub fn store(
     let place = lookup(nums.v, pages, base_of(to.cell) as u32 + off as u32);
     let code = store_code(party, a, s, to, from, off, place);
     if code != 0 {
-        return refused(code);
+        return coded(code);
     }
     put_word(
         cells,
@@ -148,7 +149,7 @@ pub fn narrow(
     let from = register_in(words, marks, party, s);
     let code = narrow_code(party, s, d, from, off, len);
     if code != 0 {
-        return refused(code);
+        return coded(code);
     }
     let at = 8 * (party as usize) + d as usize;
     let word = Slot {
@@ -175,7 +176,7 @@ pub fn grant(
     let here = word_at(mail, flags, to as usize);
     let code = grant_code(party, s, to, from, here);
     if code != 0 {
-        return refused(code);
+        return coded(code);
     }
     put_word(mail, flags, to as usize, from);
     granted(empty())
@@ -195,7 +196,7 @@ pub fn receive(
     let here = word_at(mail, flags, party as usize);
     let code = receive_code(party, d, here);
     if code != 0 {
-        return refused(code);
+        return coded(code);
     }
     let at = 8 * (party as usize) + d as usize;
     put_word(words, marks, at, here);

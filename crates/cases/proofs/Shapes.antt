@@ -35,7 +35,7 @@ use Rattle.machine.specs.Formed.{wellFormed, answered}
 use Rattle.machine.specs.Roles.{plainPermissions}
 use Rattle.machine.specs.Reasons.{fetched, reasons}
 use Rattle.machine.specs.Effects.{Effect, effect}
-use Rattle.machine.specs.Step.{Outcome, left, refused, registersAfter, mailboxesAfter, writtenCells, writtenTags, cellsAfter, tagsAfter, done, reasonsOn, effectOn, ruled, judged, stepOf, withCore}
+use Rattle.machine.specs.Step.{Outcome, outcomeWith, refused, registersAfter, mailboxesAfter, writtenCells, writtenTags, cellsAfter, tagsAfter, done, reasonsOn, effectOn, ruled, judged, stepOf, withCore}
 use Rattle.cases.specs.Variants.{Obeys, instead, sweepBy, takeBy, maskBy, plainBy, splitBy, mergeBy, revokeBy, endBy, unmapBy, storeBy, loadBy, collectBy, createBy, claimBy, releaseBy, destroyBy, ruledBy, claimAgainst, destroyAgainst, toldBy}
 use Rattle.cases.specs.WrongClaims.{destroys}
 use Rattle.cases.specs.WrongMachines.{keptByte}
@@ -84,9 +84,9 @@ load-obeys =
     obeys-by 0x0B _
     (λ s x cells tags g.
     let a = registerOf (s .registers) (x 0) (x 1) in
-    let leaving : Slot → Outcome = λ w. left (answered 0 w (record { core = s .core; registers = set (s .registers) (8 * x 0 + x 3) w; mailboxes = s .mailboxes })) cells tags in
+    let leaving : Slot → Outcome = λ w. outcomeWith (answered 0 w (record { core = s .core; registers = set (s .registers) (8 * x 0 + x 3) w; mailboxes = s .mailboxes })) cells tags in
     let free = first-clear 4 ((unnamed (x 0) || unnamed (x 1)) || unnamed (x 3)) _ (λ z. omega arith) (g .clear) .1 in
-    ap (λ l. left (leaving (fetched (s .core) cells tags a (x 2)) .answer) cells l) (set-getD tags _ 0)
+    ap (λ l. outcomeWith (leaving (fetched (s .core) cells tags a (x 2)) .answer) cells l) (set-getD tags _ 0)
     ∙ sym (ap leaving (found-fetched (s .core) cells tags a (x 2) free)))
 
 pub collect-obeys : Obeys (collectBy collectedRegister collectedMailbox)

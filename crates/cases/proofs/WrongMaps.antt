@@ -16,13 +16,13 @@ use Rattle.maps.specs.declared.Question.the-variants.{Sharing, Within, Nearest}
 use Rattle.maps.specs.declared.Answer.{Answer}
 use Rattle.maps.specs.Cells.{shares, within, distance, beyond}
 use Rattle.maps.specs.Records.{tileFrom, cellsOf, badRecords}
-use Rattle.maps.specs.Questions.{listed, basesOf, candidate, nearer, nearest, answer, found, badQuestion, Left, left, put, granted, refused, askOf}
+use Rattle.maps.specs.Questions.{isListed, basesOf, candidate, nearer, nearest, answer, found, badQuestion, Response, response, put, grantedAnswer, isRefused, askOf}
 use Rattle.cases.specs.MapCases.{Program, stepping, alike, mixed, slice, Case, badRecordCases, badQuestionCases, listCases, nearestCases, cases, numbers, meetsBy, meets}
 use Rattle.cases.specs.WrongMaps.{grantedBy, askedBy, tileBy, recordsBy, questionBy, listBy, keepBy, foundBy, findBy, none, find, refuse, tileAnywhere, endsAt, wraps, sliceAlways, leading, stopsAtGap, backwards, falls, openOnly, allWithin, allShare, writesMore, clearsRest, lastOf, answersLast, tiesHigher, toBase, keepsFirst, takenToo, revokingToo, asksMore, longEnough, firstNearest, looksOnce, refusalWrites, refusesAll, answersAlike, Wrong, wrongRecords, wrongQuestions, wrongLists, wrongSearches, wrongWholes, programs, shown, Asks, NoneAsks}
 
 -- What the rule and the cases compute with, named once.
 unfoldable computing : ℕ
-unfolding shares within distance beyond filter tileFrom cellsOf badRecords listed basesOf nearest found badQuestion put granted refused askOf all meets meetsBy numbers same stepping alike mixed slice
+unfolding shares within distance beyond filter tileFrom cellsOf badRecords isListed basesOf nearest found badQuestion put grantedAnswer isRefused askOf all meets meetsBy numbers same stepping alike mixed slice
 computing = 0
 
 pub all-meet : all meets cases ≡ true
@@ -40,11 +40,11 @@ unfolding foundBy found
 found-rule c [] = refl
 found-rule c (r ∷ l) = ap (λ (b : Reservation). answer 0 1 (b .base)) (kept-rule c r l)
 
-granted-rule : (l : List Reservation) (q : Question) (bases : List ℕ) → grantedBy (listBy listed) put find l q bases ≡ granted l q bases
-unfolding grantedBy granted listBy basesOf findBy
+granted-rule : (l : List Reservation) (q : Question) (bases : List ℕ) → grantedBy (listBy isListed) put find l q bases ≡ grantedAnswer l q bases
+unfolding grantedBy grantedAnswer listBy basesOf findBy
 granted-rule l (Sharing first cells) bases = refl
 granted-rule l (Within first cells) bases = refl
-granted-rule l (Nearest cell cells) bases = ap (λ (a : Answer). left a bases) (found-rule cell (filter (candidate cells) l))
+granted-rule l (Nearest cell cells) bases = ap (λ (a : Answer). response a bases) (found-rule cell (filter (candidate cells) l))
 
 question-rule : (q : Question) (end room : ℕ) → questionBy none beyond 64 q end room ≡ badQuestion q end room
 unfolding questionBy badQuestion
@@ -63,10 +63,10 @@ records-rule : (l : List Reservation) → recordsBy true 64 (tileBy eqb (ltb 0))
 unfolding recordsBy badRecords
 records-rule l = ap (λ (t : Bool). (eqb (length l) 0 || ltb 64 (length l)) || (not t || ltb 4096 (cellsOf l))) (tile-rule 0 l)
 
-pub asked-rule : Asks (askedBy (recordsBy true 64 (tileBy eqb (ltb 0)) 4096) (questionBy none beyond 64) (listBy listed) put find refuse)
-unfolding askedBy refused askOf
+pub asked-rule : Asks (askedBy (recordsBy true 64 (tileBy eqb (ltb 0)) 4096) (questionBy none beyond 64) (listBy isListed) put find refuse)
+unfolding askedBy isRefused askOf
 asked-rule l q bases i =
-    pick (records-rule l i || question-rule q (cellsOf l) (length bases) i) (left (answer 25 0 0) bases) (granted-rule l q bases i)
+    pick (records-rule l i || question-rule q (cellsOf l) (length bases) i) (response (answer 25 0 0) bases) (granted-rule l q bases i)
 
 -- ---- The wrong programs
 pub all-shown : all shown programs ≡ true
@@ -76,7 +76,7 @@ all-shown = refl
 -- A program that leaves what the rule leaves meets each case that the rule meets.
 meeting : (program : Program) (c : Case) → Asks program → meetsBy program c ≡ meets c
 unfolding meets meetsBy
-meeting program c asks = ap (λ (o : Left). same (numbers o) (numbers (c .expected))) (asks (c .records) (c .question) (c .bases))
+meeting program c asks = ap (λ (o : Response). same (numbers o) (numbers (c .expected))) (asks (c .records) (c .question) (c .bases))
 
 misses : (w : Wrong) → shown w ≡ true → Asks (w .wrong) → ⊥
 unfolding shown

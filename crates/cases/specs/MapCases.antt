@@ -9,11 +9,11 @@ use Rattle.table.specs.declared.ReservationState.the-variants.{Open, Taken, Rev
 use Rattle.table.specs.Rows.{noTaker, reservation}
 use Rattle.maps.specs.declared.Question.{Question}
 use Rattle.maps.specs.declared.Question.the-variants.{Sharing, Within, Nearest}
-use Rattle.maps.specs.Questions.{answer, Left, left, askOf}
+use Rattle.maps.specs.Questions.{answer, Response, response, askOf}
 
 -- What answers questions: the type of the rule `askOf`.
 abbrev pub Program : Type 0
-Program = List Reservation → Question → List ℕ → Left
+Program = List Reservation → Question → List ℕ → Response
 
 -- ---- Records and slices
 abbrev pub openAt : ℕ → ℕ → Reservation
@@ -47,22 +47,22 @@ pub record Case : Type 0 where
   pub records : List Reservation
   pub question : Question
   pub bases : List ℕ
-  pub expected : Left
+  pub expected : Response
 
 -- Refused: 25, and nothing is written.
 abbrev pub refuses : List Reservation → Question → List ℕ → Case
-refuses l q bases = record { records = l; question = q; bases = bases; expected = left (answer 25 0 0) bases }
+refuses l q bases = record { records = l; question = q; bases = bases; expected = response (answer 25 0 0) bases }
 
 -- A list of so many bases at the front of a slice of 64.
 abbrev pub lists : List Reservation → Question → ℕ → List ℕ → Case
-lists l q count bases = record { records = l; question = q; bases = slice 64; expected = left (answer 0 count 0) (bases ++ slice (64 - count)) }
+lists l q count bases = record { records = l; question = q; bases = slice 64; expected = response (answer 0 count 0) (bases ++ slice (64 - count)) }
 
 -- One is found, and its base answered; or none. The slice, here of two, is not looked at.
 abbrev pub finds : List Reservation → ℕ → ℕ → ℕ → Case
-finds l cell cells base = record { records = l; question = Nearest cell cells; bases = slice 2; expected = left (answer 0 1 base) (slice 2) }
+finds l cell cells base = record { records = l; question = Nearest cell cells; bases = slice 2; expected = response (answer 0 1 base) (slice 2) }
 
 abbrev pub findsNone : List Reservation → ℕ → ℕ → Case
-findsNone l cell cells = record { records = l; question = Nearest cell cells; bases = slice 2; expected = left (answer 0 0 0) (slice 2) }
+findsNone l cell cells = record { records = l; question = Nearest cell cells; bases = slice 2; expected = response (answer 0 0 0) (slice 2) }
 
 -- ---- The cases
 -- What 25 names of the records.
@@ -115,7 +115,7 @@ listCases =
     ∷ lists (alike 1 4096) (Within 0 4096) 1 (0 ∷ [])
     -- Holder and taker are not judged. A slice may be longer than 64, and its rest is kept.
     ∷ lists (reservation 0 10 Taken 200 77 ∷ []) (Sharing 0 1) 1 (0 ∷ [])
-    ∷ record { records = mixed; question = Sharing 20 1; bases = slice 70; expected = left (answer 0 1 0) (20 ∷ slice 69) } ∷ []
+    ∷ record { records = mixed; question = Sharing 20 1; bases = slice 70; expected = response (answer 0 1 0) (20 ∷ slice 69) } ∷ []
 
 unfoldable pub nearestCases : List Case
 nearestCases =
@@ -148,7 +148,7 @@ unfoldable pub cases : List Case
 cases = badRecordCases ++ (badQuestionCases ++ (listCases ++ nearestCases))
 
 -- ---- Meeting them
-unfoldable pub numbers : Left → List ℕ
+unfoldable pub numbers : Response → List ℕ
 numbers o = o .answer .code ∷ o .answer .count ∷ o .answer .base ∷ o .bases
 
 -- A program leaves what the case expects.

@@ -29,7 +29,7 @@ use Rattle.machine.specs.State.{State}
 use Rattle.machine.specs.Formed.{wellFormed, answered}
 use Rattle.machine.specs.Reasons.{reads, addressed}
 use Rattle.machine.specs.Effects.{Effect, withTable, withPages, pageChange, claimsChange, taking}
-use Rattle.machine.specs.Step.{Outcome, left, refused, done, effectOn, withCore, stepOf, isGranted}
+use Rattle.machine.specs.Step.{Outcome, outcomeWith, refused, done, effectOn, withCore, stepOf, isGranted}
 
 -- What a step is: the type of the rule `stepOf`.
 abbrev pub Rule : Type 0
@@ -55,14 +55,14 @@ sweepBy sweep =
     (λ s c cells tags o.
     let p = sweep (s .core .pages) (revoked (s .core)) (s .core .place) (operand c 1) cells tags in
     let after = withCore s (withPlace (s .core) (p .answer .place)) in
-    left (answered (p .answer .code) (slot (p .answer .left) false) after) cells (p .tags))
+    outcomeWith (answered (p .answer .code) (slot (p .answer .left) false) after) cells (p .tags))
 
 unfoldable pub takeBy : (Table → ℕ → ℕ → Took) → Rule
 takeBy take =
     instead 0x01
     (λ s c cells tags o.
     let t = take (s .core .table) (operand c 0) (operand c 1) in
-    left (answered (t .code) (slot (t .length) false) (withCore (o .answer .state) (withTable (s .core) (t .table)))) cells tags)
+    outcomeWith (answered (t .code) (slot (t .length) false) (withCore (o .answer .state) (withTable (s .core) (t .table)))) cells tags)
 
 -- The rule, but that 11 gives other permissions for its mask, of the type of `permitted`, or 01 others.
 unfoldable pub maskBy : (ℕ → ℕ) → Rule
@@ -77,14 +77,14 @@ splitBy split =
     instead 0x02
     (λ s c cells tags o.
     let t = split (s .core .table) (operand c 0) (operand c 1) (operand c 2) in
-    left (answered (t .code) empty (withCore s (withTable (s .core) (t .table)))) cells tags)
+    outcomeWith (answered (t .code) empty (withCore s (withTable (s .core) (t .table)))) cells tags)
 
 unfoldable pub mergeBy : (Table → ℕ → ℕ → Tabled) → Rule
 mergeBy merge =
     instead 0x03
     (λ s c cells tags o.
     let t = merge (s .core .table) (operand c 0) (operand c 1) in
-    left (answered (t .code) empty (withCore s (withTable (s .core) (t .table)))) cells tags)
+    outcomeWith (answered (t .code) empty (withCore s (withTable (s .core) (t .table)))) cells tags)
 
 -- With another core left by a revoke or a collect, of the type of `revokeOf` or `collectOf`.
 unfoldable pub revokeBy : (Core → ℕ → ℕ → Cored) → Rule
@@ -92,21 +92,21 @@ revokeBy revoke =
     instead 0x05
     (λ s c cells tags o.
     let r = revoke (s .core) (operand c 0) (operand c 1) in
-    left (answered (r .code) empty (withCore s (r .core))) cells tags)
+    outcomeWith (answered (r .code) empty (withCore s (r .core))) cells tags)
 
 unfoldable pub endBy : (Core → Cored) → Rule
 endBy end =
     instead 0x07
     (λ s c cells tags o.
     let r = end (s .core) in
-    left (answered (r .code) empty (withCore (o .answer .state) (r .core))) cells tags)
+    outcomeWith (answered (r .code) empty (withCore (o .answer .state) (r .core))) cells tags)
 
 unfoldable pub unmapBy : (Pages → VirtualPage → Bool → Paged) → Rule
 unmapBy unmap =
     instead 0x09
     (λ s c cells tags o.
     let p = unmap (s .core .pages) (page (operand c 1)) (claimed (s .core .claims) (operand c 1)) in
-    left (answered (p .code) empty (withCore s (withPages (s .core) (p .pages)))) cells tags)
+    outcomeWith (answered (p .code) empty (withCore s (withPages (s .core) (p .pages)))) cells tags)
 
 -- The rule, but with another word put into the register by a load, or answered, of the type of `loaded`; or another tag byte left at the
 -- place that is read, where the rule leaves it.
@@ -118,7 +118,7 @@ loadBy register answer byte =
     let at = placeNumber (addressed (s .core) a (operand c 2)) in
     let w = wordAt cells tags at in
     let registers = set (s .registers) (8 * operand c 0 + operand c 3) (register (s .core) a w) in
-    left (answered 0 (answer (s .core) a w) (record { core = s .core; registers = registers; mailboxes = s .mailboxes })) cells
+    outcomeWith (answered 0 (answer (s .core) a w) (record { core = s .core; registers = registers; mailboxes = s .mailboxes })) cells
     (set tags at (byte (s .core) w (getD tags at 0))))
 
 -- The rule, but with another word stored, of the type of `stored`; or other words left by a collect, in registers and in
@@ -130,7 +130,7 @@ storeBy word =
     let r = reads (s .core) (s .registers) cells tags c in
     let w = word (s .core) (r .two) in
     let at = placeNumber (addressed (s .core) (r .one) (operand c 2)) in
-    left (o .answer) (set cells at (w .cell)) (set tags at (byteOf (w .tag))))
+    outcomeWith (o .answer) (set cells at (w .cell)) (set tags at (byteOf (w .tag))))
 
 unfoldable pub collectBy : (Core → Slot → Slot) → (Core → Slot → Slot) → Rule
 collectBy register mailbox =
@@ -138,7 +138,7 @@ collectBy register mailbox =
     (λ s c cells tags o.
     let words = map (register (s .core)) (s .registers) in
     let mail = map (mailbox (s .core)) (s .mailboxes) in
-    left (answered 0 empty (record { core = o .answer .state .core; registers = words; mailboxes = mail })) cells tags)
+    outcomeWith (answered 0 empty (record { core = o .answer .state .core; registers = words; mailboxes = mail })) cells tags)
 
 -- The rule, but with other claims left by a granted create, claim, release or destroy, of the type of `createOf`, `claimOf`, `releaseOf` or
 -- `destroyOf`.

@@ -36,11 +36,11 @@ use Rattle.calls.specs.declared.Call.the-variants.{Take, Split, Merge, Give, Re
 use Rattle.calls.specs.Commands.{page, frame}
 use Rattle.words.specs.declared.Slot.{Slot}
 use Rattle.words.specs.Words.{slot, empty, byteOf, tagOf, keepTag, loaded, stored, collectedRegister, collectedMailbox}
-use Rattle.words.specs.Lent.{cellsOf, bytesOf}
+use Rattle.words.specs.Lent.{cellsOf, tagBytes}
 use Rattle.machine.specs.Formed.{answered, startOf}
 use Rattle.machine.specs.Roles.{plainPermissions}
 use Rattle.machine.specs.Effects.{withClaims}
-use Rattle.machine.specs.Step.{Outcome, left, refused, withCore, stepOf}
+use Rattle.machine.specs.Step.{Outcome, outcomeWith, refused, withCore, stepOf}
 use Rattle.machine.specs.Forgetting.{startBare}
 use Rattle.cases.specs.Edges.{apart}
 use Rattle.cases.specs.Variants.{Rule, Obeys, sweepBy, takeBy, maskBy, plainBy, splitBy, mergeBy, revokeBy, endBy, unmapBy, storeBy, loadBy, collectBy, createBy, claimBy, releaseBy, destroyBy, claimAgainst, destroyAgainst, toldBy}
@@ -160,13 +160,13 @@ turnsDown s c cells tags =
 unfoldable pub answersAlike : Rule
 answersAlike s c cells tags =
     let o = stepOf s c cells tags in
-    left (answered 0 empty (o .answer .state)) (o .cells) (o .tags)
+    outcomeWith (answered 0 empty (o .answer .state)) (o .cells) (o .tags)
 
 -- "One that changes no state": answer and memory are the rule's.
 unfoldable pub keepsState : Rule
 keepsState s c cells tags =
     let o = stepOf s c cells tags in
-    left (answered (o .answer .code) (slot (o .answer .number) (o .answer .tag)) s) (o .cells) (o .tags)
+    outcomeWith (answered (o .answer .code) (slot (o .answer .number) (o .answer .tag)) s) (o .cells) (o .tags)
 
 -- "Sweeping memory and forgetting registers and mailboxes": a word that a collect forgets. "Dropping the store filter": a word
 -- that is stored as it is.
@@ -194,7 +194,7 @@ tellsTags s r place n cells tags =
 unfoldable pub refusalWrites : Rule
 refusalWrites s c cells tags =
     let o = stepOf s c cells tags in
-    left (o .answer) (pick (eqb (o .answer .code) 0) (o .cells) (set (o .cells) 0 0)) (o .tags)
+    outcomeWith (o .answer) (pick (eqb (o .answer .code) 0) (o .cells) (set (o .cells) 0 0)) (o .tags)
 
 -- A wrong machine, the same shape with the rule in the place of what is wrong, and what stands before a call, with the call.
 pub record Wrong : Type 0 where
@@ -212,7 +212,7 @@ after o [] = o
 after o (c ∷ rest) = after (stepOf (o .answer .state) c (o .cells) (o .tags)) rest
 
 unfoldable pub from : ℕ → List Call → Outcome
-from v calls = after (left (startOf v 1) (replicate 16 0) (replicate 16 0)) calls
+from v calls = after (outcomeWith (startOf v 1) (replicate 16 0) (replicate 16 0)) calls
 
 -- Party 0 takes cells 0 to 15 into register 0, and 16 to 31, which the frame shows, into register 1 with all permissions; there it stores a number
 -- at offset 0 and the first capability at offset 5, which it also grants to party 3.
@@ -248,7 +248,7 @@ counted n =
     let o = from 2 [] in
     let s = o .answer .state in
     let k = withCount (withUnspent (s .core .claims) 0 8191) 0 0 n in
-    left (answered 0 empty (withCore s (withClaims (s .core) k))) (o .cells) (o .tags)
+    outcomeWith (answered 0 empty (withCore s (withClaims (s .core) k))) (o .cells) (o .tags)
 
 unfoldable pub machines : List Wrong
 machines =
@@ -309,8 +309,8 @@ numbers o =
     ++ (map (λ e. frameCode (e .state)) (p .frames)
     ++ (rowNumbers (s .core .table)
     ++ (cellsOf (s .registers)
-    ++ (bytesOf (s .registers)
-    ++ (cellsOf (s .mailboxes) ++ (bytesOf (s .mailboxes) ++ (claimNumbers (s .core .claims) ++ (o .cells ++ o .tags)))))))))
+    ++ (tagBytes (s .registers)
+    ++ (cellsOf (s .mailboxes) ++ (tagBytes (s .mailboxes) ++ (claimNumbers (s .core .claims) ++ (o .cells ++ o .tags)))))))))
 
 abbrev pub leaves : Rule → Wrong → Outcome
 leaves m w = m (w .before .answer .state) (w .call) (w .before .cells) (w .before .tags)

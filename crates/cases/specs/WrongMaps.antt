@@ -14,21 +14,21 @@ use Rattle.maps.specs.declared.Question.{Question}
 use Rattle.maps.specs.declared.Question.the-variants.{Sharing, Within, Nearest}
 use Rattle.maps.specs.Cells.{span, shares, within, distance, beyond}
 use Rattle.maps.specs.Records.{tileFrom, cellsOf, badRecords}
-use Rattle.maps.specs.Questions.{listed, basesOf, candidate, nearer, nearest, answer, badQuestion, Left, left, put, askOf}
+use Rattle.maps.specs.Questions.{isListed, basesOf, candidate, nearer, nearest, answer, badQuestion, Response, response, put, askOf}
 use Rattle.maps.specs.Promises.{apart}
 use Rattle.cases.specs.MapCases.{Program, openAt, alike, mixed, slice, Case, refuses, lists, finds, meets, meetsBy}
 
 -- ---- The rule in parts
 -- What is granted, by a list, its writing and a search.
-unfoldable pub grantedBy : (Question → List Reservation → List ℕ) → (List ℕ → List ℕ → Left) → (ℕ → ℕ → List Reservation → Answer) → Program
+unfoldable pub grantedBy : (Question → List Reservation → List ℕ) → (List ℕ → List ℕ → Response) → (ℕ → ℕ → List Reservation → Answer) → Program
 grantedBy list write find l (Sharing first cells) bases = write (list (Sharing first cells) l) bases
 grantedBy list write find l (Within first cells) bases = write (list (Within first cells) l) bases
-grantedBy list write find l (Nearest cell cells) bases = left (find cell cells l) bases
+grantedBy list write find l (Nearest cell cells) bases = response (find cell cells l) bases
 
 -- All of it, by a test of the records, one of the question, those three, and a refusal, which is handed what would be granted.
 unfoldable pub askedBy :
-    (List Reservation → Bool) → (Question → ℕ → ℕ → Bool) → (Question → List Reservation → List ℕ) → (List ℕ → List ℕ → Left) → (ℕ → ℕ → List Reservation → Answer)
-    → (Left → List ℕ → Left) → Program
+    (List Reservation → Bool) → (Question → ℕ → ℕ → Bool) → (Question → List Reservation → List ℕ) → (List ℕ → List ℕ → Response) → (ℕ → ℕ → List Reservation → Answer)
+    → (Response → List ℕ → Response) → Program
 askedBy records question list write find refuse l q bases =
     pick (records l || question q (cellsOf l) (length bases)) (refuse (grantedBy list write find l q bases) bases) (grantedBy list write find l q bases)
 
@@ -70,8 +70,8 @@ none n = eqb n 0
 abbrev pub find : ℕ → ℕ → List Reservation → Answer
 find = findBy candidate nearer
 
-abbrev pub refuse : Left → List ℕ → Left
-refuse granted bases = left (answer 25 0 0) bases
+abbrev pub refuse : Response → List ℕ → Response
+refuse granted bases = response (answer 25 0 0) bases
 
 -- The rule with one part as given.
 abbrev pub byRecords : (List Reservation → Bool) → Program
@@ -83,13 +83,13 @@ byQuestion f = askedBy badRecords f basesOf put find refuse
 abbrev pub byList : (Question → List Reservation → List ℕ) → Program
 byList f = askedBy badRecords badQuestion f put find refuse
 
-abbrev pub byWriting : (List ℕ → List ℕ → Left) → Program
+abbrev pub byWriting : (List ℕ → List ℕ → Response) → Program
 byWriting f = askedBy badRecords badQuestion basesOf f find refuse
 
 abbrev pub bySearch : (ℕ → ℕ → List Reservation → Answer) → Program
 bySearch f = askedBy badRecords badQuestion basesOf put f refuse
 
-abbrev pub byRefusal : (Left → List ℕ → Left) → Program
+abbrev pub byRefusal : (Response → List ℕ → Response) → Program
 byRefusal f = askedBy badRecords badQuestion basesOf put find f
 
 -- ---- Wrong parts
@@ -115,7 +115,7 @@ leading P [] = []
 leading P (x ∷ l) = pick (P x) (x ∷ leading P l) []
 
 unfoldable pub stopsAtGap : Question → List Reservation → List ℕ
-stopsAtGap q l = map (λ r. r .base) (leading (λ r. listed q (rangeOf r)) l)
+stopsAtGap q l = map (λ r. r .base) (leading (λ r. isListed q (rangeOf r)) l)
 
 unfoldable pub backwards : List ℕ → List ℕ
 backwards [] = []
@@ -139,18 +139,18 @@ allShare (Within first cells) p = shares p (span first cells)
 allShare (Nearest cell cells) p = false
 
 -- Of the writing: one entry more is written, the rest is cleared, or the last base is answered instead of the length.
-unfoldable pub writesMore : List ℕ → List ℕ → Left
-writesMore l bases = left (answer 0 (length l) 0) (l ++ (0 ∷ drop (length l + 1) bases))
+unfoldable pub writesMore : List ℕ → List ℕ → Response
+writesMore l bases = response (answer 0 (length l) 0) (l ++ (0 ∷ drop (length l + 1) bases))
 
-unfoldable pub clearsRest : List ℕ → List ℕ → Left
-clearsRest l bases = left (answer 0 (length l) 0) (l ++ replicate (length bases - length l) 0)
+unfoldable pub clearsRest : List ℕ → List ℕ → Response
+clearsRest l bases = response (answer 0 (length l) 0) (l ++ replicate (length bases - length l) 0)
 
 unfoldable pub lastOf : ℕ → List ℕ → ℕ
 lastOf n [] = n
 lastOf n (b ∷ l) = lastOf b l
 
-unfoldable pub answersLast : List ℕ → List ℕ → Left
-answersLast l bases = left (answer 0 (lastOf 0 l) 0) (l ++ drop (length l) bases)
+unfoldable pub answersLast : List ℕ → List ℕ → Response
+answersLast l bases = response (answer 0 (lastOf 0 l) 0) (l ++ drop (length l) bases)
 
 -- Of the search: ties go to the higher base, the distance is to the base, or the first one is kept.
 unfoldable pub tiesHigher : ℕ → Reservation → Reservation → Bool
@@ -185,15 +185,15 @@ unfoldable pub looksOnce : ℕ → ℕ → List Reservation → Answer
 looksOnce c n l = firstNearest c n (filter (candidate 0) l)
 
 -- A refusal that writes the list.
-unfoldable pub refusalWrites : Left → List ℕ → Left
-refusalWrites granted bases = left (answer 25 0 0) (granted .bases)
+unfoldable pub refusalWrites : Response → List ℕ → Response
+refusalWrites granted bases = response (answer 25 0 0) (granted .bases)
 
 -- One that refuses everything, and one that answers alike.
 unfoldable pub refusesAll : Program
-refusesAll l q bases = left (answer 25 0 0) bases
+refusesAll l q bases = response (answer 25 0 0) bases
 
 unfoldable pub answersAlike : Program
-answersAlike l q bases = left (answer 0 0 0) bases
+answersAlike l q bases = response (answer 0 0 0) bases
 
 -- ---- The wrong programs
 -- A wrong program, the rule in the same shape, and a case that the first one does not meet.
@@ -235,8 +235,8 @@ wrongLists =
     wrongly byList stopsAtGap basesOf (lists mixed (Sharing 10 50) 4 (10 ∷ 20 ∷ 25 ∷ 40 ∷ []))
     ∷ wrongly byList falls basesOf (lists mixed (Sharing 19 2) 2 (10 ∷ 20 ∷ []))
     ∷ wrongly byList openOnly basesOf (lists mixed (Sharing 19 2) 2 (10 ∷ 20 ∷ []))
-    ∷ wrongly (λ test. byList (listBy test)) allWithin listed (lists mixed (Sharing 19 2) 2 (10 ∷ 20 ∷ []))
-    ∷ wrongly (λ test. byList (listBy test)) allShare listed (lists mixed (Within 42 5) 0 [])
+    ∷ wrongly (λ test. byList (listBy test)) allWithin isListed (lists mixed (Sharing 19 2) 2 (10 ∷ 20 ∷ []))
+    ∷ wrongly (λ test. byList (listBy test)) allShare isListed (lists mixed (Within 42 5) 0 [])
     ∷ wrongly byWriting writesMore put (lists mixed (Sharing 42 5) 1 (40 ∷ []))
     ∷ wrongly byWriting clearsRest put (lists mixed (Sharing 42 5) 1 (40 ∷ []))
     ∷ wrongly byWriting answersLast put (lists mixed (Sharing 42 5) 1 (40 ∷ [])) ∷ []

@@ -21,8 +21,8 @@ use Rattle.arrays.proofs.Starting.{begun, fresh-in, fresh-out}
 use Rattle.formed.specs.Test.{formedOf, sized}
 use Rattle.formed.specs.Fresh.{Start, starting, startIn}
 use Rattle.formed.proofs.Tested.{tested, passing}
-use Rattle.session_rules.specs.Session.{ending}
-use Rattle.step.specs.Entries.{Told, commandJudgedOn, commandOn}
+use Rattle.session_rules.specs.Session.{endsSession}
+use Rattle.step.specs.Entries.{RanOn, commandJudgedOn, commandOn}
 use Rattle.entries.specs.Runs.{Run, answerNumbers, resting, preceded, runOn, runIn}
 use Rattle.step.proofs.Commanding.{command-unformed, command-formed}
 use Rattle.step.proofs.Running.{ran-formed}
@@ -50,8 +50,8 @@ module _ (P : Arrays → Type 0) (input : List ℕ) (keeps : (a : Arrays) → P 
       let q = keeps a p at cells tags in
       let rest = runOn room (l .arrays) input (at + t .used) (l .cells) (l .tags) in
       let stop = resting (at + t .used) (l .arrays) (l .cells) (l .tags) in
-      either (λ (r : Run). P (r .arrays)) (ltb at (length input)) (preceded 1 (answerNumbers (l .answer) (t .used)) (pick (ending (l .answer .code)) stop rest)) (resting at a cells tags)
-      (either (λ (r : Run). P (r .arrays)) (ending (l .answer .code)) stop rest q (run-keeps room (l .arrays) q (at + t .used) (l .cells) (l .tags))) p
+      either (λ (r : Run). P (r .arrays)) (ltb at (length input)) (preceded 1 (answerNumbers (l .answer) (t .used)) (pick (endsSession (l .answer .code)) stop rest)) (resting at a cells tags)
+      (either (λ (r : Run). P (r .arrays)) (endsSession (l .answer .code)) stop rest q (run-keeps room (l .arrays) q (at + t .used) (l .cells) (l .tags))) p
 
 -- V, F and the range are 16-bit numbers by their type; so are the other two.
 pub record Fits (n : Numbers) : Type 0 where
@@ -70,12 +70,12 @@ formed-fits a f =
 pub command-fits : (a : Arrays) → Fits (a .nums) → (input : List ℕ) (at : ℕ) (cells tags : List ℕ) → Fits (commandOn a input at cells tags .left .arrays .nums)
 command-fits a h input at cells tags = go (formedOf a) refl
   where
-    t : Told
+    t : RanOn
     t = commandOn a input at cells tags
 
     go : (b : Bool) → formedOf a ≡ b → Fits (t .left .arrays .nums)
     go true d = formed-fits (t .left .arrays) (tested (t .left .arrays) (command-formed-on a d input at cells tags))
-    go false d = subst (λ (x : Told). Fits (x .left .arrays .nums)) (command-unformed a cells tags input at d) h
+    go false d = subst (λ (x : RanOn). Fits (x .left .arrays .nums)) (command-unformed a cells tags input at d) h
 
 pub run-fits : (a : Arrays) → Fits (a .nums) → (input : List ℕ) (at : ℕ) (cells tags answers : List ℕ) → Fits (runIn a input at cells tags answers .arrays .nums)
 unfolding runIn

@@ -22,7 +22,7 @@ use Rattle.arrays.proofs.RoundTrip.{written-formed}
 use Rattle.formed.specs.Test.{formedOf, sized}
 use Rattle.formed.proofs.Tested.{tested, passing}
 use Rattle.cost.specs.Asked.{costOn}
-use Rattle.step.specs.Entries.{Told, commandOn}
+use Rattle.step.specs.Entries.{RanOn, commandOn}
 use Rattle.entries.specs.Runs.{runIn}
 use Rattle.step.proofs.Commanding.{command-unformed}
 use Rattle.cetomuhi.specs.Lent.{Lent, small, numbersFrom, arraysIn, arraysOver}
@@ -67,7 +67,7 @@ start-lent-formed v f l e = go fit refl
         let z : ⊥ = omega (arith, y) in absurd z
 
 module _ (l : Lent) (input : List ℕ) (at : ℕ) (cells tags answers : List ℕ) (room : 4 ≤ length answers) where
-  abbrev t : Told
+  abbrev t : RanOn
   t = commandOn (arraysIn l) input at cells tags
 
   ran : commandLent l input at cells tags answers ≡ doneOne t l answers
@@ -82,7 +82,7 @@ module _ (l : Lent) (input : List ℕ) (at : ℕ) (cells tags answers : List ℕ
   pub command-lent-refused : formedLent l ≡ false → commandLent l input at cells tags answers ≡ done 1 l cells tags (1 ∷ 0 ∷ 0 ∷ 0 ∷ drop 4 answers)
   unfolding formedLent
   command-lent-refused e =
-      ran ∙ ap (λ (x : Told). doneOne x l answers) (sym (command-unformed (arraysIn l) cells tags input at e))
+      ran ∙ ap (λ (x : RanOn). doneOne x l answers) (sym (command-unformed (arraysIn l) cells tags input at e))
       ∙ ap (λ (x : Lent). done 1 x cells tags (1 ∷ 0 ∷ 0 ∷ 0 ∷ drop 4 answers)) (lent-back l)
 
   -- A command keeps a state well formed.

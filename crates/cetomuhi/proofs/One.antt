@@ -12,14 +12,14 @@ use Rattle.arrays.specs.declared.Arrays.{Arrays}
 use Rattle.arrays.specs.Steps.{answer, leaving}
 use Rattle.formed.specs.Test.{formedOf}
 use Rattle.formed.proofs.Tested.{tested}
-use Rattle.step.specs.Entries.{Told, telling, commandOn}
-use Rattle.entries.specs.Runs.{Run, answerNumbers, running, runOn, runIn}
+use Rattle.step.specs.Entries.{RanOn, ranOn, commandOn}
+use Rattle.entries.specs.Runs.{Run, answerNumbers, runOf, runOn, runIn}
 use Rattle.step.proofs.Commanding.{fits, command-none, command-unfit, command-unformed, command-formed}
 use Rattle.entries.proofs.Composing.{once, run-one}
 use Rattle.cetomuhi.specs.Exports.{endCode}
 
 module _ (a : Arrays) (input : List ℕ) (at : ℕ) (cells tags : List ℕ) where
-  abbrev t : Told
+  abbrev t : RanOn
   t = commandOn a input at cells tags
 
   -- A run with room for one answer is the command.
@@ -28,15 +28,15 @@ module _ (a : Arrays) (input : List ℕ) (at : ℕ) (cells tags : List ℕ) wher
   run-of-one h buffer e =
       ap (λ (n : ℕ). laid (runOn (n / 4) a input at cells tags)) e
       ∙ ap laid (run-one input a at cells tags h)
-      ∙ ap (λ (l : List ℕ). running 1 (at + t .used) (t .left .arrays) (t .left .cells) (t .left .tags) (answerNumbers (t .left .answer) (t .used) ++ l))
+      ∙ ap (λ (l : List ℕ). runOf 1 (at + t .used) (t .left .arrays) (t .left .cells) (t .left .tags) (answerNumbers (t .left .answer) (t .used) ++ l))
       (drop-of-length-le buffer {i = 4} (omega (arith, e)))
     where
       laid : Run → Run
-      laid r = running (r .done) (r .at) (r .arrays) (r .cells) (r .tags) (r .answers ++ drop (length (r .answers)) buffer)
+      laid r = runOf (r .done) (r .at) (r .arrays) (r .cells) (r .tags) (r .answers ++ drop (length (r .answers)) buffer)
 
   -- A refusal that leaves all as it is.
-  abbrev turned : ℕ → Told
-  turned code = telling (leaving (answer code empty) a cells tags) 0
+  abbrev turned : ℕ → RanOn
+  turned code = ranOn (leaving (answer code empty) a cells tags) 0
 
   code-is : (b d : Bool) → formedOf a ≡ b → fits a cells tags ≡ d → endCode a cells tags ≡ pick (not b) 1 (pick (not d) 2 3)
   unfolding endCode

@@ -9,9 +9,9 @@ use Rattle.table.specs.Numbers.{rowFrom}
 use Rattle.maps.specs.declared.Question.{Question}
 use Rattle.maps.specs.declared.Question.the-variants.{Nearest}
 use Rattle.maps.specs.declared.Answer.{Answer}
-use Rattle.maps.specs.Questions.{Left, left, askOf}
+use Rattle.maps.specs.Questions.{Response, response, askOf}
 use Rattle.maps.proofs.Asking.{no-slice}
-use Rattle.cetomuhi.specs.Maps.{listed, putIf, listedBy, listLent, Sited, sited, nearestLent}
+use Rattle.cetomuhi.specs.Maps.{listAnswer, putIf, listedBy, listLent, Sited, sited, nearestLent}
 
 put-granted : (code new old : ℕ) → code ≡ 0 → new ≡ putIf code new old
 put-granted code new old e = sym (pick-yes (eqb code 0) new old (eq-eqb code 0 e))
@@ -19,18 +19,18 @@ put-granted code new old e = sym (pick-yes (eqb code 0) new old (eq-eqb code 0 e
 put-refused : (code new old : ℕ) → (code ≡ 0 → ⊥) → old ≡ putIf code new old
 put-refused code new old e = sym (kept code new old e)
 
-module _ (rows : List ℕ) (q : Question) (count : ℕ) (bases : List ℕ) (a : Answer) (after : List ℕ) (e : left a after ≡ askOf (map rowFrom rows) q bases) where
-  pub list-granted : a .code ≡ 0 → listed (a .code) (a .count) after ≡ listLent rows q count bases
+module _ (rows : List ℕ) (q : Question) (count : ℕ) (bases : List ℕ) (a : Answer) (after : List ℕ) (e : response a after ≡ askOf (map rowFrom rows) q bases) where
+  pub list-granted : a .code ≡ 0 → listAnswer (a .code) (a .count) after ≡ listLent rows q count bases
   unfolding listLent
-  list-granted z = ap (λ (n : ℕ). listed (a .code) n after) (put-granted (a .code) (a .count) count z) ∙ ap (λ (o : Left). listedBy o count) e
+  list-granted z = ap (λ (n : ℕ). listAnswer (a .code) n after) (put-granted (a .code) (a .count) count z) ∙ ap (λ (o : Response). listedBy o count) e
 
-  pub list-refused : (a .code ≡ 0 → ⊥) → listed (a .code) count after ≡ listLent rows q count bases
+  pub list-refused : (a .code ≡ 0 → ⊥) → listAnswer (a .code) count after ≡ listLent rows q count bases
   unfolding listLent
-  list-refused z = ap (λ (n : ℕ). listed (a .code) n after) (put-refused (a .code) (a .count) count z) ∙ ap (λ (o : Left). listedBy o count) e
+  list-refused z = ap (λ (n : ℕ). listAnswer (a .code) n after) (put-refused (a .code) (a .count) count z) ∙ ap (λ (o : Response). listedBy o count) e
 
-module _ (rows : List ℕ) (cell cells found base : ℕ) (bases : List ℕ) (a : Answer) (after : List ℕ) (e : left a after ≡ askOf (map rowFrom rows) (Nearest cell cells) bases) where
+module _ (rows : List ℕ) (cell cells found base : ℕ) (bases : List ℕ) (a : Answer) (after : List ℕ) (e : response a after ≡ askOf (map rowFrom rows) (Nearest cell cells) bases) where
   same : a ≡ askOf (map rowFrom rows) (Nearest cell cells) [] .answer
-  same = ap (λ (o : Left). o .answer) e ∙ no-slice (map rowFrom rows) cell cells bases
+  same = ap (λ (o : Response). o .answer) e ∙ no-slice (map rowFrom rows) cell cells bases
 
   -- What is put of an answer alone.
   abbrev by : Answer → Sited

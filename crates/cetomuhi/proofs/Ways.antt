@@ -19,8 +19,8 @@ use Rattle.arrays.specs.Reading.{arrays, arraysOf}
 use Rattle.arrays.specs.Steps.{answer}
 use Rattle.formed.specs.Test.{sized}
 use Rattle.formed.specs.Fresh.{Start, starting, startIn}
-use Rattle.step.specs.Entries.{Told, commandOn}
-use Rattle.entries.specs.Runs.{Run, answerNumbers, running, runIn}
+use Rattle.step.specs.Entries.{RanOn, commandOn}
+use Rattle.entries.specs.Runs.{Run, answerNumbers, runOf, runIn}
 use Rattle.cetomuhi.specs.Lent.{Lent, lent, numbersFrom, numbersOver, arraysIn, arraysOver}
 use Rattle.cetomuhi.proofs.Writing.{lent-back}
 use Rattle.cetomuhi.proofs.One.{run-of-one, command-ended}
@@ -71,7 +71,7 @@ module _ (l : Lent) where
             ∙ ap (started 1) (lent-back l) ∙ kept (six false z)
 
   module _ (input : List ℕ) (at : ℕ) (cells tags answers : List ℕ) where
-    abbrev t : Told
+    abbrev t : RanOn
     t = commandOn (arraysIn l) input at cells tags
 
     pub command-none : length answers < 4 → done 0 l cells tags answers ≡ commandLent l input at cells tags answers
@@ -84,7 +84,7 @@ module _ (l : Lent) where
 
     -- A run of one, whose answer was put into the first four.
     pub command-ran : 4 ≤ length answers → at < length input → (n : Numbers) → n ≡ numbersFrom (l .numbers)
-        → (k at′ : ℕ) (b : Arrays) (cells′ tags′ front : List ℕ) → running k at′ b cells′ tags′ front ≡ runIn (with-numbers n) input at cells tags (take 4 answers)
+        → (k at′ : ℕ) (b : Arrays) (cells′ tags′ front : List ℕ) → runOf k at′ b cells′ tags′ front ≡ runIn (with-numbers n) input at cells tags (take 4 answers)
         → (numbers : List ℕ) → numbers ≡ numbersOver (b .nums) (l .numbers)
         → done k (over numbers b) cells′ tags′ (front ++ drop 4 answers) ≡ commandLent l input at cells tags answers
     command-ran h m n e k at′ b cells′ tags′ front d numbers q =
@@ -102,11 +102,11 @@ module _ (l : Lent) where
         ap (λ (x : List ℕ). done 1 l cells tags x) p
         ∙ ap (λ (x : Answer). done 1 l cells tags (answerNumbers x 0 ++ drop 4 answers)) (d ∙ ap (λ (x : Numbers). answer (endCode (with-numbers x) cells tags) empty) e)
         ∙ ap (λ (x : Lent). done 1 x cells tags (answerNumbers (answer (endCode (arraysIn l) cells tags) empty) 0 ++ drop 4 answers)) (sym (lent-back l))
-        ∙ ap (λ (x : Told). doneOne x l answers) (command-ended (arraysIn l) input at cells tags m)
+        ∙ ap (λ (x : RanOn). doneOne x l answers) (command-ended (arraysIn l) input at cells tags m)
         ∙ one h
 
     pub commands-ran : (n : Numbers) → n ≡ numbersFrom (l .numbers)
-        → (k at′ : ℕ) (b : Arrays) (cells′ tags′ answers′ : List ℕ) → running k at′ b cells′ tags′ answers′ ≡ runIn (with-numbers n) input at cells tags answers
+        → (k at′ : ℕ) (b : Arrays) (cells′ tags′ answers′ : List ℕ) → runOf k at′ b cells′ tags′ answers′ ≡ runIn (with-numbers n) input at cells tags answers
         → (numbers : List ℕ) → numbers ≡ numbersOver (b .nums) (l .numbers)
         → reached at′ (done k (over numbers b) cells′ tags′ answers′) ≡ commandsLent l input at cells tags answers
     unfolding commandsLent

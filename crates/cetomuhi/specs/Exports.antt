@@ -11,7 +11,7 @@ use Rattle.arrays.specs.declared.Arrays.{Arrays}
 use Rattle.arrays.specs.Reading.{arraysOf}
 use Rattle.formed.specs.Test.{formedOf, sized}
 use Rattle.cost.specs.Asked.{costOn}
-use Rattle.step.specs.Entries.{Told, commandOn}
+use Rattle.step.specs.Entries.{RanOn, commandOn}
 use Rattle.entries.specs.Runs.{answerNumbers, runIn}
 use Rattle.cetomuhi.specs.Lent.{Lent, arraysIn, arraysOver}
 
@@ -60,7 +60,7 @@ endCode a cells tags =
     pick (not (formedOf a)) 1 (pick (not (eqb (length cells) (16 * a .nums .f) && eqb (length tags) (16 * a .nums .f))) 2 3)
 
 -- One command was done, and its answer stands first among the answers.
-abbrev pub doneOne : Told → Lent → List ℕ → Done
+abbrev pub doneOne : RanOn → Lent → List ℕ → Done
 doneOne t l answers = done 1 (arraysOver (t .left .arrays) l) (t .left .cells) (t .left .tags) (answerNumbers (t .left .answer) (t .used) ++ drop 4 answers)
 
 -- One command on what is lent; without room for its answer nothing is done.

@@ -13,26 +13,26 @@ use Rattle.arrays.specs.Reading.{stateOf}
 use Rattle.maps.specs.declared.Question.{Question}
 use Rattle.maps.specs.declared.Question.the-variants.{Nearest}
 use Rattle.maps.specs.Records.{badRecords}
-use Rattle.maps.specs.Questions.{Left, askOf}
+use Rattle.maps.specs.Questions.{Response, askOf}
 
 -- What a list leaves: the code, its length, and the slice.
-pub record Listed : Type 0 where
+pub record ListAnswer : Type 0 where
   pub code : ℕ
   pub count : ℕ
   pub bases : List ℕ
 
-abbrev pub listed : ℕ → ℕ → List ℕ → Listed
-listed code count bases = record { code = code; count = count; bases = bases }
+abbrev pub listAnswer : ℕ → ℕ → List ℕ → ListAnswer
+listAnswer code count bases = record { code = code; count = count; bases = bases }
 
 -- A number that is put if the code is 0: "nothing is then written".
 abbrev pub putIf : ℕ → ℕ → ℕ → ℕ
 putIf code new old = pick (eqb code 0) new old
 
-abbrev pub listedBy : Left → ℕ → Listed
-listedBy o count = listed (o .answer .code) (putIf (o .answer .code) (o .answer .count) count) (o .bases)
+abbrev pub listedBy : Response → ℕ → ListAnswer
+listedBy o count = listAnswer (o .answer .code) (putIf (o .answer .code) (o .answer .count) count) (o .bases)
 
 -- By the rule, of the records that the numbers read as.
-unfoldable pub listLent : List ℕ → Question → ℕ → List ℕ → Listed
+unfoldable pub listLent : List ℕ → Question → ℕ → List ℕ → ListAnswer
 listLent rows q count bases = listedBy (askOf (map rowFrom rows) q bases) count
 
 -- What the search for the nearest leaves: the code, whether there is one, and its base.
@@ -44,7 +44,7 @@ pub record Sited : Type 0 where
 abbrev pub sited : ℕ → ℕ → ℕ → Sited
 sited code found base = record { code = code; found = found; base = base }
 
-abbrev pub sitedBy : Left → ℕ → ℕ → Sited
+abbrev pub sitedBy : Response → ℕ → ℕ → Sited
 sitedBy o found base = sited (o .answer .code) (putIf (o .answer .code) (o .answer .count) found) (putIf (o .answer .code) (o .answer .base) base)
 
 unfoldable pub nearestLent : List ℕ → ℕ → ℕ → ℕ → ℕ → Sited

@@ -3,11 +3,11 @@ use maps::Question;
 use maps::numbers::ask_numbers;
 ghost use mathlib.Core.Path.{_≡_};
 ghost use Rattle.maps.specs.declared.Question.the-variants.{Sharing, Within};
-ghost use Rattle.cetomuhi.specs.Maps.{listed, listLent, sited, nearestLent};
+ghost use Rattle.cetomuhi.specs.Maps.{listAnswer, listLent, sited, nearestLent};
 
 // A list: its code is answered, and its length is put.
 fn put_list(rows: &[u64], question: Question, bases: &mut [u16], count: &mut u64) -> u8
-    ensures { λ r. ⌜ listed r (now (count .exit)) (now (bases .exit)) ≡ listLent (now (rows .entry)) question (now (count .entry)) (now (bases .entry)) ⌝ }
+    ensures { λ r. ⌜ listAnswer r (now (count .exit)) (now (bases .exit)) ≡ listLent (now (rows .entry)) question (now (count .entry)) (now (bases .entry)) ⌝ }
 {
     let answer = ask_numbers(rows, question, bases);
     if answer.code == 0 {
@@ -25,7 +25,7 @@ pub extern "C" fn cetomuhi_sharing(
     bases: &mut [u16],
     count: &mut u64,
 ) -> u8
-    ensures { λ r. ⌜ listed r (now (count .exit)) (now (bases .exit)) ≡ listLent (now (rows .entry)) (Sharing first cells) (now (count .entry)) (now (bases .entry)) ⌝ }
+    ensures { λ r. ⌜ listAnswer r (now (count .exit)) (now (bases .exit)) ≡ listLent (now (rows .entry)) (Sharing first cells) (now (count .entry)) (now (bases .entry)) ⌝ }
 {
     put_list(rows, Question::Sharing { first, cells }, bases, count)
 }
@@ -39,7 +39,7 @@ pub extern "C" fn cetomuhi_within(
     bases: &mut [u16],
     count: &mut u64,
 ) -> u8
-    ensures { λ r. ⌜ listed r (now (count .exit)) (now (bases .exit)) ≡ listLent (now (rows .entry)) (Within first cells) (now (count .entry)) (now (bases .entry)) ⌝ }
+    ensures { λ r. ⌜ listAnswer r (now (count .exit)) (now (bases .exit)) ≡ listLent (now (rows .entry)) (Within first cells) (now (count .entry)) (now (bases .entry)) ⌝ }
 {
     put_list(rows, Question::Within { first, cells }, bases, count)
 }

@@ -19,10 +19,10 @@ use Rattle.arrays.specs.Steps.{leaving}
 use Rattle.formed.proofs.Tested.{passing}
 use Rattle.lines.specs.Laid.{Laid}
 use Rattle.lines.proofs.Laying.{laid-none, laid-one, laid-three, laid-both}
-use Rattle.session_rules.specs.Session.{ending}
+use Rattle.session_rules.specs.Session.{endsSession}
 use Rattle.session_rules.proofs.Sessions.{command-used}
-use Rattle.step.specs.Entries.{OnFormed, Told, telling, commandJudgedOn, commandOn}
-use Rattle.entries.specs.Runs.{answerNumbers, Run, running, resting, preceded, runOn, runIn}
+use Rattle.step.specs.Entries.{OnFormed, RanOn, ranOn, commandJudgedOn, commandOn}
+use Rattle.entries.specs.Runs.{answerNumbers, Run, runOf, resting, preceded, runOn, runIn}
 use Rattle.step.proofs.Commanding.{command-formed}
 use Rattle.step.proofs.Running.{Kept, kept, commanded, ran-formed, ran-on, ran-sized}
 
@@ -40,25 +40,25 @@ laid-answer r used place tag buffer e h =
 pub preceded-twice : (n m : ℕ) (xs ys : List ℕ) (r : Run) → preceded n xs (preceded m ys r) ≡ preceded (n + m) (xs ++ ys) r
 preceded-twice n m xs ys r =
     let sum : n + (m + r .done) ≡ n + m + r .done = omega arith in
-    ap (λ (k : ℕ). running k (r .at) (r .arrays) (r .cells) (r .tags) (xs ++ (ys ++ r .answers))) sum
-    ∙ ap (λ (l : List ℕ). running (n + m + r .done) (r .at) (r .arrays) (r .cells) (r .tags) l) (sym (append-assoc xs ys (r .answers)))
+    ap (λ (k : ℕ). runOf k (r .at) (r .arrays) (r .cells) (r .tags) (xs ++ (ys ++ r .answers))) sum
+    ∙ ap (λ (l : List ℕ). runOf (n + m + r .done) (r .at) (r .arrays) (r .cells) (r .tags) l) (sym (append-assoc xs ys (r .answers)))
 
 pub preceded-none : (r : Run) → preceded 0 [] r ≡ r
-preceded-none r = let sum : 0 + r .done ≡ r .done = omega arith in ap (λ (k : ℕ). running k (r .at) (r .arrays) (r .cells) (r .tags) (r .answers)) sum
+preceded-none r = let sum : 0 + r .done ≡ r .done = omega arith in ap (λ (k : ℕ). runOf k (r .at) (r .arrays) (r .cells) (r .tags) (r .answers)) sum
 
-pub preceded-rest : (n : ℕ) (xs : List ℕ) (at : ℕ) (a : Arrays) (cells tags : List ℕ) → preceded n xs (resting at a cells tags) ≡ running n at a cells tags xs
+pub preceded-rest : (n : ℕ) (xs : List ℕ) (at : ℕ) (a : Arrays) (cells tags : List ℕ) → preceded n xs (resting at a cells tags) ≡ runOf n at a cells tags xs
 preceded-rest n xs at a cells tags =
     let sum : n + 0 ≡ n = omega arith in
-    ap (λ (k : ℕ). running k at a cells tags (xs ++ [])) sum ∙ ap (λ (l : List ℕ). running n at a cells tags l) (append-nil xs)
+    ap (λ (k : ℕ). runOf k at a cells tags (xs ++ [])) sum ∙ ap (λ (l : List ℕ). runOf n at a cells tags l) (append-nil xs)
 
 -- A command and what comes after it.
 module _ (input : List ℕ) (at : ℕ) where
-  abbrev pub onward : ℕ → Told → Run
+  abbrev pub onward : ℕ → RanOn → Run
   onward room t =
-      pick (ending (t .left .answer .code)) (resting (at + t .used) (t .left .arrays) (t .left .cells) (t .left .tags))
+      pick (endsSession (t .left .answer .code)) (resting (at + t .used) (t .left .arrays) (t .left .cells) (t .left .tags))
       (runOn room (t .left .arrays) input (at + t .used) (t .left .cells) (t .left .tags))
 
-  abbrev pub next : ℕ → Told → Run
+  abbrev pub next : ℕ → RanOn → Run
   next room t = preceded 1 (answerNumbers (t .left .answer) (t .used)) (onward room t)
 
   module _ (room : ℕ) (a : Arrays) (cells tags : List ℕ) where
@@ -86,14 +86,14 @@ module _ (input : List ℕ) (at : ℕ) where
 
 -- A run whose answers are laid first in the buffer.
 module _ (a₀ : Arrays) (input : List ℕ) (at₀ : ℕ) (cells₀ tags₀ buffer : List ℕ) where
-  pub run-laid : (done at : ℕ) (a : Arrays) (cells tags written : List ℕ) → runOn (length buffer / 4) a₀ input at₀ cells₀ tags₀ ≡ running done at a cells tags written
-      → (end : ℕ) (after : List ℕ) → Laid written 0 buffer end after → end ≤ length buffer → running done at a cells tags after ≡ runIn a₀ input at₀ cells₀ tags₀ buffer
+  pub run-laid : (done at : ℕ) (a : Arrays) (cells tags written : List ℕ) → runOn (length buffer / 4) a₀ input at₀ cells₀ tags₀ ≡ runOf done at a cells tags written
+      → (end : ℕ) (after : List ℕ) → Laid written 0 buffer end after → end ≤ length buffer → runOf done at a cells tags after ≡ runIn a₀ input at₀ cells₀ tags₀ buffer
   unfolding runIn
   run-laid done at a cells tags written e end after p h =
       let zero-is : 0 + length written ≡ length written = omega arith in
-      ap (λ (l : List ℕ). running done at a cells tags l)
+      ap (λ (l : List ℕ). runOf done at a cells tags l)
       (p .fits (omega (arith, p .ends)) ∙ ap (λ (n : ℕ). written ++ drop n buffer) zero-is)
-      ∙ ap (λ (r : Run). running (r .done) (r .at) (r .arrays) (r .cells) (r .tags) (r .answers ++ drop (length (r .answers)) buffer)) (sym e)
+      ∙ ap (λ (r : Run). runOf (r .done) (r .at) (r .arrays) (r .cells) (r .tags) (r .answers ++ drop (length (r .answers)) buffer)) (sym e)
 
 -- Whether a run does a command at all.
 abbrev pub ready : List ℕ → ℕ → List ℕ → Bool
@@ -101,7 +101,7 @@ ready input at buffer = ltb at (length input) && leb 4 (length buffer)
 
 -- A run that does none, and one whose first command is refused before it is read.
 module _ (a : Arrays) (input : List ℕ) (at : ℕ) (cells tags buffer : List ℕ) where
-  pub run-unready : ready input at buffer ≡ false → running 0 at a cells tags buffer ≡ runIn a input at cells tags buffer
+  pub run-unready : ready input at buffer ≡ false → runOf 0 at a cells tags buffer ≡ runIn a input at cells tags buffer
   run-unready e =
       run-laid a input at cells tags buffer 0 at a cells tags [] (go (ltb at (length input)) refl e) 0 buffer (laid-none 0 buffer) (omega arith)
     where
@@ -113,8 +113,8 @@ module _ (a : Arrays) (input : List ℕ) (at : ℕ) (cells tags buffer : List �
     pub ready-room : 4 ≤ length buffer
     ready-room = leb-true 4 (length buffer) (and-right (ltb at (length input)) (leb 4 (length buffer)) e)
 
-    pub run-refused : (r : Answer) → telling (leaving r a cells tags) 0 ≡ commandOn a input at cells tags → ending (r .code) ≡ true → (after : List ℕ)
-        → Laid (answerNumbers r 0) 0 buffer 4 after → running 1 at a cells tags after ≡ runIn a input at cells tags buffer
+    pub run-refused : (r : Answer) → ranOn (leaving r a cells tags) 0 ≡ commandOn a input at cells tags → endsSession (r .code) ≡ true → (after : List ℕ)
+        → Laid (answerNumbers r 0) 0 buffer 4 after → runOf 1 at a cells tags after ≡ runIn a input at cells tags buffer
     run-refused r told stop after put =
         let k = length buffer / 4 - 1 in
         let one : length buffer / 4 ≡ suc k = omega (arith, ready-room) in
@@ -123,9 +123,9 @@ module _ (a : Arrays) (input : List ℕ) (at : ℕ) (cells tags buffer : List �
         (ap (λ (j : ℕ). runOn j a input at cells tags) one
         ∙ run-next input at k a cells tags (ltb-true at (length input) (and-left (ltb at (length input)) (leb 4 (length buffer)) e))
         ∙ ap (next input at k) (sym told)
-        ∙ ap (preceded 1 (answerNumbers r 0)) (pick-yes (ending (r .code)) (resting (at + 0) a cells tags) (runOn k a input (at + 0) cells tags) stop)
+        ∙ ap (preceded 1 (answerNumbers r 0)) (pick-yes (endsSession (r .code)) (resting (at + 0) a cells tags) (runOn k a input (at + 0) cells tags) stop)
         ∙ preceded-rest 1 (answerNumbers r 0) (at + 0) a cells tags
-        ∙ ap (λ (j : ℕ). running 1 j a cells tags (answerNumbers r 0)) stays) 4 after put ready-room
+        ∙ ap (λ (j : ℕ). runOf 1 j a cells tags (answerNumbers r 0)) stays) 4 after put ready-room
 
 -- How far a run on arrays has come: what is written, and what is left to do.
 pub record Coming (input : List ℕ) (a₀ : Arrays) (at₀ : ℕ) (cells₀ tags₀ buffer : List ℕ) (room : ℕ) (a : Arrays) (cells tags answers : List ℕ) (at done : ℕ) : Type 0 where
@@ -159,7 +159,7 @@ coming input a at cells tags buffer f m = record {
 
 module _ {input : List ℕ} {a₀ : Arrays} {at₀ : ℕ} {cells₀ tags₀ buffer : List ℕ} {room : ℕ} {a : Arrays} {cells tags answers : List ℕ} {at done : ℕ}
     (g : Coming input a₀ at₀ cells₀ tags₀ buffer room a cells tags answers at done) where
-  pub came : ltb at (length input) && ltb done room ≡ false → running done at a cells tags answers ≡ runIn a₀ input at₀ cells₀ tags₀ buffer
+  pub came : ltb at (length input) && ltb done room ≡ false → runOf done at a cells tags answers ≡ runIn a₀ input at₀ cells₀ tags₀ buffer
   came e =
       run-laid a₀ input at₀ cells₀ tags₀ buffer done at a cells tags (g .written)
       (ap (λ (k : ℕ). runOn k a₀ input at₀ cells₀ tags₀) (sym (g .spaces)) ∙ g .is ∙ ap (preceded done (g .written)) (run-over input at a cells tags done room e)
@@ -178,15 +178,15 @@ module _ {input : List ℕ} {a₀ : Arrays} {at₀ : ℕ} {cells₀ tags₀ buff
 
     -- One turn of the loop.
     module _ {r : Answer} {a′ : Arrays} {cells′ tags′ : List ℕ} {n : ℕ}
-        (promise : OnFormed a cells tags (telling (leaving r a′ cells′ tags′) n ≡ commandJudgedOn a input at cells tags)) where
-      abbrev e : telling (leaving r a′ cells′ tags′) n ≡ commandJudgedOn a input at cells tags
+        (promise : OnFormed a cells tags (ranOn (leaving r a′ cells′ tags′) n ≡ commandJudgedOn a input at cells tags)) where
+      abbrev e : ranOn (leaving r a′ cells′ tags′) n ≡ commandJudgedOn a input at cells tags
       e = promise (g .formed) (g .fits)
 
       on : ran (commanded r a′ n) cells′ tags′ ≡ commandOf (stateOf a) input at cells tags
       on = ran-on a (g .formed) input at cells tags r a′ cells′ tags′ n e
 
-      told : telling (leaving r a′ cells′ tags′) n ≡ commandOn a input at cells tags
-      told = command-formed a cells tags input at (passing a (g .formed)) (telling (leaving r a′ cells′ tags′) n) e
+      told : ranOn (leaving r a′ cells′ tags′) n ≡ commandOn a input at cells tags
+      told = command-formed a cells tags input at (passing a (g .formed)) (ranOn (leaving r a′ cells′ tags′) n) e
 
       pub formed-on : Formed a′
       formed-on = ran-formed a (g .formed) input at cells tags r a′ cells′ tags′ n e
@@ -212,14 +212,14 @@ module _ {input : List ℕ} {a₀ : Arrays} {at₀ : ℕ} {cells₀ tags₀ buff
       tags-on = tags-same ∙ g .of-tags
 
       split : runOn room a₀ input at₀ cells₀ tags₀
-          ≡ preceded (done + 1) (g .written ++ answerNumbers r n) (onward input at (room - (done + 1)) (telling (leaving r a′ cells′ tags′) n))
+          ≡ preceded (done + 1) (g .written ++ answerNumbers r n) (onward input at (room - (done + 1)) (ranOn (leaving r a′ cells′ tags′) n))
       split =
           let k = room - (done + 1) in
           let one : room - done ≡ suc k = omega (arith, roomy) in
           g .is
           ∙ ap (preceded done (g .written))
           (ap (λ (j : ℕ). runOn j a input at cells tags) one ∙ run-next input at k a cells tags more ∙ ap (next input at k) (sym told))
-          ∙ preceded-twice done 1 (g .written) (answerNumbers r n) (onward input at k (telling (leaving r a′ cells′ tags′) n))
+          ∙ preceded-twice done 1 (g .written) (answerNumbers r n) (onward input at k (ranOn (leaving r a′ cells′ tags′) n))
 
       module _ {answers′ : List ℕ} (put : Laid (answerNumbers r n) (4 * done) answers (4 * done + 4) answers′) where
         pub size-on : length answers′ ≡ length buffer
@@ -231,16 +231,16 @@ module _ {input : List ℕ} {a₀ : Arrays} {at₀ : ℕ} {cells₀ tags₀ buff
             subst (λ (k : ℕ). Laid (g .written ++ answerNumbers r n) 0 buffer k answers′) four
             (laid-both (g .written) (answerNumbers r n) 0 (4 * done) (4 * done + 4) buffer answers answers′ (g .laid) put)
 
-        pub stops : ending (r .code) ≡ true → running (done + 1) (at + n) a′ cells′ tags′ answers′ ≡ runIn a₀ input at₀ cells₀ tags₀ buffer
+        pub stops : endsSession (r .code) ≡ true → runOf (done + 1) (at + n) a′ cells′ tags′ answers′ ≡ runIn a₀ input at₀ cells₀ tags₀ buffer
         stops z =
             run-laid a₀ input at₀ cells₀ tags₀ buffer (done + 1) (at + n) a′ cells′ tags′ (g .written ++ answerNumbers r n)
             (ap (λ (k : ℕ). runOn k a₀ input at₀ cells₀ tags₀) (sym (g .spaces)) ∙ split
             ∙ ap (preceded (done + 1) (g .written ++ answerNumbers r n))
-            (pick-yes (ending (r .code)) (resting (at + n) a′ cells′ tags′) (runOn (room - (done + 1)) a′ input (at + n) cells′ tags′) z)
+            (pick-yes (endsSession (r .code)) (resting (at + n) a′ cells′ tags′) (runOn (room - (done + 1)) a′ input (at + n) cells′ tags′) z)
             ∙ preceded-rest (done + 1) (g .written ++ answerNumbers r n) (at + n) a′ cells′ tags′)
             (4 * (done + 1)) answers′ laid (omega (arith, roomy, g .spaces))
 
-        pub comes-on : ending (r .code) ≡ false → Coming input a₀ at₀ cells₀ tags₀ buffer room a′ cells′ tags′ answers′ (at + n) (done + 1)
+        pub comes-on : endsSession (r .code) ≡ false → Coming input a₀ at₀ cells₀ tags₀ buffer room a′ cells′ tags′ answers′ (at + n) (done + 1)
         comes-on z =
             let f-same : a′ .nums .f ≡ a .nums .f = ran-sized a (g .formed) input at cells tags r a′ cells′ tags′ n e in
             record {
@@ -255,6 +255,6 @@ module _ {input : List ℕ} {a₀ : Arrays} {at₀ : ℕ} {cells₀ tags₀ buff
               is =
                   split
                   ∙ ap (preceded (done + 1) (g .written ++ answerNumbers r n))
-                  (pick-no (ending (r .code)) (resting (at + n) a′ cells′ tags′) (runOn (room - (done + 1)) a′ input (at + n) cells′ tags′) z);
+                  (pick-no (endsSession (r .code)) (resting (at + n) a′ cells′ tags′) (runOn (room - (done + 1)) a′ input (at + n) cells′ tags′) z);
               laid = laid;
             }

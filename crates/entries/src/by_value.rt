@@ -8,8 +8,8 @@ use arrays::Answer;
 use arrays::Arrays;
 use arrays::Numbers;
 use calls::Call;
+use calls_in_place::word_calls::coded;
 use calls_in_place::word_calls::granted;
-use calls_in_place::word_calls::refused;
 use cost::Costed;
 use cost::page_cost;
 use formed::formed;
@@ -23,7 +23,7 @@ ghost use Rattle.claims.specs.Cost.{cost};
 ghost use Rattle.machine.specs.Cost.{costed};
 ghost use Rattle.formed.specs.Test.{formedOf};
 ghost use Rattle.cost.specs.Asked.{costOn};
-ghost use Rattle.step.specs.Entries.{stepOn, telling, commandOn};
+ghost use Rattle.step.specs.Entries.{stepOn, ranOn, commandOn};
 ghost use Rattle.entries.specs.ByValue.{beginning, commanding, startOn};
 
 // A state with nothing in it but its small numbers, its rows and its principals.
@@ -86,7 +86,7 @@ impl State {
             length: 0,
         };
         let state = bare(nums, rows, principals);
-        let answer = refused(1);
+        let answer = coded(1);
         Answered { answer, state }
     }
 
@@ -204,7 +204,7 @@ impl State {
         cells: &mut [u64],
         tags: &mut [u8],
     ) -> Commanded
-        ensures { λ r. ⌜ telling (leaving (r .answer) (r .state .arrays) (now (cells .exit)) (now (tags .exit))) (r .used) ≡ commandOn (self .arrays) (now (input .entry)) at (now (cells .entry)) (now (tags .entry)) ⌝ }
+        ensures { λ r. ⌜ ranOn (leaving (r .answer) (r .state .arrays) (now (cells .exit)) (now (tags .exit))) (r .used) ≡ commandOn (self .arrays) (now (input .entry)) at (now (cells .entry)) (now (tags .entry)) ⌝ }
     {
         let a = self.arrays;
         let mut words = a.words;

@@ -5,7 +5,7 @@ use arrays::Arrays;
 use arrays::Numbers;
 use calls::Call;
 use calls_in_place::Stepped;
-use calls_in_place::word_calls::refused;
+use calls_in_place::word_calls::coded;
 use formed::formed;
 use step::Ended;
 use step::command;
@@ -13,7 +13,7 @@ use step::step;
 ghost use mathlib.Core.Path.{_≡_};
 ghost use Rattle.arrays.specs.Reading.{arrays};
 ghost use Rattle.arrays.specs.Steps.{leaving};
-ghost use Rattle.step.specs.Entries.{stepOn, telling, commandOn};
+ghost use Rattle.step.specs.Entries.{stepOn, ranOn, commandOn};
 
 mod by_value;
 pub mod runs;
@@ -66,12 +66,12 @@ pub fn call_in(
         principals,
         counts,
     ) {
-        let answer = refused(1);
+        let answer = coded(1);
         return Stepped { answer, nums };
     }
     let size = 16 * (nums.f as usize);
     if !((cells.len() == size) & (tags.len() == size)) {
-        let answer = refused(2);
+        let answer = coded(2);
         return Stepped { answer, nums };
     }
     step(
@@ -108,7 +108,7 @@ pub fn command_in(
     cells: &mut [u64],
     tags: &mut [u8],
 ) -> Ended
-    ensures { λ r. ⌜ telling (leaving (r .answer) (arrays (r .nums) (now (words .exit)) (now (marks .exit)) (now (mail .exit)) (now (flags .exit)) (now (rows .exit)) (now (pages .exit)) (now (frames .exit)) (now (principals .exit)) (now (counts .exit))) (now (cells .exit)) (now (tags .exit))) (r .used) ≡ commandOn (arrays nums (now (words .entry)) (now (marks .entry)) (now (mail .entry)) (now (flags .entry)) (now (rows .entry)) (now (pages .entry)) (now (frames .entry)) (now (principals .entry)) (now (counts .entry))) (now (input .entry)) at (now (cells .entry)) (now (tags .entry)) ⌝ }
+    ensures { λ r. ⌜ ranOn (leaving (r .answer) (arrays (r .nums) (now (words .exit)) (now (marks .exit)) (now (mail .exit)) (now (flags .exit)) (now (rows .exit)) (now (pages .exit)) (now (frames .exit)) (now (principals .exit)) (now (counts .exit))) (now (cells .exit)) (now (tags .exit))) (r .used) ≡ commandOn (arrays nums (now (words .entry)) (now (marks .entry)) (now (mail .entry)) (now (flags .entry)) (now (rows .entry)) (now (pages .entry)) (now (frames .entry)) (now (principals .entry)) (now (counts .entry))) (now (input .entry)) at (now (cells .entry)) (now (tags .entry)) ⌝ }
 {
     if !formed(
         nums,
@@ -122,13 +122,13 @@ pub fn command_in(
         principals,
         counts,
     ) {
-        let answer = refused(1);
+        let answer = coded(1);
         let used = 0;
         return Ended { answer, nums, used };
     }
     let size = 16 * (nums.f as usize);
     if !((cells.len() == size) & (tags.len() == size)) {
-        let answer = refused(2);
+        let answer = coded(2);
         let used = 0;
         return Ended { answer, nums, used };
     }

@@ -1,7 +1,7 @@
 // Many commands in place, with the state tested once: a step keeps it well formed, so that a second test would say nothing new.
 use arrays::Answer;
 use arrays::Numbers;
-use calls_in_place::word_calls::refused;
+use calls_in_place::word_calls::coded;
 use formed::formed;
 use session_rules::ends;
 use step::command;
@@ -12,7 +12,7 @@ ghost use Rattle.words.specs.Words.{empty};
 ghost use Rattle.arrays.specs.Reading.{arrays, Formed};
 ghost use Rattle.arrays.specs.Steps.{answer as answering};
 ghost use Rattle.lines.specs.Laid.{Laid};
-ghost use Rattle.entries.specs.Runs.{answerNumbers, running, runIn, ranTo};
+ghost use Rattle.entries.specs.Runs.{answerNumbers, runOf, runIn, ranTo};
 
 // What a run hands back: the small numbers, how many commands it did, and the place in the input that it reached. The arrays are
 // changed where they lie.
@@ -39,7 +39,7 @@ fn refuse(nums: Numbers, at: usize, code: u8, answers: &mut [u64]) -> Ran
     ensures { λ r. ⌜ r ≡ ranTo nums 1 at ⌝ }
     ensures { λ _. ⌜ Laid (answerNumbers (answering code empty) 0) 0 (now (answers .entry)) 4 (now (answers .exit)) ⌝ }
 {
-    put_answer(answers, 0, refused(code), 0);
+    put_answer(answers, 0, coded(code), 0);
     Ran { nums, done: 1, at }
 }
 
@@ -63,7 +63,7 @@ fn run(
 ) -> Ran
     requires { ⌜ Formed (arrays start (now words) (now marks) (now mail) (now flags) (now rows) (now pages) (now frames) (now principals) (now counts)) ⌝ }
     requires { ⌜ (length (now cells) ≡ 16 * start .f) × (length (now tags) ≡ 16 * start .f) ⌝ }
-    ensures { λ r. ⌜ running (r .done) (r .at) (arrays (r .nums) (now (words .exit)) (now (marks .exit)) (now (mail .exit)) (now (flags .exit)) (now (rows .exit)) (now (pages .exit)) (now (frames .exit)) (now (principals .exit)) (now (counts .exit))) (now (cells .exit)) (now (tags .exit)) (now (answers .exit)) ≡ runIn (arrays start (now (words .entry)) (now (marks .entry)) (now (mail .entry)) (now (flags .entry)) (now (rows .entry)) (now (pages .entry)) (now (frames .entry)) (now (principals .entry)) (now (counts .entry))) (now (input .entry)) begin (now (cells .entry)) (now (tags .entry)) (now (answers .entry)) ⌝ }
+    ensures { λ r. ⌜ runOf (r .done) (r .at) (arrays (r .nums) (now (words .exit)) (now (marks .exit)) (now (mail .exit)) (now (flags .exit)) (now (rows .exit)) (now (pages .exit)) (now (frames .exit)) (now (principals .exit)) (now (counts .exit))) (now (cells .exit)) (now (tags .exit)) (now (answers .exit)) ≡ runIn (arrays start (now (words .entry)) (now (marks .entry)) (now (mail .entry)) (now (flags .entry)) (now (rows .entry)) (now (pages .entry)) (now (frames .entry)) (now (principals .entry)) (now (counts .entry))) (now (input .entry)) begin (now (cells .entry)) (now (tags .entry)) (now (answers .entry)) ⌝ }
 {
     let room = answers.len() / 4;
     let mut nums = start;
@@ -118,7 +118,7 @@ pub fn commands_in(
     tags: &mut [u8],
     answers: &mut [u64],
 ) -> Ran
-    ensures { λ r. ⌜ running (r .done) (r .at) (arrays (r .nums) (now (words .exit)) (now (marks .exit)) (now (mail .exit)) (now (flags .exit)) (now (rows .exit)) (now (pages .exit)) (now (frames .exit)) (now (principals .exit)) (now (counts .exit))) (now (cells .exit)) (now (tags .exit)) (now (answers .exit)) ≡ runIn (arrays nums (now (words .entry)) (now (marks .entry)) (now (mail .entry)) (now (flags .entry)) (now (rows .entry)) (now (pages .entry)) (now (frames .entry)) (now (principals .entry)) (now (counts .entry))) (now (input .entry)) at (now (cells .entry)) (now (tags .entry)) (now (answers .entry)) ⌝ }
+    ensures { λ r. ⌜ runOf (r .done) (r .at) (arrays (r .nums) (now (words .exit)) (now (marks .exit)) (now (mail .exit)) (now (flags .exit)) (now (rows .exit)) (now (pages .exit)) (now (frames .exit)) (now (principals .exit)) (now (counts .exit))) (now (cells .exit)) (now (tags .exit)) (now (answers .exit)) ≡ runIn (arrays nums (now (words .entry)) (now (marks .entry)) (now (mail .entry)) (now (flags .entry)) (now (rows .entry)) (now (pages .entry)) (now (frames .entry)) (now (principals .entry)) (now (counts .entry))) (now (input .entry)) at (now (cells .entry)) (now (tags .entry)) (now (answers .entry)) ⌝ }
 {
     if !((at < input.len()) & (4 <= answers.len())) {
         return Ran { nums, done: 0, at };

@@ -23,7 +23,7 @@ use Rattle.machine.specs.WrongMachines.{untouched}
 use Rattle.machine.proofs.Computing.{computing}
 use Rattle.histories.specs.Runs.{Machine, machine, outcome, next, run, begun}
 use Rattle.histories.specs.Live.{virtual, wordIn}
-use Rattle.histories.specs.Restoring.{eachBelow, manyBelow, ending, finishing, taking, merging, destroying, releasing, unclaiming, everyPage, unmapping, revoking, _andThen_, restoring}
+use Rattle.histories.specs.Restoring.{eachBelow, manyBelow, sweepAndCollect, finishing, taking, merging, destroying, releasing, unclaiming, everyPage, unmapping, revoking, _andThen_, restoring}
 use Rattle.histories.specs.Manager.{unmappingAll, takingBack}
 use Rattle.examples.proofs.Histories.{start}
 use Rattle.examples.proofs.Restoring.{swept, counted}
@@ -69,11 +69,11 @@ dropsNothing c p = c
 
 -- The revocation of cells 0 to 15 in its middle is brought to its end; with that collect it is not.
 pub ends :
-    map (λ step. leaves step [] swept (ending 1)) (stepOf ∷ endBy staysRevoking ∷ [])
+    map (λ step. leaves step [] swept (sweepAndCollect 1)) (stepOf ∷ endBy staysRevoking ∷ [])
     ≡ left (0 ∷ 0 ∷ []) (reservation 0 16 Open 0 9 ∷ reservation 16 16 Open 0 9 ∷ []) Unmapped Unmapped 0
     ∷ left (0 ∷ 0 ∷ []) (reservation 0 16 Revoking 0 0 ∷ reservation 16 16 Open 0 9 ∷ []) Unmapped Unmapped 0
     ∷ []
-unfolding leaves tagged cellsShown swept start ending instead endBy outcome next run begun computing
+unfolding leaves tagged cellsShown swept start sweepAndCollect instead endBy outcome next run begun computing
 ends = refl
 
 -- The page that three principals count is unmapped; not without the destroys and releases, and not if a destroy drops nothing.
@@ -95,7 +95,7 @@ house =
     ∷ Create 0 0 4 100 3 ∷ Claim 3 4 (page 0) ∷ Claim 0 0 (page 0) ∷ [])
 
 pub taking-back : takingBack 0 house ≡ Destroy 0 4 ∷ Release 0 0 (page 0) ∷ Unmap 0 (page 0) ∷ Revoke 0 0 ∷ Sweep 0 16 ∷ Collect 0 ∷ []
-unfolding house start eachBelow manyBelow ending destroying releasing unclaiming unmapping revoking _andThen_ takingBack outcome next run begun computing
+unfolding house start eachBelow manyBelow sweepAndCollect destroying releasing unclaiming unmapping revoking _andThen_ takingBack outcome next run begun computing
 taking-back = refl
 
 -- It is taken back; not without the unmap, and not by a collect that forgets registers.
@@ -105,7 +105,7 @@ pub back :
     ∷ left (0 ∷ 0 ∷ 13 ∷ 11 ∷ 11 ∷ []) (reservation 0 16 Taken 0 3 ∷ reservation 16 16 Open 7 9 ∷ []) (Mapped (frame 0)) Unmapped 3
     ∷ left (0 ∷ 0 ∷ 0 ∷ 0 ∷ 0 ∷ 0 ∷ []) (reservation 0 16 Open 0 9 ∷ reservation 16 16 Open 7 9 ∷ []) Unmapped Unmapped 1
     ∷ []
-unfolding leaves tagged cellsShown house start eachBelow manyBelow ending destroying releasing unclaiming unmapping revoking _andThen_ takingBack instead collectBy outcome next run begun computing
+unfolding leaves tagged cellsShown house start eachBelow manyBelow sweepAndCollect destroying releasing unclaiming unmapping revoking _andThen_ takingBack instead collectBy outcome next run begun computing
 back = refl
 
 -- What leads back from there leaves no live capability; without the last revoke it leaves those of the house and of the takes.
@@ -114,7 +114,7 @@ pub none-live :
     ≡ left (0 ∷ 0 ∷ 0 ∷ 0 ∷ 0 ∷ 0 ∷ 0 ∷ 0 ∷ []) (reservation 0 32 Open 0 9 ∷ []) Unmapped Unmapped 0
     ∷ left (0 ∷ 0 ∷ 0 ∷ 0 ∷ 0 ∷ []) (reservation 0 32 Taken 0 8 ∷ []) Freed Unmapped 3
     ∷ []
-unfolding leaves tagged cellsShown house start eachBelow manyBelow ending finishing taking merging destroying releasing unclaiming unmapping revoking _andThen_ restoring outcome next run begun computing
+unfolding leaves tagged cellsShown house start eachBelow manyBelow sweepAndCollect finishing taking merging destroying releasing unclaiming unmapping revoking _andThen_ restoring outcome next run begun computing
 none-live = refl
 
 -- What party 0 cannot do alone. Party 5 has taken cells 0 to 7, and party 3 holds cells 8 to 31 Open, which share a page with them.

@@ -12,14 +12,14 @@ use Rattle.table.specs.Rows.{live}
 use Rattle.maps.specs.declared.Question.the-variants.{Sharing}
 use Rattle.maps.specs.Cells.{shares, beyond}
 use Rattle.maps.specs.Records.{tileFrom, cellsOf, badRecords}
-use Rattle.maps.specs.Questions.{listed, basesOf, badQuestion, put, granted, refused, Left, askOf}
+use Rattle.maps.specs.Questions.{isListed, basesOf, badQuestion, put, grantedAnswer, isRefused, Response, askOf}
 use Rattle.calls.specs.declared.Call.{Call}
 use Rattle.calls.specs.declared.Call.the-variants.{Split, Give, Map, Zero, Store, Number, TakeMasked}
 use Rattle.calls.specs.Commands.{page, frame}
 use Rattle.machine.specs.Reasons.{reads}
 use Rattle.machine.specs.Effects.{withTable}
 use Rattle.machine.specs.Formed.{answered}
-use Rattle.machine.specs.Step.{left, withCore}
+use Rattle.machine.specs.Step.{outcomeWith, withCore}
 use Rattle.machine.specs.Variants.{Rule, instead}
 use Rattle.words.specs.Words.{empty}
 use Rattle.histories.specs.Runs.{Machine, machine, begun}
@@ -52,7 +52,7 @@ splitsOdd =
     (λ s c cells tags o.
     let n = reads (s .core) (s .registers) cells tags c .two .cell in
     let other = withTable (s .core) (splitOf (s .core .table) 0 16 8 .table) in
-    pick (eqb (n % 2) 1) (left (answered 0 empty (withCore s other)) (o .cells) (o .tags)) o)
+    pick (eqb (n % 2) 1) (outcomeWith (answered 0 empty (withCore s other)) (o .cells) (o .tags)) o)
 
 -- What a list of calls leaves by another rule.
 unfoldable pub runBy : Rule → Machine → List Call → Machine
@@ -65,11 +65,11 @@ abbrev leaves : List Call → Machine
 leaves after = runBy splitsOdd (begun 2 1 (replicate 16 0) (replicate 16 0)) (kept .before ++ (kept .take ∷ after))
 
 -- Those that share cells with the 32 of the map.
-abbrev asked : Machine → Left
+abbrev asked : Machine → Response
 asked m = askOf (live (m .state .core .table)) (Sharing 0 32) (replicate 64 0)
 
 unfoldable noticing : ℕ
-unfolding instead splitsOdd runBy shares beyond filter tileFrom cellsOf badRecords listed basesOf badQuestion put granted refused askOf comparing
+unfolding instead splitsOdd runBy shares beyond filter tileFrom cellsOf badRecords isListed basesOf badQuestion put grantedAnswer isRefused askOf comparing
 noticing = 0
 
 two-listed : asked (leaves (ones (kept .after))) .answer .count ≡ 2

@@ -23,7 +23,7 @@ use Rattle.machine.specs.State.{State}
 use Rattle.machine.specs.Formed.{answered}
 use Rattle.machine.specs.Roles.{Sources, fills, plain, asked}
 use Rattle.machine.specs.Effects.{withClaims}
-use Rattle.machine.specs.Step.{Outcome, left, effectOn, withCore, stepOf}
+use Rattle.machine.specs.Step.{Outcome, outcomeWith, effectOn, withCore, stepOf}
 use Rattle.machine.specs.Variants.{Rule, instead, operand, sweepBy, loadBy, claimBy, ruledBy}
 use Rattle.machine.proofs.Computing.{computing}
 use Rattle.histories.specs.Runs.{Machine, outcome, next, run, begun, Reached}
@@ -74,7 +74,7 @@ unfoldable pub destroysRefused : Rule
 destroysRefused s c cells tags =
     let o = stepOf s c cells tags in
     pick (eqb (kindOf c) 0x15 && not (eqb (o .answer .code) 0))
-    (left (answered (o .answer .code) empty (withCore s (withClaims (s .core) (destroyOf (s .core .claims) (operand c 1))))) cells tags) o
+    (outcomeWith (answered (o .answer .code) empty (withCore s (withClaims (s .core) (destroyOf (s .core .claims) (operand c 1))))) cells tags) o
 
 -- A claim that spends the parent's limit.
 unfoldable pub spendsParents : Claims → ℕ → ℕ → Claims

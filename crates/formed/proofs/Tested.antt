@@ -27,7 +27,7 @@ use Rattle.table.proofs.RoundTrip.{reads-sized, numbers-back, rows-written}
 use Rattle.reservations.specs.Revocation.{revoked, revocationSound}
 use Rattle.reservations.proofs.CoreKept.{core-facts, core-made}
 use Rattle.words.specs.Words.{mailboxSound}
-use Rattle.words.specs.Lent.{slotsOf, bytesOf, bit}
+use Rattle.words.specs.Lent.{slotsOf, tagBytes, bit}
 use Rattle.words.proofs.Lent.{slots-length, cells-kept, bytes-kept, bytes-bits}
 use Rattle.machine.specs.Formed as rules
 use Rattle.machine.proofs.Keeps.{facts, formed}
@@ -74,11 +74,11 @@ claims-made v principals counts p = both (sizedIn principals counts) _ (p .sized
 
 -- Well-formed arrays have all of the parts.
 module _ (a : Arrays) (f : Formed a) where
-  kept-marks : bytesOf (slotsOf (a .words) (a .marks)) ≡ a .marks
+  kept-marks : tagBytes (slotsOf (a .words) (a .marks)) ≡ a .marks
   unfolding arraysOf stateOf
   kept-marks = ap (λ (b : Arrays). b .marks) (f .kept)
 
-  kept-flags : bytesOf (slotsOf (a .mail) (a .flags)) ≡ a .flags
+  kept-flags : tagBytes (slotsOf (a .mail) (a .flags)) ≡ a .flags
   unfolding arraysOf stateOf
   kept-flags = ap (λ (b : Arrays). b .flags) (f .kept)
 

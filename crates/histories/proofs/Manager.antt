@@ -28,7 +28,7 @@ use Rattle.histories.specs.Runs.{Machine, run, Reached}
 use Rattle.histories.specs.Live.{NoneInto}
 use Rattle.histories.specs.Inv.{rowAt}
 use Rattle.histories.specs.Forming.{Standing}
-use Rattle.histories.specs.Restoring.{eachBelow, manyBelow, ending, topAt, destroying, releasing, unclaiming, mappedAt, everyPage, unmapping, revoking, _andThen_}
+use Rattle.histories.specs.Restoring.{eachBelow, manyBelow, sweepAndCollect, topAt, destroying, releasing, unclaiming, mappedAt, everyPage, unmapping, revoking, _andThen_}
 use Rattle.histories.specs.Manager.{Returned, RevocationEnds, unmappingAll, AllUnmapped, takingBack, TakenBack}
 use Rattle.histories.proofs.Table.{running-by}
 use Rattle.histories.proofs.Always.{inv-reached}
@@ -73,8 +73,8 @@ unfolding Every manyBelow
 own-many times call p zero = tt
 own-many times call p (suc n) = own-append (replicate (times n) (call n)) (manyBelow times call n) (own-same (times n) (call n) (p n)) (own-many times call p n)
 
-own-ending : (f : ℕ) → Own (ending f)
-unfolding Every ending
+own-ending : (f : ℕ) → Own (sweepAndCollect f)
+unfolding Every sweepAndCollect
 own-ending f = (refl, (refl, tt))
 
 own-destroying : (m : Machine) → Own (destroying m)
@@ -129,7 +129,7 @@ revocation-ends m r e =
     let k = always-formed m r in
     let c = m .state .core in
     let l = ending-leads m (r .v) (r .f) k e in
-    let n = run m (ending (r .f)) in
+    let n = run m (sweepAndCollect (r .f)) in
     let d = l .reaches in (
       record { granted = l .granted; own = own-ending (r .f) },
       record {
@@ -137,7 +137,7 @@ revocation-ends m r e =
         used = d .used;
         was = is-revoking (rowAt (c .table) (d .row) .state) (d .dies);
         now =
-            returned m n (r .v) (d .row) (reached-run m r (ending (r .f))) (d .used) (d .rows)
+            returned m n (r .v) (d .row) (reached-run m r (sweepAndCollect (r .f))) (d .used) (d .rows)
             (λ p h. ap (λ s. pageAt s p) (d .pages) ∙ released-at (c .pages) (rangeOf (rowAt (c .table) (d .row))) p (page-long m (r .v) (r .f) k p h))
             (finished-quiet c n (standing-core m (r .v) (r .f) k) d);
       },

@@ -51,7 +51,7 @@ use Rattle.machine.proofs.ClaimsKept.{revoke-claims, collect-claims}
 use Rattle.histories.specs.Runs.{Machine, Granted, next, run}
 use Rattle.histories.specs.Inv.{rowAt}
 use Rattle.histories.specs.Forming.{Standing}
-use Rattle.histories.specs.Restoring.{ending, finishing, revoking}
+use Rattle.histories.specs.Restoring.{sweepAndCollect, finishing, revoking}
 use Rattle.histories.proofs.Granted.{Went, went, went-next}
 use Rattle.histories.proofs.Findings.{Ends, revoke-parts}
 use Rattle.histories.proofs.Survivors.{collect-core, collect-ends}
@@ -142,8 +142,8 @@ module _ (m : Machine) (v f : ℕ) (k : Standing m v f) (e : running (m .state .
   finished-by : Leads (Finished c) m (Sweep 0 cells ∷ Collect 0 ∷ [])
   finished-by = leads-more (Finished c) m (Sweep 0 cells) (Collect 0 ∷ []) sweep-goes (leads-more (Finished c) n₁ (Collect 0) [] collect-goes (leads-none (Finished c) (next n₁ (Collect 0)) finished))
 
-pub ending-leads : (m : Machine) (v f : ℕ) → Standing m v f → running (m .state .core) ≡ true → Leads (Finished (m .state .core)) m (ending f)
-unfolding ending
+pub ending-leads : (m : Machine) (v f : ℕ) → Standing m v f → running (m .state .core) ≡ true → Leads (Finished (m .state .core)) m (sweepAndCollect f)
+unfolding sweepAndCollect
 ending-leads m v f k e = finished-by m v f k e _ (omega arith)
 
 -- Once it has ended no reservation is Revoking.
@@ -178,11 +178,11 @@ finishing-leads m v f k = go (running (m .state .core)) refl
     Q : Machine → Type 0
     Q n = revokings (live (n .state .core .table)) ≡ 0
 
-    go : (b : Bool) → running (m .state .core) ≡ b → Leads Q m (pick (running (m .state .core)) (ending (m .state .core .pages .f)) [])
+    go : (b : Bool) → running (m .state .core) ≡ b → Leads Q m (pick (running (m .state .core)) (sweepAndCollect (m .state .core .pages .f)) [])
     go true e =
         rw e
-        (subst (λ x. Leads Q m (ending x)) (sym (k .of-f))
-        (leads-to (Finished (m .state .core)) Q m (ending f) (ending-leads m v f k e) (finished-still (m .state .core) (run m (ending f)) (standing-core m v f k))))
+        (subst (λ x. Leads Q m (sweepAndCollect x)) (sym (k .of-f))
+        (leads-to (Finished (m .state .core)) Q m (sweepAndCollect f) (ending-leads m v f k e) (finished-still (m .state .core) (run m (sweepAndCollect f)) (standing-core m v f k))))
     go false e = rw e (leads-none Q m (none-revoking (m .state .core) e))
 
 -- A reservation once it was revoked and the revocation has ended.
@@ -315,7 +315,7 @@ module _ (m : Machine) (v f : ℕ) (k : Standing m v f) (still : running (m .sta
   pub revoking-leads : Leads (Recovered c₀ v i) m (revoking (r₀ .base) m)
   unfolding revoking
   revoking-leads =
-      leads-more (Recovered c₀ v i) m call (ending (c₀ .pages .f)) revoke-goes
-      (subst (λ x. Leads (Recovered c₀ v i) n₂ (ending x)) (sym (k .of-f))
-      (leads-to (Finished (n₂ .state .core)) (Recovered c₀ v i) n₂ (ending f) (ending-leads n₂ v f k₂ (revoke-runs m 0 (r₀ .base) revoke-went))
-      (recovered (run n₂ (ending f)))))
+      leads-more (Recovered c₀ v i) m call (sweepAndCollect (c₀ .pages .f)) revoke-goes
+      (subst (λ x. Leads (Recovered c₀ v i) n₂ (sweepAndCollect x)) (sym (k .of-f))
+      (leads-to (Finished (n₂ .state .core)) (Recovered c₀ v i) n₂ (sweepAndCollect f) (ending-leads n₂ v f k₂ (revoke-runs m 0 (r₀ .base) revoke-went))
+      (recovered (run n₂ (sweepAndCollect f)))))

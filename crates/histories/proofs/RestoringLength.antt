@@ -14,7 +14,7 @@ use Rattle.calls.specs.declared.Call.{Call}
 use Rattle.calls.specs.declared.Call.the-variants.{Merge, Unmap, Release, Destroy}
 use Rattle.calls.specs.Commands.{page}
 use Rattle.histories.specs.Runs.{Machine, run, Reached}
-use Rattle.histories.specs.Restoring.{eachBelow, manyBelow, ending, finishing, openAt, takeAt, taking, merging, topAt, destroying, releasing, unclaiming, mappedAt, everyPage, unmapping, revoking, _andThen_, restoring, RestoringBounded}
+use Rattle.histories.specs.Restoring.{eachBelow, manyBelow, sweepAndCollect, finishing, openAt, takeAt, taking, merging, topAt, destroying, releasing, unclaiming, mappedAt, everyPage, unmapping, revoking, _andThen_, restoring, RestoringBounded}
 use Rattle.histories.proofs.Forming.{always-formed, standing-facts}
 use Rattle.histories.proofs.Leading.{reached-run}
 use Rattle.histories.proofs.Sharing.{counts-fit}
@@ -66,10 +66,10 @@ few-rows m r =
 
 module _ (v : ℕ) where
   finishing-within : Within v 2 finishing
-  unfolding finishing ending
+  unfolding finishing sweepAndCollect
   finishing-within m r e = go (running (m .state .core))
     where
-      go : (b : Bool) → length (pick b (ending (m .state .core .pages .f)) []) ≤ 2
+      go : (b : Bool) → length (pick b (sweepAndCollect (m .state .core .pages .f)) []) ≤ 2
       go true = omega arith
       go false = omega arith
 
@@ -113,7 +113,7 @@ module _ (v : ℕ) where
       omega (arith, h, always-formed m r .of-v, e)
 
   revoking-within : Within v 3 (revoking 0)
-  unfolding revoking ending
+  unfolding revoking sweepAndCollect
   revoking-within m r e = omega arith
 
   unclaiming-within : Within v (31 + 65535 * v) unclaiming

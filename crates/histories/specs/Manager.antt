@@ -19,7 +19,7 @@ use Rattle.histories.specs.Runs.{Machine, run, Reached}
 use Rattle.histories.specs.Live.{NoneInto}
 use Rattle.histories.specs.Inv.{rowAt}
 use Rattle.histories.specs.Losing.{AllGranted}
-use Rattle.histories.specs.Restoring.{ending, everyPage, unclaiming, unmapping, revoking, _andThen_}
+use Rattle.histories.specs.Restoring.{sweepAndCollect, everyPage, unclaiming, unmapping, revoking, _andThen_}
 
 -- Each call is party 0's, and each is granted in its turn.
 pub record ByManager (m : Machine) (calls : List Call) : Type 0 where
@@ -38,7 +38,7 @@ pub record Returned (m n : Machine) (v i : ℕ) : Type 0 where
   pub none : NoneInto n (rangeOf (rowAt (m .state .core .table) i))
 
 -- The one that was Revoking.
-pub record Ended (m n : Machine) (v : ℕ) : Type 0 where
+pub record Finished (m n : Machine) (v : ℕ) : Type 0 where
   pub row : ℕ
   pub used : row < length (live (m .state .core .table))
   pub was : rowAt (m .state .core .table) row .state ≡ Revoking
@@ -46,7 +46,7 @@ pub record Ended (m n : Machine) (v : ℕ) : Type 0 where
 
 -- A revocation that runs comes to its end by a sweep of all cells and a collect, both party 0's.
 abbrev pub RevocationEnds : Type 0
-RevocationEnds = (m : Machine) (r : Reached m) → running (m .state .core) ≡ true → ByManager m (ending (r .f)) × Ended m (run m (ending (r .f))) (r .v)
+RevocationEnds = (m : Machine) (r : Reached m) → running (m .state .core) ≡ true → ByManager m (sweepAndCollect (r .f)) × Finished m (run m (sweepAndCollect (r .f))) (r .v)
 
 -- Party 0 alone unmaps every page. Claims do not keep it from that: it holds principal 0, below which all others stand.
 unfoldable pub unmappingAll : Machine → List Call

@@ -37,12 +37,12 @@ manyBelow times call zero = []
 manyBelow times call (suc n) = replicate (times n) (call n) ++ manyBelow times call n
 
 -- All cells of F frames are swept, and the revocation is collected.
-unfoldable pub ending : ℕ → List Call
-ending f = Sweep 0 (16 * f) ∷ Collect 0 ∷ []
+unfoldable pub sweepAndCollect : ℕ → List Call
+sweepAndCollect f = Sweep 0 (16 * f) ∷ Collect 0 ∷ []
 
 -- 1. The revocation that runs, if one does, is brought to its end.
 unfoldable pub finishing : Machine → List Call
-finishing m = pick (running (m .state .core)) (ending (m .state .core .pages .f)) []
+finishing m = pick (running (m .state .core)) (sweepAndCollect (m .state .core .pages .f)) []
 
 -- 2. Each Open reservation is taken by its holder; then all are Taken, and party 0 holds them.
 abbrev pub openAt : Table → ℕ → Bool
@@ -82,7 +82,7 @@ unmapping among m =
 
 -- 7. The reservation at a base is revoked, and the revocation brought to its end.
 unfoldable pub revoking : ℕ → Machine → List Call
-revoking base m = Revoke 0 base ∷ ending (m .state .core .pages .f)
+revoking base m = Revoke 0 base ∷ sweepAndCollect (m .state .core .pages .f)
 
 -- Calls computed from a state, and then those computed from the state that they lead to.
 infixr 5 _andThen_

@@ -13,7 +13,7 @@ use Rattle.calls.specs.Reader.{readOf}
 use Rattle.machine.specs.State.{State}
 use Rattle.machine.specs.Formed.{wellFormed}
 use Rattle.machine.specs.Reasons.{lastRefusal}
-use Rattle.machine.specs.Step.{Outcome, left, refused, stepOf}
+use Rattle.machine.specs.Step.{Outcome, outcomeWith, refused, stepOf}
 use Rattle.machine.specs.Command.{Ran, used, onReading, commandJudged, commandOf}
 use Rattle.machine.proofs.Judging.{pick-by, judged-step, refused-keeps}
 use Rattle.machine.proofs.Order.{code-at-most}
@@ -23,7 +23,7 @@ use Rattle.machine.proofs.Keeps.{step-keeps}
 
 -- What a command leaves, without the bytes that it used.
 abbrev pub outcome : Ran → Outcome
-outcome r = left (r .command .answered) (r .cells) (r .tags)
+outcome r = outcomeWith (r .command .answered) (r .cells) (r .tags)
 
 module _ (s : State) (input : List ℕ) (at : ℕ) (cells tags : List ℕ) where
   -- What holds of refusals 1 to 3, and of every call on a well-formed state, holds of a command.

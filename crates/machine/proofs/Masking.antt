@@ -21,7 +21,7 @@ use Rattle.machine.specs.Formed.{wellFormed, answered}
 use Rattle.machine.specs.Roles.{plainPermissions}
 use Rattle.machine.specs.Reasons.{takingReasons, reasons}
 use Rattle.machine.specs.Effects.{taking, effect}
-use Rattle.machine.specs.Step.{Outcome, left, refused, registersAfter, mailboxesAfter, cellsAfter, tagsAfter, done, ruled, judged, stepOf}
+use Rattle.machine.specs.Step.{Outcome, outcomeWith, refused, registersAfter, mailboxesAfter, cellsAfter, tagsAfter, done, ruled, judged, stepOf}
 use Rattle.machine.specs.Demands.{permitting, PlainStep, MaskedStep}
 
 module _ (s : State) (p base reg : ℕ) (cells tags : List ℕ) where
@@ -35,7 +35,7 @@ module _ (s : State) (p base reg : ℕ) (cells tags : List ℕ) where
     unfolding done registersAfter mailboxesAfter cellsAfter tagsAfter permitting
     granted-permitting =
         let n = takeOf (s .core .table) p base .length in
-        ap (λ l. left (answered 0 (slot n false) (record { core = taking (s .core) p base reg x .core; registers = l; mailboxes = s .mailboxes })) cells tags)
+        ap (λ l. outcomeWith (answered 0 (slot n false) (record { core = taking (s .core) p base reg x .core; registers = l; mailboxes = s .mailboxes })) cells tags)
         (sym (set-set (s .registers) (8 * p + reg) (slot (capability base n x) true) (slot (capability base n y) true)))
 
     refused-permitting : (k : ℕ) → (k ≡ 0 → ⊥) → refused k s cells tags ≡ permitting p base reg y (refused k s cells tags)

@@ -24,7 +24,7 @@ use Rattle.machine.specs.State.{State}
 use Rattle.machine.specs.Formed.{wellFormed, answered}
 use Rattle.machine.specs.Reasons.{reasons}
 use Rattle.machine.specs.Effects.{Effect, withClaims, claimsChange, effect}
-use Rattle.machine.specs.Step.{Outcome, left, done, reasonsOn, effectOn, ruled, judged, stepOf, withCore}
+use Rattle.machine.specs.Step.{Outcome, outcomeWith, done, reasonsOn, effectOn, ruled, judged, stepOf, withCore}
 use Rattle.machine.specs.Undoing.{Undone, ClaimReleased, ReleaseClaimed, CreateDestroyed}
 use Rattle.machine.proofs.Ruled.{done-core}
 use Rattle.machine.proofs.Judging.{Granted, step-by}
@@ -42,13 +42,13 @@ reclaimed s x = record { core = withClaims (s .core) x; registers = s .registers
 
 -- What a change of the claims alone leaves.
 reclaims : (s : State) (x : Claims) (cells tags : List ℕ) (e : Effect) → e ≡ claimsChange (s .core) x
-    → done s e cells tags ≡ left (answered 0 empty (reclaimed s x)) cells tags
+    → done s e cells tags ≡ outcomeWith (answered 0 empty (reclaimed s x)) cells tags
 unfolding withCore
 reclaims s x cells tags e is = ap (λ y. done s y cells tags) is ∙ sym (done-core s (withClaims (s .core) x) empty cells tags)
 
 -- What is to be shown of an outcome of the first call.
 abbrev Back : State → List ℕ → List ℕ → Call → Outcome → Type 0
-Back s cells tags d o = o .answer .code ≡ 0 → stepOf (o .answer .state) d (o .cells) (o .tags) ≡ left (answered 0 empty s) cells tags
+Back s cells tags d o = o .answer .code ≡ 0 → stepOf (o .answer .state) d (o .cells) (o .tags) ≡ outcomeWith (answered 0 empty s) cells tags
 
 -- A call that leaves the claims x is undone by one that is granted on them and leaves the first claims.
 undone-by : (s : State) (cells tags : List ℕ) (c d : Call) (x : Claims) → effectOn s c cells tags ≡ claimsChange (s .core) x

@@ -14,7 +14,7 @@ use Rattle.calls.specs.Commands.{bytesOf}
 use Rattle.words.specs.Words.{slot}
 use Rattle.machine.specs.State.{State}
 use Rattle.machine.specs.Formed.{wellFormed, answered, startOf}
-use Rattle.machine.specs.Step.{Outcome, left, refused, stepOf}
+use Rattle.machine.specs.Step.{Outcome, outcomeWith, refused, stepOf}
 use Rattle.machine.specs.Command.{used, commandOf}
 
 -- "With number 0, tag 0 and every bit of state and memory kept": an answer other than 0 keeps the state, the lent cells and the lent tags.
@@ -65,7 +65,7 @@ permitting p base r permissions o =
     let s = a .state in
     let registers = set (s .registers) (8 * p + r) (slot (capability base (a .number) permissions) true) in
     pick (eqb (a .code) 0)
-    (left (answered 0 (slot (a .number) (a .tag)) (record { core = s .core; registers = registers; mailboxes = s .mailboxes })) (o .cells) (o .tags)) o
+    (outcomeWith (answered 0 (slot (a .number) (a .tag)) (record { core = s .core; registers = registers; mailboxes = s .mailboxes })) (o .cells) (o .tags)) o
 
 -- 11 leaves what 01 leaves, but for the permissions in reg.
 abbrev pub MaskedStep : Type 0

@@ -9,7 +9,7 @@ use Rattle.calls.specs.declared.Call.{Call}
 use Rattle.machine.specs.State.{State}
 use Rattle.machine.specs.State.{Answered}
 use Rattle.machine.specs.Formed.{formedBare, startOf}
-use Rattle.machine.specs.Step.{Outcome, left, refused, judged}
+use Rattle.machine.specs.Step.{Outcome, outcomeWith, refused, judged}
 
 -- A state without takers.
 abbrev pub forget : State → State
@@ -20,7 +20,7 @@ abbrev pub forgetAnswer : Answered → Answered
 forgetAnswer a = record { code = a .code; number = a .number; tag = a .tag; state = forget (a .state) }
 
 abbrev pub forgetOutcome : Outcome → Outcome
-forgetOutcome o = left (forgetAnswer (o .answer)) (o .cells) (o .tags)
+forgetOutcome o = outcomeWith (forgetAnswer (o .answer)) (o .cells) (o .tags)
 
 -- A start and a call of the machine without takers.
 unfoldable pub startBare : ℕ → ℕ → Answered

@@ -25,8 +25,8 @@ pub record Outcome : Type 0 where
   pub cells : List ℕ
   pub tags : List ℕ
 
-abbrev pub left : Answered → List ℕ → List ℕ → Outcome
-left answer cells tags = record { answer = answer; cells = cells; tags = tags }
+abbrev pub outcomeWith : Answered → List ℕ → List ℕ → Outcome
+outcomeWith answer cells tags = record { answer = answer; cells = cells; tags = tags }
 
 -- "Code 0 means granted".
 abbrev pub isGranted : Outcome → Bool
@@ -34,7 +34,7 @@ isGranted o = eqb (o .answer .code) 0
 
 -- "The lowest number that applies is answered, with number 0, tag 0 and every bit of state and memory kept."
 abbrev pub refused : ℕ → State → List ℕ → List ℕ → Outcome
-refused code s cells tags = left (answered code empty s) cells tags
+refused code s cells tags = outcomeWith (answered code empty s) cells tags
 
 unfoldable pub registersAfter : RegisterChange → State → List Slot
 registersAfter keepRegisters s = s .registers
@@ -70,7 +70,7 @@ tagsAfter (sweepCells r from upto) c cells tags = sweptTags (c .pages .frames) r
 -- An effect, done to a state and its lent memory.
 unfoldable pub done : State → Effect → List ℕ → List ℕ → Outcome
 done s e cells tags =
-    left
+    outcomeWith
     (answered 0 (e .answer) (record { core = e .core; registers = registersAfter (e .registers) s; mailboxes = mailboxesAfter (e .mailboxes) s }))
     (cellsAfter (e .memory) cells) (tagsAfter (e .memory) (s .core) cells tags)
 

@@ -9,13 +9,13 @@ use Rattle.table.specs.declared.Reservation.{Reservation}
 use Rattle.table.specs.Rows.{rangeOf}
 use Rattle.maps.specs.declared.Question.{Question}
 use Rattle.maps.specs.Records.{tileFrom}
-use Rattle.maps.specs.Questions.{listed, basesOf}
+use Rattle.maps.specs.Questions.{isListed, basesOf}
 use Rattle.maps.specs.Promises.{ListRises, ListComplete, ListSound, OthersLeftOut}
 use Rattle.maps.proofs.Tiled.{tile-begin, tile-behind, tile-one}
 
 -- ---- The promises
 abbrev passes : Question → Reservation → Bool
-passes q r = listed q (rangeOf r)
+passes q r = isListed q (rangeOf r)
 
 abbrev base : Reservation → ℕ
 base r = r .base

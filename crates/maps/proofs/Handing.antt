@@ -45,7 +45,7 @@ use Rattle.table.specs.declared.Reservation.{Reservation}
 use Rattle.table.proofs.Reservation as R
 use Rattle.maps.specs.declared.Question.{Question}
 use Rattle.maps.specs.declared.Answer.{Answer}
-use Rattle.maps.specs.Questions.{left, askOf}
+use Rattle.maps.specs.Questions.{response, askOf}
 use Rattle.maps.proofs.Question as Q
 use Rattle.maps.proofs.Question.Laws as Q′
 use Rattle.maps.proofs.Answer as B
@@ -72,7 +72,7 @@ again-slice = sliceTy pointer
 
 -- what a function of this shape promises
 abbrev pub clauses : (ℕ → ℕ → Question) → {M : Type 1} (𝓤 : URA M) → Clauses 𝓤 sharing.ended
-clauses make 𝓤 κs a = record { ghost = Unit {0}; requires = λ _. emp 𝓤; ensures = λ _ r e. fact 𝓤 (left r (now (e .1 .1 .1 .0)) ≡ askOf (now (a .0)) (make (a .1 .0) (a .1 .1 .0)) (now (a .1 .1 .1 .0))) }
+clauses make 𝓤 κs a = record { ghost = Unit {0}; requires = λ _. emp 𝓤; ensures = λ _ r e. fact 𝓤 (response r (now (e .1 .1 .1 .0)) ≡ askOf (now (a .0)) (make (a .1 .0) (a .1 .1 .0)) (now (a .1 .1 .1 .0))) }
 
 abbrev finish : Body
 finish = seq (call #ask (copy (place 1 []) ∷ copy (place 5 []) ∷ copy (place 7 []) ∷ []) (place 0 [])) return
@@ -146,7 +146,7 @@ module _ (k : ℕ) (small : Holds (ltb k (2 ^ 8))) (make : ℕ → ℕ → Quest
     abbrev Tokens : Item 𝓤
     Tokens = ‵ (flft κ q) ⊛ ‵ (flft κ′ q′) ⊛ ‵ ftrue
 
-    exits : (a : Answer) (u : Val) (bs : List ℕ) → length bs ≡ length cs → left a bs ≡ askOf ys qn cs → Is B.the-row a (u ∷ []) → ent 𝓤 (⋆ 𝓤 H A (Tokens ∷ ‵ (finally u16 γ′ bs) ∷ ‵ Own ∷ [])) (Post u)
+    exits : (a : Answer) (u : Val) (bs : List ℕ) → length bs ≡ length cs → response a bs ≡ askOf ys qn cs → Is B.the-row a (u ∷ []) → ent 𝓤 (⋆ 𝓤 H A (Tokens ∷ ‵ (finally u16 γ′ bs) ∷ ‵ Own ∷ [])) (Post u)
     exits a u bs same e is =
         qed W (Tokens ∷ ‵ (finally u16 γ′ bs) ∷ ‵ Own ∷ []) ∵
         suffices ! _ (ends-at 𝓤 H A sharing.ended stayed (clauses make 𝓤) W bound u a (tt, (tt, (tt, (bs, tt)))) (tt, (tt, (tt, (same, tt))))) $ says ! e $ frame ! $
@@ -190,8 +190,8 @@ module _ (k : ℕ) (small : Holds (ltb k (2 ^ 8))) (make : ℕ → ℕ → Quest
             calls-at ! (fmOf 𝓤 H (W .laws) 𝓣) (Ask 𝓤 H A mem run) known to
             (and-then ! (load ! (from ! (stop !)) (look ! 14 refl)) (and-then ! (load ! (from ! (stop !)) (look ! 6 refl)) (and-then ! (load ! (from ! (stop !)) (look ! 2 refl)) (no-more !)))) (λ u.
             use1 W (later (some (λ (a : Answer). (Tokens ⊛ ‵ (B.the-row .own a (u ∷ []))) ⊛ raw (ensured 𝓤 H A ask.ended (ask.clauses 𝓤 H A mem run) (κ, (κ′, tt)) given-to tt a)))) (id⊢ 𝓤 _) $ await ! tt $ pick ! (λ a.
-            split ! $ move ! (1 ∷ []) $ use1 W (some (λ (ws : Ends). ‵ (lasts ask.ended (κ, (κ′, tt)) given-to ws) ⊛ raw (fact 𝓤 (left a (ws .1 .1 .0) ≡ askOf ys qn cs)))) (id⊢ 𝓤 _) $ pick ! (λ ws.
-            split ! $ move ! (1 ∷ []) $ heard ! (left a (ws .1 .1 .0) ≡ askOf ys qn cs) (λ e.
+            split ! $ move ! (1 ∷ []) $ use1 W (some (λ (ws : Ends). ‵ (lasts ask.ended (κ, (κ′, tt)) given-to ws) ⊛ raw (fact 𝓤 (response a (ws .1 .1 .0) ≡ askOf ys qn cs)))) (id⊢ 𝓤 _) $ pick ! (λ ws.
+            split ! $ move ! (1 ∷ []) $ heard ! (response a (ws .1 .1 .0) ≡ askOf ys qn cs) (λ e.
             -- [what is said of the last values; the tokens and the result; what the records own; the locals]
             fsplit ! $ drop ! $ fsplit ! $ drop ! $ fsplit ! $ fsplit ! $ move ! (1 ∷ []) $ feqL ! (λ same. move ! (1 ∷ []) $ drop ! $ move ! (1 ∷ []) $ split ! $ move ! (1 ∷ []) $
             facts ! B.the-row (Is B.the-row) (shows 𝓤 H A B.the-row) a (u ∷ []) (λ is.

@@ -17,7 +17,7 @@ use Rattle.table.specs.Rows.{rangeOf}
 use Rattle.maps.specs.declared.Answer.{Answer}
 use Rattle.maps.specs.declared.Question.the-variants.{Nearest}
 use Rattle.maps.specs.Cells.{distance}
-use Rattle.maps.specs.Questions.{candidate, nearer, nearest, answer, found, left, granted, refused, askOf}
+use Rattle.maps.specs.Questions.{candidate, nearer, nearest, answer, found, response, grantedAnswer, isRefused, askOf}
 use Rattle.maps.specs.Promises.{NoFarther, NearestIsLeast, NoneOnlyIfNone}
 
 -- ---- The order of distances, and of bases at one distance
@@ -92,10 +92,10 @@ module _ (c : ℕ) where
 -- ---- The promises
 -- An answer with code 0 is what was found.
 granted-found : (l : List Reservation) (c n : ℕ) (bases : List ℕ) (a : Answer) → askOf l (Nearest c n) bases .answer ≡ a → a .code ≡ 0 → found c (filter (candidate n) l) ≡ a
-unfolding askOf granted
-granted-found l c n bases a e z = go (refused l (Nearest c n) (length bases)) e
+unfolding askOf grantedAnswer
+granted-found l c n bases a e z = go (isRefused l (Nearest c n) (length bases)) e
   where
-    go : (b : Bool) → pick b (left (answer 25 0 0) bases) (left (found c (filter (candidate n) l)) bases) .answer ≡ a → found c (filter (candidate n) l) ≡ a
+    go : (b : Bool) → pick b (response (answer 25 0 0) bases) (response (found c (filter (candidate n) l)) bases) .answer ≡ a → found c (filter (candidate n) l) ≡ a
     go true e = absurd (omega (arith, ap (λ (x : Answer). x .code) e, z))
     go false e = e
 

@@ -15,11 +15,11 @@ use Rattle.table.specs.declared.Reservation.{Reservation}
 use Rattle.table.specs.Rows.{rangeOf}
 use Rattle.maps.specs.declared.Question.{Question}
 use Rattle.maps.specs.declared.Question.the-variants.{Nearest}
-use Rattle.maps.specs.Questions.{listed, basesOf}
-use Rattle.maps.specs.Walks.{Listed, listing, listWith, listOver}
+use Rattle.maps.specs.Questions.{isListed, basesOf}
+use Rattle.maps.specs.Walks.{Listing, listing, listWith, listOver}
 
 abbrev asks : Question → Reservation → Bool
-asks q r = listed q (rangeOf r)
+asks q r = isListed q (rangeOf r)
 
 bases-more : (q : Question) (r : Reservation) (l : List Reservation) → asks q r ≡ true → basesOf q (r ∷ l) ≡ r .base ∷ basesOf q l
 unfolding basesOf filter
@@ -54,12 +54,12 @@ with-more q r done x room e =
     there : length done < length (done ++ (x ∷ room))
     there = let h = length-append done (x ∷ room) in omega (arith, h)
 
-with-same : (q : Question) (r : Reservation) (s : Listed) → asks q r ≡ false → listWith q s (r .base) (r .length) ≡ s
+with-same : (q : Question) (r : Reservation) (s : Listing) → asks q r ≡ false → listWith q s (r .base) (r .length) ≡ s
 unfolding listWith
 with-same q r s e = pick-no (asks q r && ltb (s .count) (length (s .bases))) _ s (ap (λ (t : Bool). t && ltb (s .count) (length (s .bases))) e)
 
 -- All records, with room for each.
-abbrev leaves : Question → List Reservation → List ℕ → List ℕ → Listed
+abbrev leaves : Question → List Reservation → List ℕ → List ℕ → Listing
 leaves q l done room = listing (length done + length (basesOf q l)) (done ++ (basesOf q l ++ drop (length (basesOf q l)) room))
 
 none-left : (q : Question) (done room : List ℕ) → listing (length done) (done ++ room) ≡ leaves q [] done room
@@ -91,8 +91,8 @@ list-leaves q (r ∷ l) done (x ∷ room) w =
     go : listOver q (listing (length (done ++ (r .base ∷ []))) ((done ++ (r .base ∷ [])) ++ room)) l ≡ leaves q l (done ++ (r .base ∷ [])) room
         → listOver q (listing (length done) (done ++ (x ∷ room))) l ≡ leaves q l done (x ∷ room)
         → (t : Bool) → asks q r ≡ t → listOver q (listWith q (listing (length done) (done ++ (x ∷ room))) (r .base) (r .length)) l ≡ leaves q (r ∷ l) done (x ∷ room)
-    go more same true e = ap (λ (s : Listed). listOver q s l) (with-more q r done x room e) ∙ more ∙ leaves-more q r l done x room e
-    go more same false e = ap (λ (s : Listed). listOver q s l) (with-same q r (listing (length done) (done ++ (x ∷ room))) e) ∙ same ∙ leaves-same q r l done (x ∷ room) e
+    go more same true e = ap (λ (s : Listing). listOver q s l) (with-more q r done x room e) ∙ more ∙ leaves-more q r l done x room e
+    go more same false e = ap (λ (s : Listing). listOver q s l) (with-same q r (listing (length done) (done ++ (x ∷ room))) e) ∙ same ∙ leaves-same q r l done (x ∷ room) e
 
 -- From an empty list on.
 pub all-listed : (q : Question) (l : List Reservation) (bases : List ℕ) → length l ≤ length bases
@@ -101,7 +101,7 @@ all-listed q l bases w =
     list-leaves q l [] bases w ∙ ap (λ (n : ℕ). listing n (basesOf q l ++ drop (length (basesOf q l)) bases)) (zero-add (length (basesOf q l)))
 
 -- A question for the nearest lists none.
-pub none-listed : (cell cells : ℕ) (s : Listed) (l : List Reservation) → listOver (Nearest cell cells) s l ≡ s
-unfolding listOver listWith listed
+pub none-listed : (cell cells : ℕ) (s : Listing) (l : List Reservation) → listOver (Nearest cell cells) s l ≡ s
+unfolding listOver listWith isListed
 none-listed cell cells s [] = refl
 none-listed cell cells s (r ∷ l) = none-listed cell cells s l

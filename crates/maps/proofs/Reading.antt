@@ -10,7 +10,7 @@ use Rattle.table.specs.Rows.{blank}
 use Rattle.table.specs.Numbers.{stateFrom, rowFrom}
 use Rattle.maps.specs.declared.Question.{Question}
 use Rattle.maps.specs.declared.Seen.{Seen}
-use Rattle.maps.specs.Walks.{seenWith, seenOver, Listed, listWith, listOver}
+use Rattle.maps.specs.Walks.{seenWith, seenOver, Listing, listWith, listOver}
 use Rattle.maps.proofs.Turning.{seen-turn, seen-all, list-turn, list-all}
 
 zero-row : blank ≡ rowFrom 0
@@ -36,10 +36,10 @@ module _ (q : Question) (rows : List ℕ) where
   pub seen-numbers : (s total : Seen) (i : ℕ) → length rows ≤ i → seenOver q s (drop i records) ≡ total → s ≡ total
   seen-numbers s total i l e = seen-all q records s total i (subst (λ (n : ℕ). n ≤ i) as-many l) e
 
-  pub list-number : (upto : ℕ) (s s′ total : Listed) (i : ℕ) (r : Reservation) → (i < upto) × (i < length rows) → listOver q s (drop i (take upto records)) ≡ total → r ≡ rowFrom (getD rows i 0)
+  pub list-number : (upto : ℕ) (s s′ total : Listing) (i : ℕ) (r : Reservation) → (i < upto) × (i < length rows) → listOver q s (drop i (take upto records)) ≡ total → r ≡ rowFrom (getD rows i 0)
       → s′ ≡ listWith q s (r .base) (r .length) → listOver q s′ (drop (i + 1) (take upto records)) ≡ total
   list-number upto s s′ total i r there e read step =
       list-turn q records upto s s′ total i (subst (λ (n : ℕ). (i < upto) × (i < n)) as-many there) e (step ∙ ap (λ (x : Reservation). listWith q s (x .base) (x .length)) (read-there i r read))
 
-  pub list-numbers : (upto : ℕ) (s total : Listed) (i : ℕ) → ltb i upto && ltb i (length rows) ≡ false → listOver q s (drop i (take upto records)) ≡ total → s ≡ total
+  pub list-numbers : (upto : ℕ) (s total : Listing) (i : ℕ) → ltb i upto && ltb i (length rows) ≡ false → listOver q s (drop i (take upto records)) ≡ total → s ≡ total
   list-numbers upto s total i none e = list-all q records upto s total i (subst (λ (n : ℕ). ltb i upto && ltb i n ≡ false) as-many none) e

@@ -14,7 +14,7 @@ use Rattle.table.specs.declared.Reservation.{Reservation}
 use Rattle.table.specs.Rows.{blank}
 use Rattle.maps.specs.declared.Question.{Question}
 use Rattle.maps.specs.declared.Seen.{Seen}
-use Rattle.maps.specs.Walks.{seenWith, seenOver, Listed, listWith, listOver}
+use Rattle.maps.specs.Walks.{seenWith, seenOver, Listing, listWith, listOver}
 
 -- The record at i, and those behind it.
 from-there : (ys : List Reservation) (i : ℕ) → i < length ys → drop i ys ≡ getD ys i blank ∷ drop (i + 1) ys
@@ -45,13 +45,13 @@ module _ (q : Question) (ys : List Reservation) where
   seen-all s total i l e = sym (ap (seenOver q s) (drop-of-length-le ys l)) ∙ e
 
   -- One record more is listed from, of as many as are named.
-  pub list-turn : (upto : ℕ) (s s′ total : Listed) (i : ℕ) → (i < upto) × (i < length ys) → listOver q s (drop i (take upto ys)) ≡ total
+  pub list-turn : (upto : ℕ) (s s′ total : Listing) (i : ℕ) → (i < upto) × (i < length ys) → listOver q s (drop i (take upto ys)) ≡ total
       → s′ ≡ listWith q s (getD ys i blank .base) (getD ys i blank .length) → listOver q s′ (drop (i + 1) (take upto ys)) ≡ total
   unfolding listOver
   list-turn upto s s′ total i there e step =
-      ap (λ (t : Listed). listOver q t (drop (i + 1) (take upto ys))) (step ∙ ap (λ (r : Reservation). listWith q s (r .base) (r .length)) (sym (getD-take upto ys i blank (there .0))))
+      ap (λ (t : Listing). listOver q t (drop (i + 1) (take upto ys))) (step ∙ ap (λ (r : Reservation). listWith q s (r .base) (r .length)) (sym (getD-take upto ys i blank (there .0))))
       ∙ sym (ap (listOver q s) (from-there (take upto ys) i (let low = there .0 in let high = there .1 in omega (arith, low, high, length-take upto ys)))) ∙ e
 
-  pub list-all : (upto : ℕ) (s total : Listed) (i : ℕ) → ltb i upto && ltb i (length ys) ≡ false → listOver q s (drop i (take upto ys)) ≡ total → s ≡ total
+  pub list-all : (upto : ℕ) (s total : Listing) (i : ℕ) → ltb i upto && ltb i (length ys) ≡ false → listOver q s (drop i (take upto ys)) ≡ total → s ≡ total
   unfolding listOver
   list-all upto s total i none e = sym (ap (listOver q s) (drop-of-length-le (take upto ys) (none-there ys i upto none))) ∙ e

@@ -13,7 +13,7 @@ use Rattle.table.specs.declared.ReservationState.{ReservationState}
 use Rattle.maps.specs.declared.Question.{Question}
 use Rattle.maps.specs.declared.Seen.{Seen}
 use Rattle.maps.specs.Cells.{span, distance}
-use Rattle.maps.specs.Questions.{answer, listed, badQuestion}
+use Rattle.maps.specs.Questions.{answer, isListed, badQuestion}
 use Rattle.maps.specs.Walks.{seen, closer, nearWith, judged, judgeWith, listing, listWith, answerWith}
 
 -- ---- The nearest
@@ -50,14 +50,14 @@ room-for t n bs = t && ltb n (length bs)
 pub has-room : (t : Bool) (n : ℕ) (bs : List ℕ) → room-for t n bs ≡ true → n < length bs
 has-room t n bs e = ltb-true n (length bs) (and-right t (ltb n (length bs)) e)
 
-pub list-more : (q : Question) (n : ℕ) (bs : List ℕ) (b l : ℕ) (t : Bool) → t ≡ listed q (span b l) → room-for t n bs ≡ true
+pub list-more : (q : Question) (n : ℕ) (bs : List ℕ) (b l : ℕ) (t : Bool) → t ≡ isListed q (span b l) → room-for t n bs ≡ true
     → listing (n + 1) (set bs n b) ≡ listWith q (listing n bs) b l
 unfolding listWith
-list-more q n bs b l t et e = sym (pick-yes (room-for (listed q (span b l)) n bs) (listing (n + 1) (set bs n b)) (listing n bs) (sym (ap (λ (u : Bool). room-for u n bs) et) ∙ e))
+list-more q n bs b l t et e = sym (pick-yes (room-for (isListed q (span b l)) n bs) (listing (n + 1) (set bs n b)) (listing n bs) (sym (ap (λ (u : Bool). room-for u n bs) et) ∙ e))
 
-pub list-same : (q : Question) (n : ℕ) (bs : List ℕ) (b l : ℕ) (t : Bool) → t ≡ listed q (span b l) → room-for t n bs ≡ false → listing n bs ≡ listWith q (listing n bs) b l
+pub list-same : (q : Question) (n : ℕ) (bs : List ℕ) (b l : ℕ) (t : Bool) → t ≡ isListed q (span b l) → room-for t n bs ≡ false → listing n bs ≡ listWith q (listing n bs) b l
 unfolding listWith
-list-same q n bs b l t et e = sym (pick-no (room-for (listed q (span b l)) n bs) (listing (n + 1) (set bs n b)) (listing n bs) (sym (ap (λ (u : Bool). room-for u n bs) et) ∙ e))
+list-same q n bs b l t et e = sym (pick-no (room-for (isListed q (span b l)) n bs) (listing (n + 1) (set bs n b)) (listing n bs) (sym (ap (λ (u : Bool). room-for u n bs) et) ∙ e))
 
 -- ---- The answer
 pub refusing : (code : ℕ) (s : Seen) (n : ℕ) → (code ≡ 0 → ⊥) → answer code 0 0 ≡ answerWith code s n

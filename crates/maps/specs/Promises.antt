@@ -15,7 +15,7 @@ use Rattle.maps.specs.declared.Question.{Question}
 use Rattle.maps.specs.declared.Question.the-variants.{Nearest}
 use Rattle.maps.specs.Cells.{shares, within, distance}
 use Rattle.maps.specs.Records.{tileFrom, badRecords}
-use Rattle.maps.specs.Questions.{listed, basesOf, candidate, answer, askOf}
+use Rattle.maps.specs.Questions.{isListed, basesOf, candidate, answer, askOf}
 
 -- ---- What the tests say of cells
 
@@ -49,15 +49,15 @@ ListRises = (q : Question) (l : List Reservation) → tileFrom 0 l ≡ true → 
 
 -- Complete: a record that passes has its base in the list.
 abbrev pub ListComplete : Type 0
-ListComplete = (q : Question) (l : List Reservation) (r : Reservation) → In r l → listed q (rangeOf r) ≡ true → In (r .base) (basesOf q l)
+ListComplete = (q : Question) (l : List Reservation) (r : Reservation) → In r l → isListed q (rangeOf r) ≡ true → In (r .base) (basesOf q l)
 
 -- And nothing else: each base in the list is that of a record that passes,
 abbrev pub ListSound : Type 0
-ListSound = (q : Question) (l : List Reservation) (b : ℕ) → In b (basesOf q l) → (r : Reservation) × (In r l × ((r .base ≡ b) × (listed q (rangeOf r) ≡ true)))
+ListSound = (q : Question) (l : List Reservation) (b : ℕ) → In b (basesOf q l) → (r : Reservation) × (In r l × ((r .base ≡ b) × (isListed q (rangeOf r) ≡ true)))
 
 -- and where the records tile a record that does not pass has its base in no list.
 abbrev pub OthersLeftOut : Type 0
-OthersLeftOut = (q : Question) (l : List Reservation) (r : Reservation) → tileFrom 0 l ≡ true → In r l → listed q (rangeOf r) ≡ false → In (r .base) (basesOf q l) → ⊥
+OthersLeftOut = (q : Question) (l : List Reservation) (r : Reservation) → tileFrom 0 l ≡ true → In r l → isListed q (rangeOf r) ≡ false → In (r .base) (basesOf q l) → ⊥
 
 -- ---- The nearest
 

@@ -15,14 +15,14 @@ use Rattle.maps.specs.Cells.{span, shares, within, distance, beyond}
 use Rattle.maps.specs.Records.{cellsOf, badRecords}
 
 -- "List those sharing cells with a cell range and those within it". Nearest lists none.
-unfoldable pub listed : Question → Range → Bool
-listed (Sharing first cells) p = shares p (span first cells)
-listed (Within first cells) p = within p (span first cells)
-listed (Nearest cell cells) p = false
+unfoldable pub isListed : Question → Range → Bool
+isListed (Sharing first cells) p = shares p (span first cells)
+isListed (Within first cells) p = within p (span first cells)
+isListed (Nearest cell cells) p = false
 
 -- "In rising base"; "each list goes as bases".
 unfoldable pub basesOf : Question → List Reservation → List ℕ
-basesOf q l = map (λ r. r .base) (filter (λ r. listed q (rangeOf r)) l)
+basesOf q l = map (λ r. r .base) (filter (λ r. isListed q (rangeOf r)) l)
 
 -- "The Open one of at least n cells".
 abbrev pub candidate : ℕ → Reservation → Bool
@@ -56,26 +56,26 @@ badQuestion (Within first cells) end room = badList end (span first cells) room
 badQuestion (Nearest cell cells) end room = eqb cells 0
 
 -- The answer, and the slice for a list after it.
-pub record Left : Type 0 where
+pub record Response : Type 0 where
   pub answer : Answer
   pub bases : List ℕ
 
-abbrev pub left : Answer → List ℕ → Left
-left a bases = record { answer = a; bases = bases }
+abbrev pub response : Answer → List ℕ → Response
+response a bases = record { answer = a; bases = bases }
 
 -- "Each list goes as bases into a lent slice of numbers, whose rest is kept; its length is answered."
-unfoldable pub put : List ℕ → List ℕ → Left
-put l bases = left (answer 0 (length l) 0) (l ++ drop (length l) bases)
+unfoldable pub put : List ℕ → List ℕ → Response
+put l bases = response (answer 0 (length l) 0) (l ++ drop (length l) bases)
 
-unfoldable pub granted : List Reservation → Question → List ℕ → Left
-granted l (Sharing first cells) bases = put (basesOf (Sharing first cells) l) bases
-granted l (Within first cells) bases = put (basesOf (Within first cells) l) bases
-granted l (Nearest cell cells) bases = left (found cell (filter (candidate cells) l)) bases
+unfoldable pub grantedAnswer : List Reservation → Question → List ℕ → Response
+grantedAnswer l (Sharing first cells) bases = put (basesOf (Sharing first cells) l) bases
+grantedAnswer l (Within first cells) bases = put (basesOf (Within first cells) l) bases
+grantedAnswer l (Nearest cell cells) bases = response (found cell (filter (candidate cells) l)) bases
 
 -- Whether 25 comes.
-unfoldable pub refused : List Reservation → Question → ℕ → Bool
-refused l q room = badRecords l || badQuestion q (cellsOf l) room
+unfoldable pub isRefused : List Reservation → Question → ℕ → Bool
+isRefused l q room = badRecords l || badQuestion q (cellsOf l) room
 
 -- "Errors: only 25 ..; nothing is then written."
-unfoldable pub askOf : List Reservation → Question → List ℕ → Left
-askOf l q bases = pick (refused l q (length bases)) (left (answer 25 0 0) bases) (granted l q bases)
+unfoldable pub askOf : List Reservation → Question → List ℕ → Response
+askOf l q bases = pick (isRefused l q (length bases)) (response (answer 25 0 0) bases) (grantedAnswer l q bases)

@@ -14,7 +14,7 @@ use Rattle.maps.specs.declared.Answer.{Answer}
 use Rattle.maps.specs.declared.Seen.{Seen}
 use Rattle.maps.specs.declared.Judged.{Judged}
 use Rattle.maps.specs.Cells.{span, distance}
-use Rattle.maps.specs.Questions.{answer, listed, badQuestion}
+use Rattle.maps.specs.Questions.{answer, isListed, badQuestion}
 
 abbrev pub seen : Bool → ℕ → Bool → ℕ → ℕ → Seen
 seen tiled end found base distance = record { tiled = tiled; end = end; found = found; base = base; distance = distance }
@@ -63,19 +63,19 @@ judgeWith q s records room =
     pick ((eqb records 0 || ltb 64 records) || (not (s .tiled) || badQuestion q (s .end) room)) (judged 25 0) (judged 0 records)
 
 -- How many bases are listed, and the slice.
-pub record Listed : Type 0 where
+pub record Listing : Type 0 where
   pub count : ℕ
   pub bases : List ℕ
 
-abbrev pub listing : ℕ → List ℕ → Listed
+abbrev pub listing : ℕ → List ℕ → Listing
 listing count bases = record { count = count; bases = bases }
 
 -- One record more.
-unfoldable pub listWith : Question → Listed → ℕ → ℕ → Listed
+unfoldable pub listWith : Question → Listing → ℕ → ℕ → Listing
 listWith q s base len =
-    pick (listed q (span base len) && ltb (s .count) (length (s .bases))) (listing (s .count + 1) (set (s .bases) (s .count) base)) s
+    pick (isListed q (span base len) && ltb (s .count) (length (s .bases))) (listing (s .count + 1) (set (s .bases) (s .count) base)) s
 
-unfoldable pub listOver : Question → Listed → List Reservation → Listed
+unfoldable pub listOver : Question → Listing → List Reservation → Listing
 listOver q s [] = s
 listOver q s (r ∷ l) = listOver q (listWith q s (r .base) (r .length)) l
 

@@ -12,7 +12,7 @@ ghost use mathlib.Core.Path.{_≡_};
 ghost use mathlib.Core.List.{map};
 ghost use lib.ListN.{take};
 ghost use Rattle.table.specs.Numbers.{rowFrom};
-ghost use Rattle.maps.specs.Questions.{left, askOf};
+ghost use Rattle.maps.specs.Questions.{response, askOf};
 ghost use Rattle.maps.specs.Walks.{seenOver, nothing, listing, listOver};
 
 // What is seen of all records.
@@ -46,7 +46,7 @@ fn list(rows: &[u64], upto: usize, question: Question, bases: &mut [u16]) -> usi
 
 // Any of the three questions.
 pub fn ask_numbers(rows: &[u64], question: Question, bases: &mut [u16]) -> Answer
-    ensures { λ r. ⌜ left r (now (bases .exit)) ≡ askOf (map rowFrom (now (rows .entry))) question (now (bases .entry)) ⌝ }
+    ensures { λ r. ⌜ response r (now (bases .exit)) ≡ askOf (map rowFrom (now (rows .entry))) question (now (bases .entry)) ⌝ }
 {
     let seen = survey(rows, question);
     let judged = judge_with(question, seen, rows.len(), bases.len());

@@ -13,7 +13,7 @@ ghost use mathlib.Core.Path.{_≡_};
 ghost use mathlib.Core.List.{[]};
 ghost use lib.ListN.{take};
 ghost use Rattle.maps.specs.declared.Question.the-variants.{Sharing, Within, Nearest};
-ghost use Rattle.maps.specs.Questions.{left, askOf};
+ghost use Rattle.maps.specs.Questions.{response, askOf};
 ghost use Rattle.maps.specs.Walks.{seenOver, nothing, listing, listOver};
 
 // What is seen of all records.
@@ -51,7 +51,7 @@ pub(crate) fn list(
 
 // Any of the three questions.
 pub fn ask(records: &[Reservation], question: Question, bases: &mut [u16]) -> Answer
-    ensures { λ r. ⌜ left r (now (bases .exit)) ≡ askOf (now (records .entry)) question (now (bases .entry)) ⌝ }
+    ensures { λ r. ⌜ response r (now (bases .exit)) ≡ askOf (now (records .entry)) question (now (bases .entry)) ⌝ }
 {
     let seen = survey(records, question);
     let judged = judge_with(question, seen, records.len(), bases.len());
@@ -61,21 +61,21 @@ pub fn ask(records: &[Reservation], question: Question, bases: &mut [u16]) -> An
 
 // The bases of the reservations that share a cell with `cells` cells from `first` on.
 pub fn sharing(records: &[Reservation], first: u64, cells: u64, bases: &mut [u16]) -> Answer
-    ensures { λ r. ⌜ left r (now (bases .exit)) ≡ askOf (now (records .entry)) (Sharing first cells) (now (bases .entry)) ⌝ }
+    ensures { λ r. ⌜ response r (now (bases .exit)) ≡ askOf (now (records .entry)) (Sharing first cells) (now (bases .entry)) ⌝ }
 {
     ask(records, Question::Sharing { first, cells }, bases)
 }
 
 // The bases of those that lie within them.
 pub fn within(records: &[Reservation], first: u64, cells: u64, bases: &mut [u16]) -> Answer
-    ensures { λ r. ⌜ left r (now (bases .exit)) ≡ askOf (now (records .entry)) (Within first cells) (now (bases .entry)) ⌝ }
+    ensures { λ r. ⌜ response r (now (bases .exit)) ≡ askOf (now (records .entry)) (Within first cells) (now (bases .entry)) ⌝ }
 {
     ask(records, Question::Within { first, cells }, bases)
 }
 
 // The base of the Open one of at least `cells` cells that is nearest to a cell.
 pub fn nearest(records: &[Reservation], cell: u64, cells: u64) -> Answer
-    ensures { λ r. ⌜ left r [] ≡ askOf (now (records .entry)) (Nearest cell cells) [] ⌝ }
+    ensures { λ r. ⌜ response r [] ≡ askOf (now (records .entry)) (Nearest cell cells) [] ⌝ }
 {
     let question = Question::Nearest { cell, cells };
     let seen = survey(records, question);

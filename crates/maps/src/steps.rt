@@ -11,7 +11,7 @@ use table::ReservationState;
 use table::row::is_open;
 ghost use mathlib.Core.Path.{_≡_};
 ghost use Rattle.maps.specs.Cells.{span};
-ghost use Rattle.maps.specs.Questions.{listed, badList, badQuestion};
+ghost use Rattle.maps.specs.Questions.{isListed, badList, badQuestion};
 ghost use Rattle.maps.specs.Walks.{nothing, tileWith, nearWith, seenWith, judgeWith, listing, listWith, answerWith};
 
 // Before the first record.
@@ -118,7 +118,7 @@ pub(crate) fn judge_with(question: Question, seen: Seen, records: usize, room: u
 }
 
 fn is_listed(question: Question, base: u16, length: u16) -> bool
-    ensures { λ r. ⌜ r ≡ listed question (span base length) ⌝ }
+    ensures { λ r. ⌜ r ≡ isListed question (span base length) ⌝ }
 {
     match question {
         Question::Sharing { first, cells } => shares(base, length, first, cells),

@@ -12,7 +12,7 @@ use Rattle.calls.specs.Writer.{Outcome, writeOf}
 use Rattle.calls.specs.declared.Call.{Call}
 use Rattle.calls.specs.declared.Reading.{Reading}
 use Rattle.calls.specs.declared.Reading.the-variants.{Read, Refused}
-use Rattle.operands.specs.Numbers.{numbersOf, callFrom, same, areCall, answered, told, writeNumbers, numbered, readNumbers}
+use Rattle.operands.specs.Numbers.{numbersOf, callFrom, same, areCall, answered, lengthAndBuffer, writeNumbers, numbered, readNumbers}
 
 -- The numbers of the call that was made are those given.
 pub tested : (xs : List ℕ) {c : Call} {own : List ℕ} {t : Bool} → c ≡ callFrom xs → own ≡ numbersOf c → t ≡ same own xs → areCall xs ≡ t
@@ -22,13 +22,13 @@ tested xs made whole test = sym (test ∙ ap (λ (s : List ℕ). same s xs) (who
 module _ (xs out : List ℕ) where
   pub none-written : areCall xs ≡ false → answered 0 out ≡ writeNumbers xs out
   unfolding writeNumbers
-  none-written e = sym (pick-no (areCall xs) (told (writeOf (callFrom xs) out)) (answered 0 out) e)
+  none-written e = sym (pick-no (areCall xs) (lengthAndBuffer (writeOf (callFrom xs) out)) (answered 0 out) e)
 
-  pub call-written : {c : Call} {o : Outcome} → areCall xs ≡ true → c ≡ callFrom xs → o ≡ writeOf c out → told o ≡ writeNumbers xs out
+  pub call-written : {c : Call} {o : Outcome} → areCall xs ≡ true → c ≡ callFrom xs → o ≡ writeOf c out → lengthAndBuffer o ≡ writeNumbers xs out
   unfolding writeNumbers
   call-written is made e =
-      ap told (e ∙ ap (λ (d : Call). writeOf d out) made)
-      ∙ sym (pick-yes (areCall xs) (told (writeOf (callFrom xs) out)) (answered 0 out) is)
+      ap lengthAndBuffer (e ∙ ap (λ (d : Call). writeOf d out) made)
+      ∙ sym (pick-yes (areCall xs) (lengthAndBuffer (writeOf (callFrom xs) out)) (answered 0 out) is)
 
 module _ (input : List ℕ) (at : ℕ) (xs : List ℕ) where
   pub other-count : (length xs ≡ 7 → ⊥) → answered 0 xs ≡ readNumbers input at xs

@@ -48,12 +48,12 @@ abbrev pub answered : ℕ → List ℕ → Answered
 answered n s = record { number = n; slice = s }
 
 -- Of what writing a call leaves: the length and the buffer.
-abbrev pub told : Outcome → Answered
-told o = answered (o .len) (o .buffer)
+abbrev pub lengthAndBuffer : Outcome → Answered
+lengthAndBuffer o = answered (o .len) (o .buffer)
 
 -- Numbers that are a call are written as it is; of others nothing is.
 unfoldable pub writeNumbers : List ℕ → List ℕ → Answered
-writeNumbers xs out = pick (areCall xs) (told (writeOf (callFrom xs) out)) (answered 0 out)
+writeNumbers xs out = pick (areCall xs) (lengthAndBuffer (writeOf (callFrom xs) out)) (answered 0 out)
 
 -- The bytes that a call used and its numbers; 0 and the numbers as they were where nothing was read.
 abbrev pub numbered : Reading → List ℕ → Answered

@@ -22,10 +22,10 @@ use Rattle.arrays.proofs.RoundTrip.{state-back-again, written-formed}
 use Rattle.arrays.proofs.Starting.{begun, firstNumber, rootNumber, fresh-in}
 use Rattle.lines.specs.Laid.{Laid}
 use Rattle.lines.specs.Lines.{lineOf}
-use Rattle.session_rules.specs.Session.{ending, zeroed, linesFrom}
+use Rattle.session_rules.specs.Session.{endsSession, zeroed, linesFrom}
 use Rattle.session_rules.proofs.Sessions as sessions
 use Rattle.session_rules.proofs.Sessions.{Going, going-none, going-all, goes-on, take-zeroed}
-use Rattle.step.specs.Entries.{telling, commandJudgedOn}
+use Rattle.step.specs.Entries.{ranOn, commandJudgedOn}
 use Rattle.step.proofs.Running.{Kept, kept, commanded, ran-formed, ran-on, ran-sized}
 
 -- How far a session on arrays has come.
@@ -55,12 +55,12 @@ module _ {input : List ℕ} {a₀ : Arrays} {cells₀ tags₀ out₀ : List ℕ}
 
   -- One turn of the loop.
   module _ (more : at < length input) {r : Answer} {a′ : Arrays} {cells′ tags′ : List ℕ} {n : ℕ}
-      (e : telling (leaving r a′ cells′ tags′) n ≡ commandJudgedOn a input at cells tags)
+      (e : ranOn (leaving r a′ cells′ tags′) n ≡ commandJudgedOn a input at cells tags)
       {end₁ : ℕ} {out₁ : List ℕ} (put : Laid (lineOf (r .code) (r .number) (r .tag)) end out end₁ out₁) (short : r .code < 100 → end₁ ≤ end + 26) where
     abbrev on : ran (commanded r a′ n) cells′ tags′ ≡ commandOf (stateOf a) input at cells tags
     on = ran-on a (v .formed) input at cells tags r a′ cells′ tags′ n e
 
-    pub turn-stopped : ending (r .code) ≡ true → Laid (linesFrom (length input) (stateOf a₀) input 3 cells₀ tags₀) begin out₀ end₁ out₁ × (end₁ ≤ 13 * length input)
+    pub turn-stopped : endsSession (r .code) ≡ true → Laid (linesFrom (length input) (stateOf a₀) input 3 cells₀ tags₀) begin out₀ end₁ out₁ × (end₁ ≤ 13 * length input)
     turn-stopped z = (
       sessions.stopped input (stateOf a₀) cells₀ tags₀ out₀ begin cells tags out (stateOf a) at end g more (commanded r a′ n) cells′ tags′ on end₁ out₁ put short z,
       sessions.bounded input (stateOf a₀) cells₀ tags₀ out₀ begin cells tags out (stateOf a) at end g more (commanded r a′ n) cells′ tags′ on end₁ out₁ put short,
@@ -69,7 +69,7 @@ module _ {input : List ℕ} {a₀ : Arrays} {cells₀ tags₀ out₀ : List ℕ}
     pub turn-within : at + n ≤ length input
     turn-within = sessions.used-within input (stateOf a₀) cells₀ tags₀ out₀ begin cells tags out (stateOf a) at end g more (commanded r a′ n) cells′ tags′ on end₁ out₁ put short
 
-    pub turn-some : ending (r .code) ≡ false → 2 ≤ n
+    pub turn-some : endsSession (r .code) ≡ false → 2 ≤ n
     turn-some z = sessions.used-some input (stateOf a₀) cells₀ tags₀ out₀ begin cells tags out (stateOf a) at end g more (commanded r a′ n) cells′ tags′ on end₁ out₁ put short z
 
     cells-same : length cells′ ≡ length cells
@@ -93,7 +93,7 @@ module _ {input : List ℕ} {a₀ : Arrays} {cells₀ tags₀ out₀ : List ℕ}
     pub turn-out : length out₁ ≡ length out₀
     turn-out = put .size ∙ g .laid .size
 
-    pub turn-on : ending (r .code) ≡ false → Arriving input a₀ cells₀ tags₀ out₀ begin a′ cells′ tags′ out₁ (at + n) end₁
+    pub turn-on : endsSession (r .code) ≡ false → Arriving input a₀ cells₀ tags₀ out₀ begin a′ cells′ tags′ out₁ (at + n) end₁
     turn-on z = record {
       first = v .first;
       formed = ran-formed a (v .formed) input at cells tags r a′ cells′ tags′ n e;

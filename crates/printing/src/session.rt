@@ -1,6 +1,6 @@
 // A session over memory of its own: the lines of its start and of all its commands.
 use arrays::Numbers;
-use calls_in_place::word_calls::refused;
+use calls_in_place::word_calls::coded;
 use formed::formed;
 use lines::put_line;
 use pages::layer::in_range;
@@ -17,7 +17,7 @@ ghost use Rattle.arrays.specs.Reading.{arrays, stateOf, Formed};
 ghost use Rattle.arrays.specs.Steps.{leaving};
 ghost use Rattle.lines.specs.Laid.{Laid};
 ghost use Rattle.session_rules.specs.Session.{zeroed, linesFrom, linesRead, linesOf, Spared};
-ghost use Rattle.step.specs.Entries.{telling, commandJudgedOn};
+ghost use Rattle.step.specs.Entries.{ranOn, commandJudgedOn};
 
 // The bytes of an input that are looked at.
 const LIMIT: usize = 32768;
@@ -42,7 +42,7 @@ fn one(
 ) -> Ended
     requires { ⌜ Formed (arrays nums (now words) (now marks) (now mail) (now flags) (now rows) (now pages) (now frames) (now principals) (now counts)) ⌝ }
     requires { ⌜ (length (now cells) ≡ 16 * nums .f) × (length (now tags) ≡ 16 * nums .f) ⌝ }
-    ensures { λ r. ⌜ telling (leaving (r .answer) (arrays (r .nums) (now (words .exit)) (now (marks .exit)) (now (mail .exit)) (now (flags .exit)) (now (rows .exit)) (now (pages .exit)) (now (frames .exit)) (now (principals .exit)) (now (counts .exit))) (now (cells .exit)) (now (tags .exit))) (r .used) ≡ commandJudgedOn (arrays nums (now (words .entry)) (now (marks .entry)) (now (mail .entry)) (now (flags .entry)) (now (rows .entry)) (now (pages .entry)) (now (frames .entry)) (now (principals .entry)) (now (counts .entry))) (now (input .entry)) at (now (cells .entry)) (now (tags .entry)) ⌝ }
+    ensures { λ r. ⌜ ranOn (leaving (r .answer) (arrays (r .nums) (now (words .exit)) (now (marks .exit)) (now (mail .exit)) (now (flags .exit)) (now (rows .exit)) (now (pages .exit)) (now (frames .exit)) (now (principals .exit)) (now (counts .exit))) (now (cells .exit)) (now (tags .exit))) (r .used) ≡ commandJudgedOn (arrays nums (now (words .entry)) (now (marks .entry)) (now (mail .entry)) (now (flags .entry)) (now (rows .entry)) (now (pages .entry)) (now (frames .entry)) (now (principals .entry)) (now (counts .entry))) (now (input .entry)) at (now (cells .entry)) (now (tags .entry)) ⌝ }
 {
     if checked {
         if !formed(
@@ -57,7 +57,7 @@ fn one(
             principals,
             counts,
         ) {
-            let answer = refused(1);
+            let answer = coded(1);
             return Ended {
                 answer,
                 nums,

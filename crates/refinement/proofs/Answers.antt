@@ -25,7 +25,7 @@ use Rattle.cost.specs.Asked.{costOn}
 use Rattle.maps.specs.declared.Question.{Question}
 use Rattle.maps.specs.declared.Question.the-variants.{Nearest}
 use Rattle.maps.specs.Questions.{askOf}
-use Rattle.step.specs.Entries.{Told, commandOn}
+use Rattle.step.specs.Entries.{RanOn, commandOn}
 use Rattle.entries.specs.Runs.{Run, answerNumbers, runOn, runIn}
 use Rattle.histories.specs.Runs.{Machine, outcome, next}
 use Rattle.histories.specs.Forming.{Standing}
@@ -59,14 +59,14 @@ module _ (m : Machine) (v f : ℕ) (k : Standing m v f) where
 
   module _ (input : List ℕ) (at : ℕ) (buffer : List ℕ) where
     -- A command whose answer has room, by what it leaves of arrays.
-    done-one : 4 ≤ length buffer → (t : Told) → commandOn a input at (m .cells) (m .tags) ≡ t
+    done-one : 4 ≤ length buffer → (t : RanOn) → commandOn a input at (m .cells) (m .tags) ≡ t
         → commandLent (lentOf a) input at (m .cells) (m .tags) buffer
         ≡ done 1 (lentOf (t .left .arrays)) (t .left .cells) (t .left .tags) (answerNumbers (t .left .answer) (t .used) ++ drop 4 buffer)
     unfolding commandLent
     done-one h t e =
         pick-yes (leb 4 (length buffer)) (doneOne (commandOn (arraysIn (lentOf a)) input at (m .cells) (m .tags)) (lentOf a) buffer) (done 0 (lentOf a) (m .cells) (m .tags) buffer) (le-leb 4 (length buffer) h)
         ∙ ap (λ (b : Arrays). doneOne (commandOn b input at (m .cells) (m .tags)) (lentOf a) buffer) (lists-back a)
-        ∙ ap (λ (x : Told). doneOne x (lentOf a) buffer) e
+        ∙ ap (λ (x : RanOn). doneOne x (lentOf a) buffer) e
         ∙ ap (λ (l : Lent). done 1 l (t .left .cells) (t .left .tags) (answerNumbers (t .left .answer) (t .used) ++ drop 4 buffer)) (lists-over (t .left .arrays) a)
 
     call-done : 4 ≤ length buffer → (c : Call) (n : ℕ) → readOf (drop at input) ≡ Read c n

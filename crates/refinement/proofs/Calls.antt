@@ -12,7 +12,7 @@ use Rattle.histories.specs.Runs.{Machine, outcome, next, run, answers, begun}
 use Rattle.histories.specs.Forming.{Standing}
 use Rattle.histories.proofs.Forming.{standing-next, standing-begun}
 use Rattle.arrays.specs.Reading.{arraysOf}
-use Rattle.arrays.specs.Steps.{Left, leftOf}
+use Rattle.arrays.specs.Steps.{Leaving, leftOf}
 use Rattle.arrays.proofs.RoundTrip.{state-back-again, written-formed}
 use Rattle.formed.proofs.Tested.{passing}
 use Rattle.step.specs.Entries.{judgedOn, stepOn}
@@ -27,7 +27,7 @@ steps-run : (calls : List Call) (m : Machine) (v f : ℕ) → Standing m v f →
 unfolding stepsOn run answers next outcome leftOf
 steps-run [] m v f k = refl
 steps-run (c ∷ calls) m v f k =
-    ap (λ (l : Left). preceding (l .answer) (stepsOn (l .arrays) calls (l .cells) (l .tags))) (step-written (m .state) c (m .cells) (m .tags) (k .formed))
+    ap (λ (l : Leaving). preceding (l .answer) (stepsOn (l .arrays) calls (l .cells) (l .tags))) (step-written (m .state) c (m .cells) (m .tags) (k .formed))
     ∙ ap (preceding (written (outcome m c .answer))) (steps-run calls (next m c) v f (standing-next m v f c k))
 
 pub calls-are-histories : CallsAreHistories

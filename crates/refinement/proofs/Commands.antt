@@ -25,8 +25,8 @@ use Rattle.arrays.specs.Steps.{answer, leaving, leftOf}
 use Rattle.arrays.proofs.RoundTrip.{state-back-again, written-formed}
 use Rattle.formed.specs.Test.{formedOf}
 use Rattle.formed.proofs.Tested.{passing}
-use Rattle.session_rules.specs.Session.{ending}
-use Rattle.step.specs.Entries.{telling, toldOf, commandJudgedOn, commandOn}
+use Rattle.session_rules.specs.Session.{endsSession}
+use Rattle.step.specs.Entries.{ranOn, ranOf, commandJudgedOn, commandOn}
 use Rattle.histories.specs.Runs.{Machine, outcome, next}
 use Rattle.histories.specs.Forming.{Standing}
 use Rattle.histories.proofs.Forming.{standing-serves, standing-code}
@@ -38,12 +38,12 @@ module _ (m : Machine) (v f : ℕ) (k : Standing m v f) where
   passes = passing (arraysOf (m .state)) (written-formed (m .state) (k .formed))
 
   -- An answer of a history ends no run.
-  late : (n : ℕ) → 3 < n → ending n ≡ false
+  late : (n : ℕ) → 3 < n → endsSession n ≡ false
   late n h = ap (λ (b : Bool). leb 1 n && b) (lt-leb n 3 h) ∙ never (leb 1 n)
 
-  pub goes-on : (c : Call) → ending (outcome m c .answer .code) ≡ false
+  pub goes-on : (c : Call) → endsSession (outcome m c .answer .code) ≡ false
   goes-on c =
-      ap (λ (n : ℕ). ending n) (standing-code m v f c k) ∙ ⊎-elim (λ z. ap (λ (n : ℕ). ending n) z) (λ z. late _ z) (late-code (m .state) c (m .cells) (m .tags))
+      ap (λ (n : ℕ). endsSession n) (standing-code m v f c k) ∙ ⊎-elim (λ z. ap (λ (n : ℕ). endsSession n) z) (λ z. late _ z) (late-code (m .state) c (m .cells) (m .tags))
 
   module _ (input : List ℕ) (at : ℕ) where
     judged-reading : commandJudged (m .state) input at (m .cells) (m .tags) ≡ onReading (m .state) (readOf (drop at input)) (m .cells) (m .tags)
@@ -56,21 +56,21 @@ module _ (m : Machine) (v f : ℕ) (k : Standing m v f) where
     pub command-reading : commandOf (m .state) input at (m .cells) (m .tags) ≡ onReading (m .state) (readOf (drop at input)) (m .cells) (m .tags)
     command-reading = sym (judged-command (m .state) input at (m .cells) (m .tags) (k .formed)) ∙ judged-reading
 
-    by-reading : commandOn (arraysOf (m .state)) input at (m .cells) (m .tags) ≡ toldOf (onReading (m .state) (readOf (drop at input)) (m .cells) (m .tags))
+    by-reading : commandOn (arraysOf (m .state)) input at (m .cells) (m .tags) ≡ ranOf (onReading (m .state) (readOf (drop at input)) (m .cells) (m .tags))
     unfolding commandOn commandJudgedOn
     by-reading =
-        pick-yes (formedOf (arraysOf (m .state))) (commandJudgedOn (arraysOf (m .state)) input at (m .cells) (m .tags)) (telling (leaving (answer 1 empty) (arraysOf (m .state)) (m .cells) (m .tags)) 0) passes
-        ∙ ap (λ (s : State). toldOf (commandJudged s input at (m .cells) (m .tags))) (state-back-again (m .state) (k .formed)) ∙ ap toldOf judged-reading
+        pick-yes (formedOf (arraysOf (m .state))) (commandJudgedOn (arraysOf (m .state)) input at (m .cells) (m .tags)) (ranOn (leaving (answer 1 empty) (arraysOf (m .state)) (m .cells) (m .tags)) 0) passes
+        ∙ ap (λ (s : State). ranOf (commandJudged s input at (m .cells) (m .tags))) (state-back-again (m .state) (k .formed)) ∙ ap ranOf judged-reading
 
     pub command-call : (c : Call) (n : ℕ) → readOf (drop at input) ≡ Read c n
         → commandOn (arraysOf (m .state)) input at (m .cells) (m .tags)
-        ≡ telling (leaving (written (outcome m c .answer)) (arraysOf (next m c .state)) (next m c .cells) (next m c .tags)) n
-    unfolding toldOf onReading leftOf outcome next
+        ≡ ranOn (leaving (written (outcome m c .answer)) (arraysOf (next m c .state)) (next m c .cells) (next m c .tags)) n
+    unfolding ranOf onReading leftOf outcome next
     command-call c n e =
-        by-reading ∙ ap (λ (r : Reading). toldOf (onReading (m .state) r (m .cells) (m .tags))) e
-        ∙ ap (λ (o : Outcome). telling (leftOf o) n) (judged-step (m .state) c (m .cells) (m .tags) (k .formed))
+        by-reading ∙ ap (λ (r : Reading). ranOf (onReading (m .state) r (m .cells) (m .tags))) e
+        ∙ ap (λ (o : Outcome). ranOn (leftOf o) n) (judged-step (m .state) c (m .cells) (m .tags) (k .formed))
 
     pub command-none : readOf (drop at input) ≡ Refused
-        → commandOn (arraysOf (m .state)) input at (m .cells) (m .tags) ≡ telling (leaving (answer 3 empty) (arraysOf (m .state)) (m .cells) (m .tags)) 0
-    unfolding toldOf onReading leftOf
-    command-none e = by-reading ∙ ap (λ (r : Reading). toldOf (onReading (m .state) r (m .cells) (m .tags))) e
+        → commandOn (arraysOf (m .state)) input at (m .cells) (m .tags) ≡ ranOn (leaving (answer 3 empty) (arraysOf (m .state)) (m .cells) (m .tags)) 0
+    unfolding ranOf onReading leftOf
+    command-none e = by-reading ∙ ap (λ (r : Reading). ranOf (onReading (m .state) r (m .cells) (m .tags))) e

@@ -17,8 +17,8 @@ use Rattle.calls.specs.Reader.{readOf}
 use Rattle.words.specs.Words.{byteOf}
 use Rattle.arrays.specs.Reading.{arraysOf}
 use Rattle.arrays.specs.Steps.{answer}
-use Rattle.session_rules.specs.Session.{ending}
-use Rattle.entries.specs.Runs.{Run, answerNumbers, running, resting, preceded, runOn}
+use Rattle.session_rules.specs.Session.{endsSession}
+use Rattle.entries.specs.Runs.{Run, answerNumbers, runOf, resting, preceded, runOn}
 use Rattle.entries.proofs.Repeating.{preceded-rest, run-next, run-past}
 use Rattle.entries.proofs.Repeating.{next as onNext}
 use Rattle.histories.specs.Runs.{Machine, outcome, next, run, answers}
@@ -34,7 +34,7 @@ use Rattle.refinement.proofs.Commands.{goes-on, command-call, command-n
 -- What the history of a parse leaves, as a run.
 abbrev pub runBy : Machine → Parse → Run
 runBy m p =
-    running (length (p .calls) + byteOf (p .stuck)) (p .at) (arraysOf (run m (p .calls) .state)) (run m (p .calls) .cells) (run m (p .calls) .tags)
+    runOf (length (p .calls) + byteOf (p .stuck)) (p .at) (arraysOf (run m (p .calls) .state)) (run m (p .calls) .cells) (run m (p .calls) .tags)
     (numbersOf (replies (p .calls) (answers m (p .calls))) ++ pick (p .stuck) noCall [])
 
 -- A call before a parse is a command before its run.
@@ -43,7 +43,7 @@ unfolding run answers replies numbersOf
 run-first m c p =
     let count : 1 + (length (p .calls) + byteOf (p .stuck)) ≡ length (c ∷ p .calls) + byteOf (p .stuck) = omega arith in
     let after : Machine = next m c in
-    ap (λ (n : ℕ). running n (p .at) (arraysOf (run after (p .calls) .state)) (run after (p .calls) .cells) (run after (p .calls) .tags)
+    ap (λ (n : ℕ). runOf n (p .at) (arraysOf (run after (p .calls) .state)) (run after (p .calls) .cells) (run after (p .calls) .tags)
     (replying c (outcome m c .answer) .numbers ++ (numbersOf (replies (p .calls) (answers after (p .calls))) ++ pick (p .stuck) noCall []))) count
 
 module _ (input : List ℕ) where
@@ -56,7 +56,7 @@ module _ (input : List ℕ) where
       run-next input at room (arraysOf (m .state)) (m .cells) (m .tags) (ltb-true at (length input) h)
       ∙ ap (onNext input at room) (command-none m v f k input at e)
       ∙ preceded-rest 1 noCall (at + 0) (arraysOf (m .state)) (m .cells) (m .tags)
-      ∙ ap (λ (n : ℕ). running 1 n (arraysOf (m .state)) (m .cells) (m .tags) noCall) stays
+      ∙ ap (λ (n : ℕ). runOf 1 n (arraysOf (m .state)) (m .cells) (m .tags) noCall) stays
   stuck-here room m v f at k e false h = run-past input at (suc room) (arraysOf (m .state)) (m .cells) (m .tags) (ltb-false at (length input) h)
 
   -- A call, and the run after it.
@@ -69,7 +69,7 @@ module _ (input : List ℕ) where
       run-next input at room (arraysOf (m .state)) (m .cells) (m .tags) (read-within input at c n e)
       ∙ ap (onNext input at room) (command-call m v f k input at c n e)
       ∙ ap (preceded 1 (answerNumbers a n))
-      (pick-no (ending (outcome m c .answer .code)) (resting (at + n) there (next m c .cells) (next m c .tags)) (runOn room there input (at + n) (next m c .cells) (next m c .tags)) (goes-on m v f k c)
+      (pick-no (endsSession (outcome m c .answer .code)) (resting (at + n) there (next m c .cells) (next m c .tags)) (runOn room there input (at + n) (next m c .cells) (next m c .tags)) (goes-on m v f k c)
       ∙ later)
       ∙ ap (λ (j : ℕ). preceded 1 (answerNumbers a j) (runBy (next m c) p)) (read-long (drop at input) c n e) ∙ run-first m c p
 

@@ -19,7 +19,7 @@ use Rattle.machine.specs.Step.{Outcome}
 use Rattle.machine.specs.Command.{Ran, used, onReading, commandOf}
 use Rattle.machine.proofs.Judging.{judged-step}
 use Rattle.lines.specs.Lines.{lineOf}
-use Rattle.session_rules.specs.Session.{ending, lineThen, linesFrom, zeroed, linesStarted, linesRead, linesOf}
+use Rattle.session_rules.specs.Session.{endsSession, lineThen, linesFrom, zeroed, linesStarted, linesRead, linesOf}
 use Rattle.session_rules.proofs.Sessions.{lines-enough, take-within}
 use Rattle.histories.specs.Runs.{Machine, outcome, next, answers, begun, Begins}
 use Rattle.histories.specs.Forming.{Standing}
@@ -51,7 +51,7 @@ module _ (input : List ℕ) where
         ∙ ap (λ (r : Reading). following n input at (onReading (m .state) r (m .cells) (m .tags))) e
         ∙ ap (λ (o : Outcome). following n input at (used j o)) (judged-step (m .state) c (m .cells) (m .tags) (k .formed))
         ∙ ap (λ (l : List ℕ). lineOf (a .code) (a .number) (a .tag) ++ l)
-        (pick-no (ending (a .code)) [] (linesFrom n (next m c .state) input (at + j) (next m c .cells) (next m c .tags)) (goes-on m v f k c) ∙ later)
+        (pick-no (endsSession (a .code)) [] (linesFrom n (next m c .state) input (at + j) (next m c .cells) (next m c .tags)) (goes-on m v f k c) ∙ later)
         ∙ sym (append-assoc (lineOf (a .code) (a .number) (a .tag)) (answerLines (answers (next m c) (p .calls))) (pick (p .stuck) (lineOf 3 0 false) []))
 
     no-line : readOf (drop at input) ≡ Refused → (b : Bool) → ltb at (length input) ≡ b → linesFrom (suc n) (m .state) input at (m .cells) (m .tags) ≡ historyLines m (parse [] at b)

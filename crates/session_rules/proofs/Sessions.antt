@@ -10,7 +10,7 @@ use borrow.Author.Tests.{lt-ltb, le-ltb, ltb-true, leb-true, eqb-true, le-leb, l
 use Rattle.capabilities.specs.Lists.{pick}
 use Rattle.pages.specs.Layer.{serves, inRange}
 use Rattle.calls.specs.declared.Reading.the-variants.{Read, Refused}
-use Rattle.calls.specs.Commands.{lengths, lengthOf, callAt}
+use Rattle.calls.specs.Commands.{lengths, commandLength, callAt}
 use Rattle.calls.specs.Reader.{whole, readOf, firstByte}
 use Rattle.capabilities.proofs.Choice.{and-left, and-right}
 use Rattle.machine.specs.State.{State}
@@ -24,7 +24,7 @@ use Rattle.machine.proofs.Commands.{command-keeps, command-at-most, command-siz
 use Rattle.lines.specs.Laid.{Laid}
 use Rattle.lines.specs.Lines.{lineOf, decimal, digits}
 use Rattle.lines.proofs.Laying.{laid-none, laid-both}
-use Rattle.session_rules.specs.Session.{ending, lineThen, linesFrom, zeroed, linesStarted, linesRead, linesOf, Printed, printed, printOf, Spared}
+use Rattle.session_rules.specs.Session.{endsSession, lineThen, linesFrom, zeroed, linesStarted, linesRead, linesOf, Printed, printed, printOf, Spared}
 
 -- Every command's length is two at least, by the table.
 unfoldable two : List ℕ → Bool
@@ -48,24 +48,24 @@ unfolding two
 two-all = refl
 
 -- A whole command is within its input and two bytes long at least.
-whole-fits : (l : List ℕ) → whole l ≡ true → lengthOf (firstByte l) ≤ length l
+whole-fits : (l : List ℕ) → whole l ≡ true → commandLength (firstByte l) ≤ length l
 unfolding whole
 whole-fits [] e = let z : _≡_ {A = ℕ} 0 1 = ap (λ (b : Bool). pick b 1 0) e in omega arith
-whole-fits (k ∷ l) e = leb-true (lengthOf k) (length (k ∷ l)) (and-right (ltb 0 (lengthOf k)) (leb (lengthOf k) (length (k ∷ l))) e)
+whole-fits (k ∷ l) e = leb-true (commandLength k) (length (k ∷ l)) (and-right (ltb 0 (commandLength k)) (leb (commandLength k) (length (k ∷ l))) e)
 
-whole-two : (l : List ℕ) → whole l ≡ true → 2 ≤ lengthOf (firstByte l)
+whole-two : (l : List ℕ) → whole l ≡ true → 2 ≤ commandLength (firstByte l)
 unfolding whole
 whole-two [] e = let z : _≡_ {A = ℕ} 0 1 = ap (λ (b : Bool). pick b 1 0) e in omega arith
 whole-two (k ∷ l) e =
-    two-at lengths k two-all (ltb-true 0 (lengthOf k) (and-left (ltb 0 (lengthOf k)) (leb (lengthOf k) (length (k ∷ l))) e))
+    two-at lengths k two-all (ltb-true 0 (commandLength k) (and-left (ltb 0 (commandLength k)) (leb (commandLength k) (length (k ∷ l))) e))
 
 -- What a command uses lies within the input, and is two bytes at least where the session goes on.
 pub record Used (input : List ℕ) (at : ℕ) (r : Ran) : Type 0 where
   pub within : at + r .command .used ≤ length input
-  pub some : ending (r .command .answered .code) ≡ false → 2 ≤ r .command .used
+  pub some : endsSession (r .command .answered .code) ≡ false → 2 ≤ r .command .used
 
 module _ (s : State) (input : List ℕ) (at : ℕ) (cells tags : List ℕ) (h : at ≤ length input) where
-  ended : (k : ℕ) → ending k ≡ true → Used input at (used 0 (refused k s cells tags))
+  ended : (k : ℕ) → endsSession k ≡ true → Used input at (used 0 (refused k s cells tags))
   ended k e = record {
     within = omega arith;
     some = λ z. let y : _≡_ {A = ℕ} 1 0 = ap (λ (b : Bool). pick b 1 0) (sym e ∙ z) in let q : ⊥ = omega arith in absurd q;
@@ -75,9 +75,9 @@ module _ (s : State) (input : List ℕ) (at : ℕ) (cells tags : List ℕ) (h : 
   unfolding onReading readOf
   read-used =
       pick-by (λ r. Used input at (onReading s r cells tags)) (whole (drop at input))
-      (Read (callAt (firstByte (drop at input)) (drop at input)) (lengthOf (firstByte (drop at input)))) Refused
+      (Read (callAt (firstByte (drop at input)) (drop at input)) (commandLength (firstByte (drop at input)))) Refused
       (λ w.
-      let fits : lengthOf (firstByte (drop at input)) ≤ length (drop at input) = whole-fits (drop at input) w in
+      let fits : commandLength (firstByte (drop at input)) ≤ length (drop at input) = whole-fits (drop at input) w in
       let long : length (drop at input) + at ≡ length input = simp length-drop (omega arith) in
       record { within = omega arith; some = λ z. whole-two (drop at input) w })
       (λ w. ended 3 refl)
@@ -123,7 +123,7 @@ lines-enough (suc n) (suc m) s input at cells tags p q =
         let more : at < length input = ltb-true at (length input) e in
         let fit = u (omega arith) in
         ap (λ (l : List ℕ). lineOf (r .command .answered .code) (r .command .answered .number) (r .command .answered .tag) ++ l)
-        (follow (ending (r .command .answered .code)) _ _
+        (follow (endsSession (r .command .answered .code)) _ _
         (λ z. let some : 2 ≤ r .command .used = fit .some z in ih (r .command .answered .state) input (at + r .command .used) (r .cells) (r .tags) (omega arith) (omega arith)))
 
 -- One command's line and then the rest, with as many commands allowed as before.
@@ -135,7 +135,7 @@ module _ (s : State) (input : List ℕ) (at : ℕ) (cells tags : List ℕ) (h : 
   unfolding linesFrom
   one-more n e = rw (lt-ltb at (length input) h)
       (ap (λ (l : List ℕ). lineOf (r .command .answered .code) (r .command .answered .number) (r .command .answered .tag) ++ l)
-      (follow (ending (r .command .answered .code)) _ _
+      (follow (endsSession (r .command .answered .code)) _ _
       (λ z. let some : 2 ≤ r .command .used = fit .some z in lines-enough n (length input) (r .command .answered .state) input (at + r .command .used) (r .cells) (r .tags) (omega arith) (omega arith))))
     where
       r : Ran
@@ -191,15 +191,15 @@ module _ (input : List ℕ) (start : State) (cells₀ tags₀ out₀ : List ℕ)
       near = short (omega (arith, low))
 
       split : linesFrom (length input) start input 3 cells₀ tags₀
-          ≡ (g .written ++ line) ++ pick (ending (done .answered .code)) [] (linesFrom (length input) (done .answered .state) input (at + done .used) cells₁ tags₁)
+          ≡ (g .written ++ line) ++ pick (endsSession (done .answered .code)) [] (linesFrom (length input) (done .answered .state) input (at + done .used) cells₁ tags₁)
       split =
           g .is ∙ ap (λ (l : List ℕ). g .written ++ l) (lines-next state input at cells tags more ∙ ap (next state input at cells tags more) (sym e))
-          ∙ sym (append-assoc (g .written) (lineOf (done .answered .code) (done .answered .number) (done .answered .tag)) (pick (ending (done .answered .code)) [] (linesFrom (length input) (done .answered .state) input (at + done .used) cells₁ tags₁)))
+          ∙ sym (append-assoc (g .written) (lineOf (done .answered .code) (done .answered .number) (done .answered .tag)) (pick (endsSession (done .answered .code)) [] (linesFrom (length input) (done .answered .state) input (at + done .used) cells₁ tags₁)))
 
       laid : Laid (g .written ++ line) begin out₀ end₁ out₁
       laid = laid-both (g .written) line begin end end₁ out₀ out out₁ (g .laid) put
 
-      pub stopped : ending (done .answered .code) ≡ true → Laid (linesFrom (length input) start input 3 cells₀ tags₀) begin out₀ end₁ out₁
+      pub stopped : endsSession (done .answered .code) ≡ true → Laid (linesFrom (length input) start input 3 cells₀ tags₀) begin out₀ end₁ out₁
       stopped z =
           subst (λ (l : List ℕ). Laid l begin out₀ end₁ out₁)
           (sym (split ∙ ap (λ (b : Bool). (g .written ++ line) ++ pick b [] (linesFrom (length input) (done .answered .state) input (at + done .used) cells₁ tags₁)) z ∙ append-nil (g .written ++ line)))
@@ -211,10 +211,10 @@ module _ (input : List ℕ) (start : State) (cells₀ tags₀ out₀ : List ℕ)
       pub used-within : at + done .used ≤ length input
       used-within = fit .within
 
-      pub used-some : ending (done .answered .code) ≡ false → 2 ≤ done .used
+      pub used-some : endsSession (done .answered .code) ≡ false → 2 ≤ done .used
       used-some z = fit .some z
 
-      pub goes-on : ending (done .answered .code) ≡ false → Going input start cells₀ tags₀ out₀ begin cells₁ tags₁ out₁ (done .answered .state) (at + done .used) end₁
+      pub goes-on : endsSession (done .answered .code) ≡ false → Going input start cells₀ tags₀ out₀ begin cells₁ tags₁ out₁ (done .answered .state) (at + done .used) end₁
       goes-on z = record {
         formed = subst (λ (r : Ran). wellFormed (r .command .answered .state) ≡ true) (sym e) (command-keeps state input at cells tags (g .formed));
         within = fit .within;
@@ -255,7 +255,7 @@ module _ (input : List ℕ) (v f : ℕ) (ve : v ≡ 256 * getD input 0 0 + getD 
   rest : List ℕ
   rest = linesFrom (length input) (fresh v f) input 3 (zeroed f) (zeroed f)
 
-  read-is : (b : Bool) → inRange v f ≡ b → linesRead input ≡ lineOf (pick b 0 1) 0 false ++ pick (ending (pick b 0 1)) [] rest
+  read-is : (b : Bool) → inRange v f ≡ b → linesRead input ≡ lineOf (pick b 0 1) 0 false ++ pick (endsSession (pick b 0 1)) [] rest
   unfolding linesRead startOf rest
   read-is b e = rw (le-ltb (length input) 3 long, ← ve, ← fe, e)
 

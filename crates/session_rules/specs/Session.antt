@@ -14,12 +14,12 @@ use Rattle.machine.specs.Command.{commandOf}
 use Rattle.lines.specs.Lines.{lineOf}
 
 -- Refusals 1 to 3 end a session.
-abbrev pub ending : ℕ → Bool
-ending code = leb 1 code && leb code 3
+abbrev pub endsSession : ℕ → Bool
+endsSession code = leb 1 code && leb code 3
 
 -- An answer's line, and the lines that follow it if the session goes on.
 abbrev pub lineThen : Answered → List ℕ → List ℕ
-lineThen a rest = lineOf (a .code) (a .number) (a .tag) ++ pick (ending (a .code)) [] rest
+lineThen a rest = lineOf (a .code) (a .number) (a .tag) ++ pick (endsSession (a .code)) [] rest
 
 -- The lines of the commands from a place on, of which there are at most so many as the first number says.
 unfoldable pub linesFrom : ℕ → State → List ℕ → ℕ → List ℕ → List ℕ → List ℕ

@@ -7,7 +7,7 @@ use Rattle.capabilities.specs.Lists.{pick}
 use Rattle.calls.specs.Commands.{bytesOf}
 use Rattle.calls.specs.declared.Call.{Call}
 use Rattle.arrays.specs.declared.Arrays.{Arrays}
-use Rattle.arrays.specs.Steps.{Left}
+use Rattle.arrays.specs.Steps.{Leaving}
 use Rattle.step.specs.Entries.{stepOn}
 use Rattle.short_histories.specs.Listed.{listed}
 use Rattle.short_histories.specs.Text.{hexLine}
@@ -22,7 +22,7 @@ pub record Led : Type 0 where
 abbrev pub leading : Bool → Arrays → List ℕ → List ℕ → Led
 leading granted a cells tags = record { granted = granted; arrays = a; cells = cells; tags = tags }
 
-unfoldable pub ledBy : Left → Led
+unfoldable pub ledBy : Leaving → Led
 ledBy l = leading (eqb (l .answer .code) 0) (l .arrays) (l .cells) (l .tags)
 
 -- The lines that go on behind a call, if it was granted: its bytes stand behind the earlier ones.

@@ -19,10 +19,10 @@ use Rattle.machine.specs.Step.{Outcome, refused, ruled, judged}
 use Rattle.machine.specs.Command.{Ran, used, onReading, commandJudged}
 use Rattle.arrays.specs.declared.Arrays.{Arrays}
 use Rattle.arrays.specs.Reading.{coreOf, stateOf, Formed}
-use Rattle.arrays.specs.Steps.{Left, answer, leaving, leftOf}
+use Rattle.arrays.specs.Steps.{Leaving, answer, leaving, leftOf}
 use Rattle.arrays.proofs.Ruling.{wrote}
 use Rattle.formed.specs.Test.{formedOf}
-use Rattle.step.specs.Entries.{ruledOn, judgedOn, stepOn, Told, telling, toldOf, commandJudgedOn, commandOn}
+use Rattle.step.specs.Entries.{ruledOn, judgedOn, stepOn, RanOn, ranOn, ranOf, commandJudgedOn, commandOn}
 
 -- Lent memory is of the right size.
 abbrev pub fits : Arrays → List ℕ → List ℕ → Bool
@@ -37,25 +37,25 @@ unfolding stateOf coreOf
 served a cells tags = refl
 
 module _ (a : Arrays) (cells tags : List ℕ) (e : fits a cells tags ≡ true) where
-  pub call-fits : (c : Call) (x : Left) → x ≡ ruledOn a c cells tags → x ≡ judgedOn a c cells tags
+  pub call-fits : (c : Call) (x : Leaving) → x ≡ ruledOn a c cells tags → x ≡ judgedOn a c cells tags
   unfolding ruledOn judgedOn judged
   call-fits c x d =
       d ∙ ap leftOf (sym (pick-yes (serves (stateOf a .core .pages) (length cells) (length tags)) (ruled (stateOf a) c cells tags) (refused 2 (stateOf a) cells tags) (served a cells tags ∙ e)))
 
   module _ (input : List ℕ) (at : ℕ) where
-    command-fits : (t : Reading) → readOf (drop at input) ≡ t → toldOf (onReading (stateOf a) t cells tags) ≡ commandJudgedOn a input at cells tags
+    command-fits : (t : Reading) → readOf (drop at input) ≡ t → ranOf (onReading (stateOf a) t cells tags) ≡ commandJudgedOn a input at cells tags
     unfolding commandJudgedOn commandJudged
     command-fits t r =
-        ap (λ (x : Reading). toldOf (onReading (stateOf a) x cells tags)) (sym r)
-        ∙ ap toldOf (sym (pick-yes (serves (stateOf a .core .pages) (length cells) (length tags)) (onReading (stateOf a) (readOf (drop at input)) cells tags) (used 0 (refused 2 (stateOf a) cells tags)) (served a cells tags ∙ e)))
+        ap (λ (x : Reading). ranOf (onReading (stateOf a) x cells tags)) (sym r)
+        ∙ ap ranOf (sym (pick-yes (serves (stateOf a .core .pages) (length cells) (length tags)) (onReading (stateOf a) (readOf (drop at input)) cells tags) (used 0 (refused 2 (stateOf a) cells tags)) (served a cells tags ∙ e)))
 
-    pub command-reads : (c : Call) (n : ℕ) → readOf (drop at input) ≡ Read c n → (x : Left) → x ≡ ruledOn a c cells tags → telling x n ≡ commandJudgedOn a input at cells tags
-    unfolding toldOf onReading judgedOn
-    command-reads c n r x d = ap (λ (y : Left). telling y n) (call-fits c x d) ∙ command-fits (Read c n) r
+    pub command-reads : (c : Call) (n : ℕ) → readOf (drop at input) ≡ Read c n → (x : Leaving) → x ≡ ruledOn a c cells tags → ranOn x n ≡ commandJudgedOn a input at cells tags
+    unfolding ranOf onReading judgedOn
+    command-reads c n r x d = ap (λ (y : Leaving). ranOn y n) (call-fits c x d) ∙ command-fits (Read c n) r
 
-    pub command-none : Formed a → readOf (drop at input) ≡ Refused → telling (leaving (answer 3 empty) a cells tags) 0 ≡ commandJudgedOn a input at cells tags
-    unfolding toldOf onReading
-    command-none f r = ap (λ (y : Left). telling y 0) (wrote 3 empty (stateOf a) a cells tags (sym (f .kept))) ∙ command-fits Refused r
+    pub command-none : Formed a → readOf (drop at input) ≡ Refused → ranOn (leaving (answer 3 empty) a cells tags) 0 ≡ commandJudgedOn a input at cells tags
+    unfolding ranOf onReading
+    command-none f r = ap (λ (y : Leaving). ranOn y 0) (wrote 3 empty (stateOf a) a cells tags (sym (f .kept))) ∙ command-fits Refused r
 
 -- Refusal 2.
 module _ (a : Arrays) (f : Formed a) (cells tags : List ℕ) (e : fits a cells tags ≡ false) where
@@ -65,11 +65,11 @@ module _ (a : Arrays) (f : Formed a) (cells tags : List ℕ) (e : fits a cells t
       wrote 2 empty (stateOf a) a cells tags (sym (f .kept))
       ∙ ap leftOf (sym (pick-no (serves (stateOf a .core .pages) (length cells) (length tags)) (ruled (stateOf a) c cells tags) (refused 2 (stateOf a) cells tags) (served a cells tags ∙ e)))
 
-  pub command-unfit : (input : List ℕ) (at : ℕ) → telling (leaving (answer 2 empty) a cells tags) 0 ≡ commandJudgedOn a input at cells tags
-  unfolding commandJudgedOn commandJudged toldOf
+  pub command-unfit : (input : List ℕ) (at : ℕ) → ranOn (leaving (answer 2 empty) a cells tags) 0 ≡ commandJudgedOn a input at cells tags
+  unfolding commandJudgedOn commandJudged ranOf
   command-unfit input at =
-      ap (λ (y : Left). telling y 0) (wrote 2 empty (stateOf a) a cells tags (sym (f .kept)))
-      ∙ ap toldOf (sym (pick-no (serves (stateOf a .core .pages) (length cells) (length tags)) (onReading (stateOf a) (readOf (drop at input)) cells tags) (used 0 (refused 2 (stateOf a) cells tags)) (served a cells tags ∙ e)))
+      ap (λ (y : Leaving). ranOn y 0) (wrote 2 empty (stateOf a) a cells tags (sym (f .kept)))
+      ∙ ap ranOf (sym (pick-no (serves (stateOf a .core .pages) (length cells) (length tags)) (onReading (stateOf a) (readOf (drop at input)) cells tags) (used 0 (refused 2 (stateOf a) cells tags)) (served a cells tags ∙ e)))
 
 -- Refusal 1, and what comes after it.
 module _ (a : Arrays) (cells tags : List ℕ) where
@@ -77,18 +77,18 @@ module _ (a : Arrays) (cells tags : List ℕ) where
   unfolding stepOn
   call-unformed c e = sym (pick-no (formedOf a) (judgedOn a c cells tags) (leaving (answer 1 empty) a cells tags) e)
 
-  pub call-formed : (c : Call) → formedOf a ≡ true → (x : Left) → x ≡ judgedOn a c cells tags → x ≡ stepOn a c cells tags
+  pub call-formed : (c : Call) → formedOf a ≡ true → (x : Leaving) → x ≡ judgedOn a c cells tags → x ≡ stepOn a c cells tags
   unfolding stepOn
   call-formed c e x d = d ∙ sym (pick-yes (formedOf a) (judgedOn a c cells tags) (leaving (answer 1 empty) a cells tags) e)
 
   module _ (input : List ℕ) (at : ℕ) where
-    pub command-unformed : formedOf a ≡ false → telling (leaving (answer 1 empty) a cells tags) 0 ≡ commandOn a input at cells tags
+    pub command-unformed : formedOf a ≡ false → ranOn (leaving (answer 1 empty) a cells tags) 0 ≡ commandOn a input at cells tags
     unfolding commandOn
-    command-unformed e = sym (pick-no (formedOf a) (commandJudgedOn a input at cells tags) (telling (leaving (answer 1 empty) a cells tags) 0) e)
+    command-unformed e = sym (pick-no (formedOf a) (commandJudgedOn a input at cells tags) (ranOn (leaving (answer 1 empty) a cells tags) 0) e)
 
-    pub command-formed : formedOf a ≡ true → (x : Told) → x ≡ commandJudgedOn a input at cells tags → x ≡ commandOn a input at cells tags
+    pub command-formed : formedOf a ≡ true → (x : RanOn) → x ≡ commandJudgedOn a input at cells tags → x ≡ commandOn a input at cells tags
     unfolding commandOn
-    command-formed e x d = d ∙ sym (pick-yes (formedOf a) (commandJudgedOn a input at cells tags) (telling (leaving (answer 1 empty) a cells tags) 0) e)
+    command-formed e x d = d ∙ sym (pick-yes (formedOf a) (commandJudgedOn a input at cells tags) (ranOn (leaving (answer 1 empty) a cells tags) 0) e)
 
 -- What a test of the sizes says.
 pub fitted : (a : Arrays) (cells tags : List ℕ) → fits a cells tags ≡ true → (length cells ≡ 16 * a .nums .f) × (length tags ≡ 16 * a .nums .f)

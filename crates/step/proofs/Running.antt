@@ -17,27 +17,27 @@ use Rattle.arrays.specs.Reading.{coreOf, stateOf, arraysOf, Formed}
 use Rattle.arrays.specs.Steps.{leaving, leftOf}
 use Rattle.arrays.proofs.RoundTrip.{state-back-again, written-formed}
 use Rattle.arrays.proofs.Facts.{lengths}
-use Rattle.step.specs.Entries.{Told, telling, toldOf, commandJudgedOn}
+use Rattle.step.specs.Entries.{RanOn, ranOn, ranOf, commandJudgedOn}
 
 -- What a command on arrays leaves, said as the session says it.
 abbrev pub commanded : Answer → Arrays → ℕ → Commanded
 commanded r a n = record { answered = record { code = r .code; number = r .number; tag = r .tag; state = stateOf a }; used = n }
 
 module _ (a : Arrays) (f : Formed a) (input : List ℕ) (at : ℕ) (cells tags : List ℕ) (r : Answer) (a′ : Arrays) (cells′ tags′ : List ℕ) (n : ℕ)
-    (e : telling (leaving r a′ cells′ tags′) n ≡ commandJudgedOn a input at cells tags) where
+    (e : ranOn (leaving r a′ cells′ tags′) n ≡ commandJudgedOn a input at cells tags) where
   abbrev o : Ran
   o = commandOf (stateOf a) input at cells tags
 
-  told : telling (leaving r a′ cells′ tags′) n ≡ toldOf o
+  told : ranOn (leaving r a′ cells′ tags′) n ≡ ranOf o
   unfolding commandJudgedOn
-  told = e ∙ ap toldOf (judged-command (stateOf a) input at cells tags (f .well))
+  told = e ∙ ap ranOf (judged-command (stateOf a) input at cells tags (f .well))
 
   well : wellFormed (o .command .answered .state) ≡ true
   well = command-keeps (stateOf a) input at cells tags (f .well)
 
   written : a′ ≡ arraysOf (o .command .answered .state)
-  unfolding toldOf leftOf
-  written = ap (λ (x : Told). x .left .arrays) told
+  unfolding ranOf leftOf
+  written = ap (λ (x : RanOn). x .left .arrays) told
 
   pub ran-formed : Formed a′
   ran-formed = subst Formed (sym written) (written-formed (o .command .answered .state) well)
@@ -46,10 +46,10 @@ module _ (a : Arrays) (f : Formed a) (input : List ℕ) (at : ℕ) (cells tags :
   back = ap stateOf written ∙ state-back-again (o .command .answered .state) well
 
   pub ran-on : ran (commanded r a′ n) cells′ tags′ ≡ commandOf (stateOf a) input at cells tags
-  unfolding toldOf leftOf
+  unfolding ranOf leftOf
   ran-on =
       ap (λ (s : State). ran (record { answered = record { code = r .code; number = r .number; tag = r .tag; state = s }; used = n }) cells′ tags′) back
-      ∙ ap (λ (x : Told). ran (record { answered = record { code = x .left .answer .code; number = x .left .answer .number; tag = x .left .answer .tag; state = o .command .answered .state }; used = x .used }) (x .left .cells) (x .left .tags)) told
+      ∙ ap (λ (x : RanOn). ran (record { answered = record { code = x .left .answer .code; number = x .left .answer .number; tag = x .left .answer .tag; state = o .command .answered .state }; used = x .used }) (x .left .cells) (x .left .tags)) told
 
   pub ran-sized : a′ .nums .f ≡ a .nums .f
   unfolding stateOf coreOf

@@ -6,14 +6,14 @@ use lib.ListN.{length}
 use Rattle.capabilities.specs.Lists.{pick}
 use Rattle.calls.specs.declared.Call.{Call}
 use Rattle.words.specs.Words.{empty}
-use Rattle.machine.specs.Step.{left, ruled, judged}
+use Rattle.machine.specs.Step.{outcomeWith, ruled, judged}
 use Rattle.machine.specs.Command.{Ran, commandJudged}
 use Rattle.arrays.specs.declared.Arrays.{Arrays}
 use Rattle.arrays.specs.declared.Answer.{Answer}
 use Rattle.arrays.specs.declared.Numbers.{Numbers}
 use Rattle.calls_in_place.specs.declared.Stepped.{Stepped}
 use Rattle.arrays.specs.Reading.{stateOf, Formed}
-use Rattle.arrays.specs.Steps.{Left, answer, leaving, leftOf}
+use Rattle.arrays.specs.Steps.{Leaving, answer, leaving, leftOf}
 use Rattle.formed.specs.Test.{formedOf}
 
 -- What is promised on well-formed arrays and lent memory of the right size, and on no other.
@@ -24,31 +24,31 @@ abbrev pub stepped : Answer → Numbers → Stepped
 stepped r n = record { answer = r; nums = n }
 
 -- A call on well-formed arrays, by refusals from 4 on; and by refusal 2 first.
-unfoldable pub ruledOn : Arrays → Call → List ℕ → List ℕ → Left
+unfoldable pub ruledOn : Arrays → Call → List ℕ → List ℕ → Leaving
 ruledOn a c cells tags = leftOf (ruled (stateOf a) c cells tags)
 
-unfoldable pub judgedOn : Arrays → Call → List ℕ → List ℕ → Left
+unfoldable pub judgedOn : Arrays → Call → List ℕ → List ℕ → Leaving
 judgedOn a c cells tags = leftOf (judged (stateOf a) c cells tags)
 
 -- A call on any arrays: those that are not well formed get refusal 1 and are kept, every number.
-unfoldable pub stepOn : Arrays → Call → List ℕ → List ℕ → Left
+unfoldable pub stepOn : Arrays → Call → List ℕ → List ℕ → Leaving
 stepOn a c cells tags = pick (formedOf a) (judgedOn a c cells tags) (leaving (answer 1 empty) a cells tags)
 
 -- What a command leaves, and how many bytes it used.
-pub record Told : Type 0 where
-  pub left : Left
+pub record RanOn : Type 0 where
+  pub left : Leaving
   pub used : ℕ
 
-abbrev pub telling : Left → ℕ → Told
-telling l n = record { left = l; used = n }
+abbrev pub ranOn : Leaving → ℕ → RanOn
+ranOn l n = record { left = l; used = n }
 
-unfoldable pub toldOf : Ran → Told
-toldOf r = telling (leftOf (left (r .command .answered) (r .cells) (r .tags))) (r .command .used)
+unfoldable pub ranOf : Ran → RanOn
+ranOf r = ranOn (leftOf (outcomeWith (r .command .answered) (r .cells) (r .tags))) (r .command .used)
 
 -- The command at a place of the input, on well-formed arrays; and on any.
-unfoldable pub commandJudgedOn : Arrays → List ℕ → ℕ → List ℕ → List ℕ → Told
-commandJudgedOn a input at cells tags = toldOf (commandJudged (stateOf a) input at cells tags)
+unfoldable pub commandJudgedOn : Arrays → List ℕ → ℕ → List ℕ → List ℕ → RanOn
+commandJudgedOn a input at cells tags = ranOf (commandJudged (stateOf a) input at cells tags)
 
-unfoldable pub commandOn : Arrays → List ℕ → ℕ → List ℕ → List ℕ → Told
+unfoldable pub commandOn : Arrays → List ℕ → ℕ → List ℕ → List ℕ → RanOn
 commandOn a input at cells tags =
-    pick (formedOf a) (commandJudgedOn a input at cells tags) (telling (leaving (answer 1 empty) a cells tags) 0)
+    pick (formedOf a) (commandJudgedOn a input at cells tags) (ranOn (leaving (answer 1 empty) a cells tags) 0)

@@ -21,17 +21,17 @@ use calls_in_place::table_calls::give;
 use calls_in_place::table_calls::merge;
 use calls_in_place::table_calls::split;
 use calls_in_place::table_calls::take;
+use calls_in_place::word_calls::coded;
 use calls_in_place::word_calls::grant;
 use calls_in_place::word_calls::load;
 use calls_in_place::word_calls::narrow;
 use calls_in_place::word_calls::number;
 use calls_in_place::word_calls::receive;
-use calls_in_place::word_calls::refused;
 use calls_in_place::word_calls::store;
 ghost use mathlib.Core.Path.{_≡_};
 ghost use Rattle.arrays.specs.Reading.{arrays};
 ghost use Rattle.arrays.specs.Steps.{leaving};
-ghost use Rattle.step.specs.Entries.{OnFormed, stepped, ruledOn, telling, commandJudgedOn};
+ghost use Rattle.step.specs.Entries.{OnFormed, stepped, ruledOn, ranOn, commandJudgedOn};
 
 // What a command hands back: its answer, the small numbers, and how many bytes it used. The arrays are changed where they lie.
 pub struct Ended {
@@ -150,7 +150,7 @@ pub fn command(
     cells: &mut [u64],
     tags: &mut [u8],
 ) -> Ended
-    ensures { λ r. ⌜ OnFormed (arrays nums (now (words .entry)) (now (marks .entry)) (now (mail .entry)) (now (flags .entry)) (now (rows .entry)) (now (pages .entry)) (now (frames .entry)) (now (principals .entry)) (now (counts .entry))) (now (cells .entry)) (now (tags .entry)) (telling (leaving (r .answer) (arrays (r .nums) (now (words .exit)) (now (marks .exit)) (now (mail .exit)) (now (flags .exit)) (now (rows .exit)) (now (pages .exit)) (now (frames .exit)) (now (principals .exit)) (now (counts .exit))) (now (cells .exit)) (now (tags .exit))) (r .used) ≡ commandJudgedOn (arrays nums (now (words .entry)) (now (marks .entry)) (now (mail .entry)) (now (flags .entry)) (now (rows .entry)) (now (pages .entry)) (now (frames .entry)) (now (principals .entry)) (now (counts .entry))) (now (input .entry)) at (now (cells .entry)) (now (tags .entry))) ⌝ }
+    ensures { λ r. ⌜ OnFormed (arrays nums (now (words .entry)) (now (marks .entry)) (now (mail .entry)) (now (flags .entry)) (now (rows .entry)) (now (pages .entry)) (now (frames .entry)) (now (principals .entry)) (now (counts .entry))) (now (cells .entry)) (now (tags .entry)) (ranOn (leaving (r .answer) (arrays (r .nums) (now (words .exit)) (now (marks .exit)) (now (mail .exit)) (now (flags .exit)) (now (rows .exit)) (now (pages .exit)) (now (frames .exit)) (now (principals .exit)) (now (counts .exit))) (now (cells .exit)) (now (tags .exit))) (r .used) ≡ commandJudgedOn (arrays nums (now (words .entry)) (now (marks .entry)) (now (mail .entry)) (now (flags .entry)) (now (rows .entry)) (now (pages .entry)) (now (frames .entry)) (now (principals .entry)) (now (counts .entry))) (now (input .entry)) at (now (cells .entry)) (now (tags .entry))) ⌝ }
 {
     match read_at(input, at) {
         Reading::Read { call, used } => {
@@ -178,7 +178,7 @@ pub fn command(
             }
         }
         Reading::Refused => {
-            let answer = refused(3);
+            let answer = coded(3);
             Ended {
                 answer,
                 nums,

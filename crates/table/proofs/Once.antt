@@ -19,7 +19,7 @@ use Rattle.table.specs.Tiling.{tiles, allBlank, tableSound}
 use Rattle.table.specs.Operations.{badSplit, lowerPart, upperPart, joined, splitOf, splitReasons, mergeOf}
 use Rattle.table.specs.Numbers.{rowFrom, tableOf}
 use Rattle.table.specs.Lent.{placeOf}
-use Rattle.table.specs.Writes.{named, splitWrites, mergeWrites, WritesOnce, SplitNumber, MergeNumber, SplitWritesOnce, MergeWritesOnce}
+use Rattle.table.specs.Writes.{placeNamed, splitWrites, mergeWrites, WritesOnce, SplitNumber, MergeNumber, SplitWritesOnce, MergeWritesOnce}
 use Rattle.table.proofs.Truth.{or-right}
 use Rattle.table.proofs.Moving.{live-at}
 use Rattle.table.proofs.Answers.{split-clear}
@@ -154,7 +154,7 @@ module _ (cells : ℕ) (l : List ℕ) (count party base : ℕ) where
   t = tableOf l count
 
   abbrev i : ℕ
-  i = named t party base
+  i = placeNamed t party base
 
   place : {u : Table} {j k : ℕ} {new : List Reservation} → Replaced t u party base j k new → i ≡ j
   unfolding placeOf

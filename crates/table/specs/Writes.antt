@@ -15,15 +15,15 @@ use Rattle.table.specs.Numbers.{tableOf}
 use Rattle.table.specs.Lent.{Leaves, fitting, placeOf}
 
 -- The place of the row that a call names.
-abbrev pub named : Table → ℕ → ℕ → ℕ
-named t party base = placeOf (findOf t party base)
+abbrev pub placeNamed : Table → ℕ → ℕ → ℕ
+placeNamed t party base = placeOf (findOf t party base)
 
 -- "Of n entries before, with the named one at i counted from 0, a split writes n − i + 1 and a merge n − i"; a refused one none.
 abbrev pub splitWrites : Table → ℕ → ℕ → ℕ → ℕ
-splitWrites t party base code = pick (eqb code 0) (length (live t) - named t party base + 1) 0
+splitWrites t party base code = pick (eqb code 0) (length (live t) - placeNamed t party base + 1) 0
 
 abbrev pub mergeWrites : Table → ℕ → ℕ → ℕ → ℕ
-mergeWrites t party base code = pick (eqb code 0) (length (live t) - named t party base) 0
+mergeWrites t party base code = pick (eqb code 0) (length (live t) - placeNamed t party base) 0
 
 -- A number that is put into a place.
 pub record Write : Type 0 where
@@ -46,10 +46,10 @@ EachOnce i k ws = (j : ℕ) → writesTo j ws ≡ pick (leb i j && ltb j (i + k)
 
 -- The two numbers, of a well-formed table: n is its count.
 abbrev pub SplitNumber : Type 0
-SplitNumber = (cells : ℕ) (t : Table) (party base : ℕ) → tableSound cells t ≡ true → splitWrites t party base 0 ≡ t .count - named t party base + 1
+SplitNumber = (cells : ℕ) (t : Table) (party base : ℕ) → tableSound cells t ≡ true → splitWrites t party base 0 ≡ t .count - placeNamed t party base + 1
 
 abbrev pub MergeNumber : Type 0
-MergeNumber = (cells : ℕ) (t : Table) (party base : ℕ) → tableSound cells t ≡ true → mergeWrites t party base 0 ≡ t .count - named t party base
+MergeNumber = (cells : ℕ) (t : Table) (party base : ℕ) → tableSound cells t ≡ true → mergeWrites t party base 0 ≡ t .count - placeNamed t party base
 
 -- A granted call on a well-formed table leaves the numbers m, by a rule, and answers a number of writes. Whatever writes made m of l: if
 -- they are as many, each of as many places from the i-th on was written once, and no other place was.
@@ -62,9 +62,9 @@ WritesOnce cells l count rule i writes =
 abbrev pub SplitWritesOnce : Type 0
 SplitWritesOnce =
     (cells : ℕ) (l : List ℕ) (count party base len : ℕ)
-    → WritesOnce cells l count (splitOf (tableOf l count) party base len) (named (tableOf l count) party base) (splitWrites (tableOf l count) party base 0)
+    → WritesOnce cells l count (splitOf (tableOf l count) party base len) (placeNamed (tableOf l count) party base) (splitWrites (tableOf l count) party base 0)
 
 abbrev pub MergeWritesOnce : Type 0
 MergeWritesOnce =
     (cells : ℕ) (l : List ℕ) (count party base : ℕ)
-    → WritesOnce cells l count (mergeOf (tableOf l count) party base) (named (tableOf l count) party base) (mergeWrites (tableOf l count) party base 0)
+    → WritesOnce cells l count (mergeOf (tableOf l count) party base) (placeNamed (tableOf l count) party base) (mergeWrites (tableOf l count) party base 0)

@@ -16,17 +16,17 @@ use Rattle.capabilities.specs.Death.{dies}
 use Rattle.capabilities.proofs.Choice.{and-left, and-right}
 use Rattle.words.specs.declared.Slot.{Slot}
 use Rattle.words.specs.Words.{slot, empty, keepTag, tagOf, byteOf, wordAt}
-use Rattle.words.specs.Lent.{slotsOf, cellsOf, bytesOf, bit, mapBeside, collectedMark, collectedCell, collectedMarks, collectedMail}
+use Rattle.words.specs.Lent.{slotsOf, cellsOf, tagBytes, bit, mapBeside, collectedMark, collectedCell, collectedMarks, collectedMail}
 
 pub tag-byte : (b : Bool) → tagOf (byteOf b) ≡ b
 tag-byte true = refl
 tag-byte false = refl
 
 -- Words, written and read again.
-pub slots-back : (l : List Slot) → slotsOf (cellsOf l) (bytesOf l) ≡ l
+pub slots-back : (l : List Slot) → slotsOf (cellsOf l) (tagBytes l) ≡ l
 unfolding slotsOf
 slots-back [] = refl
-slots-back (w ∷ l) = ap (λ b. slot (w .cell) b ∷ slotsOf (cellsOf l) (bytesOf l)) (tag-byte (w .tag)) ∙ ap (λ k. w ∷ k) (slots-back l)
+slots-back (w ∷ l) = ap (λ b. slot (w .cell) b ∷ slotsOf (cellsOf l) (tagBytes l)) (tag-byte (w .tag)) ∙ ap (λ k. w ∷ k) (slots-back l)
 
 pub slots-get : (cells tags : List ℕ) (i : ℕ) → length cells ≡ length tags → getD (slotsOf cells tags) i empty ≡ wordAt cells tags i
 unfolding slotsOf wordAt
@@ -62,13 +62,13 @@ cells-kept [] tags e = refl
 cells-kept (c ∷ cells) [] e = let z : ⊥ = omega arith in absurd z
 cells-kept (c ∷ cells) (t ∷ tags) e = ap (λ l. c ∷ l) (cells-kept cells tags (omega arith))
 
-pub bytes-kept : (n : ℕ) (cells tags : List ℕ) → length cells ≡ length tags → each bit n tags ≡ true → bytesOf (slotsOf cells tags) ≡ tags
+pub bytes-kept : (n : ℕ) (cells tags : List ℕ) → length cells ≡ length tags → each bit n tags ≡ true → tagBytes (slotsOf cells tags) ≡ tags
 unfolding slotsOf each
 bytes-kept n [] [] e k = refl
 bytes-kept n [] (t ∷ tags) e k = let z : ⊥ = omega arith in absurd z
 bytes-kept n (c ∷ cells) [] e k = let z : ⊥ = omega arith in absurd z
 bytes-kept n (c ∷ cells) (t ∷ tags) e k =
-    ap (λ b. b ∷ bytesOf (slotsOf cells tags)) (bit-back t (and-left (leb t 1) _ k))
+    ap (λ b. b ∷ tagBytes (slotsOf cells tags)) (bit-back t (and-left (leb t 1) _ k))
     ∙ ap (λ l. t ∷ l) (bytes-kept (suc n) cells tags (omega arith) (and-right (leb t 1) _ k))
 
 -- And words are written with such bytes.
@@ -76,7 +76,7 @@ byte-bit : (b : Bool) → leb (byteOf b) 1 ≡ true
 byte-bit true = refl
 byte-bit false = refl
 
-pub bytes-bits : (n : ℕ) (l : List Slot) → each bit n (bytesOf l) ≡ true
+pub bytes-bits : (n : ℕ) (l : List Slot) → each bit n (tagBytes l) ≡ true
 unfolding each
 bytes-bits n [] = refl
 bytes-bits n (w ∷ l) = rw (byte-bit (w .tag)) (bytes-bits (suc n) l)
@@ -162,13 +162,13 @@ module _ (r : Range) where
   cells-collected (c ∷ words) (t ∷ marks) e = ap (λ l. c ∷ l) (cells-collected words marks (omega arith))
 
   pub marks-collected : (n : ℕ) (words marks : List ℕ) → length words ≡ length marks → each bit n marks ≡ true
-      → bytesOf (map untagged (slotsOf words marks)) ≡ collectedMarks r words marks
+      → tagBytes (map untagged (slotsOf words marks)) ≡ collectedMarks r words marks
   unfolding slotsOf each mapBeside collectedMarks
   marks-collected n [] [] e k = refl
   marks-collected n [] (t ∷ marks) e k = let z : ⊥ = omega arith in absurd z
   marks-collected n (c ∷ words) [] e k = let z : ⊥ = omega arith in absurd z
   marks-collected n (c ∷ words) (t ∷ marks) e k =
-      ap (λ b. b ∷ bytesOf (map untagged (slotsOf words marks))) (kept-byte t (dies r c) (and-left (leb t 1) _ k))
+      ap (λ b. b ∷ tagBytes (map untagged (slotsOf words marks))) (kept-byte t (dies r c) (and-left (leb t 1) _ k))
       ∙ ap (λ l. collectedMark r c t ∷ l) (marks-collected (suc n) words marks (omega arith) (and-right (leb t 1) _ k))
 
   pub mail-collected : (mail flags : List ℕ) → length mail ≡ length flags → cellsOf (map emptied (slotsOf mail flags)) ≡ collectedMail r mail flags
@@ -181,11 +181,11 @@ module _ (r : Range) where
       ∙ ap (λ l. collectedCell r t c ∷ l) (mail-collected mail flags (omega arith))
 
   pub flags-collected : (n : ℕ) (mail flags : List ℕ) → length mail ≡ length flags → each bit n flags ≡ true
-      → bytesOf (map emptied (slotsOf mail flags)) ≡ collectedMarks r mail flags
+      → tagBytes (map emptied (slotsOf mail flags)) ≡ collectedMarks r mail flags
   unfolding slotsOf each mapBeside collectedMarks
   flags-collected n [] [] e k = refl
   flags-collected n [] (t ∷ flags) e k = let z : ⊥ = omega arith in absurd z
   flags-collected n (c ∷ mail) [] e k = let z : ⊥ = omega arith in absurd z
   flags-collected n (c ∷ mail) (t ∷ flags) e k =
-      ap (λ b. b ∷ bytesOf (map emptied (slotsOf mail flags))) (emptied-byte c t (dies r c) (and-left (leb t 1) _ k))
+      ap (λ b. b ∷ tagBytes (map emptied (slotsOf mail flags))) (emptied-byte c t (dies r c) (and-left (leb t 1) _ k))
       ∙ ap (λ l. collectedMark r c t ∷ l) (flags-collected (suc n) mail flags (omega arith) (and-right (leb t 1) _ k))

@@ -19,8 +19,8 @@ slotsOf (c ∷ cells) (t ∷ tags) = slot c (tagOf t) ∷ slotsOf cells tags
 abbrev pub cellsOf : List Slot → List ℕ
 cellsOf l = map (λ w. w .cell) l
 
-abbrev pub bytesOf : List Slot → List ℕ
-bytesOf l = map (λ w. byteOf (w .tag)) l
+abbrev pub tagBytes : List Slot → List ℕ
+tagBytes l = map (λ w. byteOf (w .tag)) l
 
 -- A party's register.
 unfoldable pub registerIn : List ℕ → List ℕ → ℕ → ℕ → Slot

@@ -11,13 +11,13 @@ use Rattle.entries.proofs.command_in.Reads as reads
 use Rattle.entries.proofs.command_in.Lts as lts
 use Rattle.formed.proofs.formed.Reads as formed-reads
 use Rattle.step.proofs.command.Reads as command-reads
-use Rattle.calls_in_place.proofs.word_calls.refused.Reads as refused-reads
+use Rattle.calls_in_place.proofs.word_calls.coded.Reads as coded-reads
 
 formed-requires : tie.Need-formed-requires
 formed-requires c κs = search needs
 
-refused-requires : tie.Need-refused-requires
-refused-requires c κs = search needs
+coded-requires : tie.Need-coded-requires
+coded-requires c κs = search needs
 
 same-length : tie.Need-same-length
 same-length c = search needs
@@ -50,7 +50,7 @@ returns : tie.Need-returns
 returns c =
     let a = c .before .before .before .before .before .before .before .before .before .before .before .before .before .before .before .before .before .before .before .before .before .before .before .before .args in
     let m = arrays (a .nums) (a .words .now) (a .marks .now) (a .mail .now) (a .flags .now) (a .rows .now) (a .pages .now) (a .frames .now) (a .principals .now) (a .counts .now) in
-    rw (c .refused .ensures) (command-unformed m (a .cells .now) (a .tags .now) (a .input .now) (a .at) (sym (c .before .before .formed .ensures) ∙ not-true _ (c .before .if1 .taken)))
+    rw (c .coded .ensures) (command-unformed m (a .cells .now) (a .tags .now) (a .input .now) (a .at) (sym (c .before .before .formed .ensures) ∙ not-true _ (c .before .if1 .taken)))
 
 cast-size : tie.Need-cast-size
 cast-size c = search needs
@@ -58,8 +58,8 @@ cast-size c = search needs
 mul-size : tie.Need-mul-size
 mul-size c = search needs
 
-refused-requires-2 : tie.Need-refused-requires-2
-refused-requires-2 c κs = search needs
+coded-requires-2 : tie.Need-coded-requires-2
+coded-requires-2 c κs = search needs
 
 same-length-10 : tie.Need-same-length-10
 same-length-10 c = search needs
@@ -93,7 +93,7 @@ returns-2 c =
     let a = c .before .before .before .before .before .before .before .before .before .before .before .before .before .before .before .before .before .before .before .before .before .before .before .before .before .before .args in
     let m = arrays (a .nums) (a .words .now) (a .marks .now) (a .mail .now) (a .flags .now) (a .rows .now) (a .pages .now) (a .frames .now) (a .principals .now) (a .counts .now) in
     let e = sym (c .before .before .before .before .formed .ensures) ∙ not-false _ (c .before .before .before .if1 .left) in
-    rw (c .refused2 .ensures) (command-formed m (a .cells .now) (a .tags .now) (a .input .now) (a .at) e _ (command-unfit m (tested m e) (a .cells .now) (a .tags .now) (not-true _ (c .before .if2 .taken)) (a .input .now) (a .at)))
+    rw (c .coded2 .ensures) (command-formed m (a .cells .now) (a .tags .now) (a .input .now) (a .at) e _ (command-unfit m (tested m e) (a .cells .now) (a .tags .now) (not-true _ (c .before .if2 .taken)) (a .input .now) (a .at)))
 
 command-requires : tie.Need-command-requires
 command-requires c κs = search needs
@@ -143,7 +143,7 @@ command-in-spec =
     tie.close
     (tie.spec
     formed-requires
-    refused-requires
+    coded-requires
     same-length
     same-length-2
     same-length-3
@@ -156,7 +156,7 @@ command-in-spec =
     returns
     cast-size
     mul-size
-    refused-requires-2
+    coded-requires-2
     same-length-10
     same-length-11
     same-length-12

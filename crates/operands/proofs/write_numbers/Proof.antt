@@ -2,7 +2,7 @@
 use borrow.Author.Needs.{needs}
 use borrow.Author.Tests.{not-true, not-false}
 use mathlib.Core.Path.{sym, ap, _∙_}
-use Rattle.calls.specs.Writer.{left}
+use Rattle.calls.specs.Writer.{outcomeOf}
 use Rattle.operands.proofs.Answers.{tested, none-written, call-written}
 use Rattle.operands.proofs.write_numbers.Statement.{statement}
 use Rattle.operands.proofs.write_numbers.Tie as tie
@@ -46,7 +46,7 @@ returns-2 c =
     call-written (a .numbers .now) (a .out .now)
     (tested (a .numbers .now) (t .before .before .before .call-from .ensures) (t .before .before .numbers-of .ensures) (t .same .ensures) ∙ not-false _ (w .before .before .if1 .left))
     (t .before .before .before .call-from .ensures)
-    (sym (ap (λ r. left r (w .write-call .last .1 .0)) (c .before .len .given .1)) ∙ w .write-call .ensures)
+    (sym (ap (λ r. outcomeOf r (w .write-call .last .1 .0)) (c .before .len .given .1)) ∙ w .write-call .ensures)
 
 same-length-2 : tie.Need-same-length-2
 same-length-2 c = search needs
@@ -59,7 +59,7 @@ returns-3 c =
     call-written (a .numbers .now) (a .out .now)
     (tested (a .numbers .now) (t .before .before .before .call-from .ensures) (t .before .before .numbers-of .ensures) (t .same .ensures) ∙ not-false _ (w .before .before .if1 .left))
     (t .before .before .before .call-from .ensures)
-    (sym (ap (λ r. left r (w .write-call .last .1 .0)) (c .enum-told .given .1)) ∙ w .write-call .ensures)
+    (sym (ap (λ r. outcomeOf r (w .write-call .last .1 .0)) (c .enum-told .given .1)) ∙ w .write-call .ensures)
 
 pub write-numbers-spec : {M : Type 1} → statement M
 write-numbers-spec =

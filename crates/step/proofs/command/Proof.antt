@@ -9,7 +9,7 @@ use Rattle.step.proofs.command.Reads as reads
 use Rattle.step.proofs.command.Lts as lts
 use Rattle.calls.proofs.read_at.Reads as read-at-reads
 use Rattle.step.proofs.step.Reads as step-reads
-use Rattle.calls_in_place.proofs.word_calls.refused.Reads as refused-reads
+use Rattle.calls_in_place.proofs.word_calls.coded.Reads as coded-reads
 
 read-at-requires : tie.Need-read-at-requires
 read-at-requires c κs = search needs
@@ -23,8 +23,8 @@ step-requires c κs = search needs
 enum-told : tie.Need-enum-told
 enum-told c = search needs
 
-refused-requires : tie.Need-refused-requires
-refused-requires c κs = search needs
+coded-requires : tie.Need-coded-requires
+coded-requires c κs = search needs
 
 same-length : tie.Need-same-length
 same-length c = search needs
@@ -71,7 +71,7 @@ returns-2 c formed fits =
     let a = c .before .before .before .before .before .before .before .before .before .before .before .before .before .before .before .before .args in
     let read = sym (c .before .before .before .read-at .ensures .is) ∙ c .before .enum-told .given .1 in
     let m = arrays (a .nums) (a .words .now) (a .marks .now) (a .mail .now) (a .flags .now) (a .rows .now) (a .pages .now) (a .frames .now) (a .principals .now) (a .counts .now) in
-    rw (c .refused .ensures) (command-none m (a .cells .now) (a .tags .now) (fitting m (a .cells .now) (a .tags .now) (fits .0) (fits .1)) (a .input .now) (a .at) formed read)
+    rw (c .coded .ensures) (command-none m (a .cells .now) (a .tags .now) (fitting m (a .cells .now) (a .tags .now) (fits .0) (fits .1)) (a .input .now) (a .at) formed read)
 
 pub command-spec : {M : Type 1} → statement M
 command-spec =
@@ -81,7 +81,7 @@ command-spec =
     enum-known-call
     step-requires
     enum-told
-    refused-requires
+    coded-requires
     same-length
     same-length-2
     same-length-3

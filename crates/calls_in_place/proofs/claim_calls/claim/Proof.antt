@@ -8,14 +8,14 @@ use Rattle.calls_in_place.proofs.claim_calls.claim.Tie as tie
 early-code-requires : tie.Need-early-code-requires
 early-code-requires c κs = search needs
 
-refused-requires : tie.Need-refused-requires
-refused-requires c κs = search needs
+coded-requires : tie.Need-coded-requires
+coded-requires c κs = search needs
 
 returns : tie.Need-returns
 returns c =
     let a = c .before .before .before .before .before .args in
     let early = c .before .before .early-code in
-    λ m ev f cells tags. rw (c .refused .ensures) (claim-early (withClaims m (a .principals .now) (a .counts .now)) f cells tags (a .v) ev (a .party) (a .principal) (a .page) (early .result) (early .ensures) (c .before .if1 .taken))
+    λ m ev f cells tags. rw (c .coded .ensures) (claim-early (withClaims m (a .principals .now) (a .counts .now)) f cells tags (a .v) ev (a .party) (a .principal) (a .page) (early .result) (early .ensures) (c .before .if1 .taken))
 
 page-number-requires : tie.Need-page-number-requires
 page-number-requires c κs = search needs
@@ -23,8 +23,8 @@ page-number-requires c κs = search needs
 claim-requires : tie.Need-claim-requires
 claim-requires c κs = search needs
 
-coded-requires : tie.Need-coded-requires
-coded-requires c κs = search needs
+coded-requires-2 : tie.Need-coded-requires-2
+coded-requires-2 c κs = search needs
 
 same-length : tie.Need-same-length
 same-length c = search needs
@@ -38,18 +38,18 @@ returns-2 c =
     let early = c .before .before .before .before .before .before .before .before .before .before .early-code in
     let at = c .before .before .before .before .before .before .before .before .page-number in
     let call = c .before .before .before .before .before .claim in
-    λ m ev f cells tags. rw (c .coded .ensures) (claim-left (withClaims m (a .principals .now) (a .counts .now)) f cells tags (a .v) ev (a .party) (a .principal) (a .page) (early .result) (early .ensures) (c .before .before .before .before .before .before .before .before .before .if1 .left) (at .result) (at .ensures) (call .result) _ _ (call .ensures .0) (call .ensures .1 .0) (call .ensures .1 .1))
+    λ m ev f cells tags. rw (c .coded2 .ensures) (claim-left (withClaims m (a .principals .now) (a .counts .now)) f cells tags (a .v) ev (a .party) (a .principal) (a .page) (early .result) (early .ensures) (c .before .before .before .before .before .before .before .before .before .if1 .left) (at .result) (at .ensures) (call .result) _ _ (call .ensures .0) (call .ensures .1 .0) (call .ensures .1 .1))
 
 pub claim-spec : {M : Type 1} → statement M
 claim-spec =
     tie.close
     (tie.spec
     early-code-requires
-    refused-requires
+    coded-requires
     returns
     page-number-requires
     claim-requires
-    coded-requires
+    coded-requires-2
     same-length
     same-length-2
     returns-2)

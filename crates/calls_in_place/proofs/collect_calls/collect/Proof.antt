@@ -20,13 +20,13 @@ first-requires c κs = search needs
 manager-code-requires : tie.Need-manager-code-requires
 manager-code-requires c κs = search needs
 
-refused-requires : tie.Need-refused-requires
-refused-requires c κs = search needs
+coded-requires : tie.Need-coded-requires
+coded-requires c κs = search needs
 
 returns : tie.Need-returns
 returns c =
     let a = c .before .before .before .before .before .before .before .before .before .before .before .before .before .args in
-    λ frames principals counts f cells tags. rw (c .refused .ensures)
+    λ frames principals counts f cells tags. rw (c .coded .ensures)
     (collect-down (arrays (a .nums) (a .words .now) (a .marks .now) (a .mail .now) (a .flags .now) (a .rows .now) (a .pages .now) frames principals counts) f (a .party) (c .before .before .manager-code .result)
     (c .before .before .manager-code .ensures ∙ ap (λ k. pick (unnamed (a .party)) 4 (pick (notManager (a .party)) 5 k)) (c .before .before .before .first .ensures)) cells tags (c .before .if1 .taken))
 
@@ -77,7 +77,7 @@ collect-spec =
     mul-end
     first-requires
     manager-code-requires
-    refused-requires
+    coded-requires
     returns
     collect-words-requires
     collect-mail-requires

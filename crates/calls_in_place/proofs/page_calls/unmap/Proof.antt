@@ -10,14 +10,14 @@ use Rattle.calls_in_place.proofs.page_calls.unmap.Tie as tie
 manager-code-requires : tie.Need-manager-code-requires
 manager-code-requires c κs = search needs
 
-refused-requires : tie.Need-refused-requires
-refused-requires c κs = search needs
+coded-requires : tie.Need-coded-requires
+coded-requires c κs = search needs
 
 returns : tie.Need-returns
 returns c =
     let a = c .before .before .before .before .before .before .args in
     let early = c .before .before .manager-code in
-    λ m ev eh ec f cells tags. rw (c .refused .ensures) (unmap-early (withPages m (a .pages .now) (a .frames .now)) f (a .party) (early .result) (early .ensures) cells tags (a .page) (c .before .if1 .taken))
+    λ m ev eh ec f cells tags. rw (c .coded .ensures) (unmap-early (withPages m (a .pages .now) (a .frames .now)) f (a .party) (early .result) (early .ensures) cells tags (a .page) (c .before .if1 .taken))
 
 page-number-requires : tie.Need-page-number-requires
 page-number-requires c κs = search needs
@@ -28,8 +28,8 @@ any-counts-requires c κs = search needs
 unmap-requires : tie.Need-unmap-requires
 unmap-requires c κs = search needs
 
-refused-requires-2 : tie.Need-refused-requires-2
-refused-requires-2 c κs = search needs
+coded-requires-2 : tie.Need-coded-requires-2
+coded-requires-2 c κs = search needs
 
 same-length : tie.Need-same-length
 same-length c = search needs
@@ -44,19 +44,19 @@ returns-2 c =
     let at = c .before .before .before .before .before .before .before .before .before .page-number in
     let any = c .before .before .before .before .before .before .before .before .any-counts in
     let call = c .before .before .before .before .before .unmap in
-    λ m ev eh ec f cells tags. rw (c .refused2 .ensures) (unmap-left (withPages m (a .pages .now) (a .frames .now)) f (a .party) (early .result) (early .ensures) cells tags (a .nums .v) (a .nums .f) ev eh (c .before .before .before .before .before .before .before .before .before .before .if1 .left) (call .result) (a .page) (at .result) (at .ensures) (any .result) (any .ensures ∙ ap (λ n. anyCounts 32 n (at .result)) (sym ec)) (call .ensures .0 (a .nums .f)) _ _ (call .ensures .1 .0) (call .ensures .1 .1))
+    λ m ev eh ec f cells tags. rw (c .coded2 .ensures) (unmap-left (withPages m (a .pages .now) (a .frames .now)) f (a .party) (early .result) (early .ensures) cells tags (a .nums .v) (a .nums .f) ev eh (c .before .before .before .before .before .before .before .before .before .before .if1 .left) (call .result) (a .page) (at .result) (at .ensures) (any .result) (any .ensures ∙ ap (λ n. anyCounts 32 n (at .result)) (sym ec)) (call .ensures .0 (a .nums .f)) _ _ (call .ensures .1 .0) (call .ensures .1 .1))
 
 pub unmap-spec : {M : Type 1} → statement M
 unmap-spec =
     tie.close
     (tie.spec
     manager-code-requires
-    refused-requires
+    coded-requires
     returns
     page-number-requires
     any-counts-requires
     unmap-requires
-    refused-requires-2
+    coded-requires-2
     same-length
     same-length-2
     returns-2)

@@ -14,8 +14,8 @@ revoke-code-requires c κs = search needs
 manager-code-requires : tie.Need-manager-code-requires
 manager-code-requires c κs = search needs
 
-refused-requires : tie.Need-refused-requires
-refused-requires c κs = search needs
+coded-requires : tie.Need-coded-requires
+coded-requires c κs = search needs
 
 same-length : tie.Need-same-length
 same-length c = search needs
@@ -26,7 +26,7 @@ same-length-2 c = search needs
 returns : tie.Need-returns
 returns c =
     let a = c .before .before .before .before .before .before .before .before .before .before .before .args in
-    λ m f cells tags. rw (c .refused .ensures)
+    λ m f cells tags. rw (c .coded .ensures)
     (revoke-down (around m (a .nums) (a .rows .now) (a .pages .now)) f (a .party) (a .base) (c .before .before .before .before .before .before .before .find .result) (c .before .before .before .before .before .before .before .find .ensures)
     (c .before .before .before .revoke-code .result) (c .before .before .before .revoke-code .ensures (a .nums .v) (a .nums .f) (m .frames)) (c .before .before .manager-code .result) (c .before .before .manager-code .ensures) cells tags (c .before .if1 .taken))
 
@@ -60,7 +60,7 @@ revoke-spec =
     find-requires
     revoke-code-requires
     manager-code-requires
-    refused-requires
+    coded-requires
     same-length
     same-length-2
     returns

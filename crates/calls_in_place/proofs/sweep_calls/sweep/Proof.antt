@@ -11,7 +11,7 @@ use Rattle.calls_in_place.proofs.sweep_calls.sweep.Reads as reads
 use Rattle.calls_in_place.proofs.sweep_calls.sweep.Lts as lts
 use Rattle.capabilities.proofs.refusal.first.Reads as first-reads
 use Rattle.calls_in_place.proofs.word_calls.granted.Reads as granted-reads
-use Rattle.calls_in_place.proofs.word_calls.refused.Reads as refused-reads
+use Rattle.calls_in_place.proofs.word_calls.coded.Reads as coded-reads
 use Rattle.sweep.proofs.frames.sweep_in.Reads as sweep-in-reads
 use Rattle.words.proofs.codes.manager_code.Reads as manager-code-reads
 
@@ -21,11 +21,11 @@ first-requires c κs = search needs
 manager-code-requires : tie.Need-manager-code-requires
 manager-code-requires c κs = search needs
 
-refused-requires : tie.Need-refused-requires
-refused-requires c κs = search needs
+coded-requires : tie.Need-coded-requires
+coded-requires c κs = search needs
 
 returns : tie.Need-returns
-returns c = λ m ef lc lt f. rw (c .refused .ensures) (sweep-down (withNumbers m (c .before .before .before .before .before .before .before .before .args .nums)) f (c .before .before .before .before .before .before .before .before .args .party) (c .before .before .before .before .before .before .before .before .args .n) (c .before .before .manager-code .result) (c .before .before .manager-code .ensures ∙ ap (λ k. pick (unnamed (c .before .before .before .before .before .before .before .before .args .party)) 4 (pick (notManager (c .before .before .before .before .before .before .before .before .args .party)) 5 k)) (c .before .before .before .first .ensures)) (c .before .before .before .before .before .before .before .before .args .cells .now) (c .before .before .before .before .before .before .before .before .args .tags .now) (c .before .if1 .taken))
+returns c = λ m ef lc lt f. rw (c .coded .ensures) (sweep-down (withNumbers m (c .before .before .before .before .before .before .before .before .args .nums)) f (c .before .before .before .before .before .before .before .before .args .party) (c .before .before .before .before .before .before .before .before .args .n) (c .before .before .manager-code .result) (c .before .before .manager-code .ensures ∙ ap (λ k. pick (unnamed (c .before .before .before .before .before .before .before .before .args .party)) 4 (pick (notManager (c .before .before .before .before .before .before .before .before .args .party)) 5 k)) (c .before .before .before .first .ensures)) (c .before .before .before .before .before .before .before .before .args .cells .now) (c .before .before .before .before .before .before .before .before .args .tags .now) (c .before .if1 .taken))
 
 sweep-in-requires : tie.Need-sweep-in-requires
 sweep-in-requires c κs = search needs
@@ -48,7 +48,7 @@ sweep-spec =
     (tie.spec
     first-requires
     manager-code-requires
-    refused-requires
+    coded-requires
     returns
     sweep-in-requires
     cast-t16

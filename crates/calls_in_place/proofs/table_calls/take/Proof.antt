@@ -14,21 +14,21 @@ use Rattle.capabilities.proofs.capability.permitted.Reads as permitted-reads
 use Rattle.table.proofs.operations.take.Reads as take-reads
 use Rattle.calls_in_place.proofs.word_calls.granted.Reads as granted-reads
 use Rattle.words.proofs.registers.put_word.Reads as put-word-reads
-use Rattle.calls_in_place.proofs.word_calls.refused.Reads as refused-reads
+use Rattle.calls_in_place.proofs.word_calls.coded.Reads as coded-reads
 
-refused-requires : tie.Need-refused-requires
-refused-requires c κs = search needs
+coded-requires : tie.Need-coded-requires
+coded-requires c κs = search needs
 
 returns : tie.Need-returns
 returns c =
     let a = c .before .before .before .before .before .args in
-    λ m f cells tags. rw (c .refused .ensures) (take-unknown (withTable (withWords m (a .words .now) (a .marks .now)) (a .nums) (a .rows .now)) f (a .nums .count) refl (a .party) (a .base) (a .reg) (a .mask) cells tags (c .before .if1 .taken))
+    λ m f cells tags. rw (c .coded .ensures) (take-unknown (withTable (withWords m (a .words .now) (a .marks .now)) (a .nums) (a .rows .now)) f (a .nums .count) refl (a .party) (a .base) (a .reg) (a .mask) cells tags (c .before .if1 .taken))
 
 take-requires : tie.Need-take-requires
 take-requires c κs = search needs
 
-refused-requires-2 : tie.Need-refused-requires-2
-refused-requires-2 c κs = search needs
+coded-requires-2 : tie.Need-coded-requires-2
+coded-requires-2 c κs = search needs
 
 same-length : tie.Need-same-length
 same-length c = search needs
@@ -36,7 +36,7 @@ same-length c = search needs
 returns-2 : tie.Need-returns-2
 returns-2 c =
     let a = c .before .before .before .before .before .before .before .before .before .before .before .args in
-    λ m f cells tags. rw (c .refused2 .ensures) (take-down (withTable (withWords m (a .words .now) (a .marks .now)) (a .nums) (a .rows .now)) f (a .nums .count) refl (a .party) (a .base) (a .reg) (a .mask) cells tags (c .before .before .before .before .before .before .before .if1 .left) _ _ (take-leaves (a .rows .now) _ (a .nums .count) (a .party) (a .base) (c .before .before .before .before .before .before .before .before .before .before .before .fits .party .fits) _ (c .before .before .before .before .before .take .ensures .0) (c .before .before .before .before .before .take .ensures .1)) (c .before .if2 .taken))
+    λ m f cells tags. rw (c .coded2 .ensures) (take-down (withTable (withWords m (a .words .now) (a .marks .now)) (a .nums) (a .rows .now)) f (a .nums .count) refl (a .party) (a .base) (a .reg) (a .mask) cells tags (c .before .before .before .before .before .before .before .if1 .left) _ _ (take-leaves (a .rows .now) _ (a .nums .count) (a .party) (a .base) (c .before .before .before .before .before .before .before .before .before .before .before .fits .party .fits) _ (c .before .before .before .before .before .take .ensures .0) (c .before .before .before .before .before .take .ensures .1)) (c .before .if2 .taken))
 
 mul-at : tie.Need-mul-at
 mul-at c = search needs
@@ -79,10 +79,10 @@ pub take-spec : {M : Type 1} → statement M
 take-spec =
     tie.close
     (tie.spec
-    refused-requires
+    coded-requires
     returns
     take-requires
-    refused-requires-2
+    coded-requires-2
     same-length
     returns-2
     mul-at

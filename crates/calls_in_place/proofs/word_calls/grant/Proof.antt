@@ -15,8 +15,8 @@ word-at-requires c κs = search needs
 grant-code-requires : tie.Need-grant-code-requires
 grant-code-requires c κs = search needs
 
-refused-requires : tie.Need-refused-requires
-refused-requires c κs = search needs
+coded-requires : tie.Need-coded-requires
+coded-requires c κs = search needs
 
 same-length : tie.Need-same-length
 same-length c = search needs
@@ -30,7 +30,7 @@ returns c =
     let from = c .before .before .before .before .before .before .register-in in
     let here = c .before .before .before .word-at in
     let code = c .before .before .grant-code in
-    λ m f cells tags. rw (c .refused .ensures) (grant-down (withMails m (a .words .now) (a .marks .now) (a .mail .now) (a .flags .now)) f (a .party) (a .s) (a .to) (from .result) (here .result) (from .ensures) (here .ensures) (code .result) (code .ensures) cells tags (c .before .if1 .taken))
+    λ m f cells tags. rw (c .coded .ensures) (grant-down (withMails m (a .words .now) (a .marks .now) (a .mail .now) (a .flags .now)) f (a .party) (a .s) (a .to) (from .result) (here .result) (from .ensures) (here .ensures) (code .result) (code .ensures) cells tags (c .before .if1 .taken))
 
 put-word-requires : tie.Need-put-word-requires
 put-word-requires c κs = search needs
@@ -63,7 +63,7 @@ grant-spec =
     register-in-requires
     word-at-requires
     grant-code-requires
-    refused-requires
+    coded-requires
     same-length
     same-length-2
     returns

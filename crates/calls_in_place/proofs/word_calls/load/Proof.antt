@@ -25,8 +25,8 @@ lookup-requires c κs = search needs
 load-code-requires : tie.Need-load-code-requires
 load-code-requires c κs = search needs
 
-refused-requires : tie.Need-refused-requires
-refused-requires c κs = search needs
+coded-requires : tie.Need-coded-requires
+coded-requires c κs = search needs
 
 same-length : tie.Need-same-length
 same-length c = search needs
@@ -41,7 +41,7 @@ returns c =
     let base = c .before .before .before .before .base-of in
     let place = c .before .before .before .lookup in
     let code = c .before .before .load-code in
-    λ m en ep f. rw (c .refused .ensures) (load-down (withWords m (a .words .now) (a .marks .now)) f (a .nums) (a .pages .now) en ep (a .party) (a .a) (a .off) (a .d) (from .result) (place .result) (from .ensures) (place .ensures ∙ ap (λ n. lookupIn (a .nums .v) (a .pages .now) (n + a .off)) (base .ensures)) (code .result) (code .ensures) (a .cells .now) (a .tags .now) (c .before .if1 .taken))
+    λ m en ep f. rw (c .coded .ensures) (load-down (withWords m (a .words .now) (a .marks .now)) f (a .nums) (a .pages .now) en ep (a .party) (a .a) (a .off) (a .d) (from .result) (place .result) (from .ensures) (place .ensures ∙ ap (λ n. lookupIn (a .nums .v) (a .pages .now) (n + a .off)) (base .ensures)) (code .result) (code .ensures) (a .cells .now) (a .tags .now) (c .before .if1 .taken))
 
 place-number-requires : tie.Need-place-number-requires
 place-number-requires c κs = search needs
@@ -98,7 +98,7 @@ load-spec =
     add-lookup
     lookup-requires
     load-code-requires
-    refused-requires
+    coded-requires
     same-length
     same-length-2
     returns

@@ -12,8 +12,8 @@ register-in-requires c κs = search needs
 narrow-code-requires : tie.Need-narrow-code-requires
 narrow-code-requires c κs = search needs
 
-refused-requires : tie.Need-refused-requires
-refused-requires c κs = search needs
+coded-requires : tie.Need-coded-requires
+coded-requires c κs = search needs
 
 same-length : tie.Need-same-length
 same-length c = search needs
@@ -26,7 +26,7 @@ returns c =
     let a = c .before .before .before .before .before .before .before .before .args in
     let from = c .before .before .before .register-in in
     let code = c .before .before .narrow-code in
-    λ m f cells tags. rw (c .refused .ensures) (narrow-down (withWords m (a .words .now) (a .marks .now)) f (a .party) (a .s) (a .off) (a .len) (a .mask) (a .d) (from .result) (from .ensures) (code .result) (code .ensures) cells tags (c .before .if1 .taken))
+    λ m f cells tags. rw (c .coded .ensures) (narrow-down (withWords m (a .words .now) (a .marks .now)) f (a .party) (a .s) (a .off) (a .len) (a .mask) (a .d) (from .result) (from .ensures) (code .result) (code .ensures) cells tags (c .before .if1 .taken))
 
 mul-at : tie.Need-mul-at
 mul-at c = search needs
@@ -67,7 +67,7 @@ narrow-spec =
     (tie.spec
     register-in-requires
     narrow-code-requires
-    refused-requires
+    coded-requires
     same-length
     same-length-2
     returns

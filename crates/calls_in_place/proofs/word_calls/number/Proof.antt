@@ -14,14 +14,14 @@ use Rattle.calls_in_place.proofs.word_calls.number.Tie as tie
 first-requires : tie.Need-first-requires
 first-requires c κs = search needs
 
-refused-requires : tie.Need-refused-requires
-refused-requires c κs = search needs
+coded-requires : tie.Need-coded-requires
+coded-requires c κs = search needs
 
 returns : tie.Need-returns
 unfolding first reasons
 returns c =
     let a = c .before .before .before .before .before .args in
-    λ m f cells tags. rw (c .refused .ensures)
+    λ m f cells tags. rw (c .coded .ensures)
     (down (withWords m (a .words .now) (a .marks .now)) f (Number (a .party) (a .d) (a .value)) cells tags _ (c .before .before .first .ensures) (c .before .if1 .taken))
 
 mul-at : tie.Need-mul-at
@@ -59,7 +59,7 @@ number-spec =
     tie.close
     (tie.spec
     first-requires
-    refused-requires
+    coded-requires
     returns
     mul-at
     add-at

@@ -12,8 +12,8 @@ word-at-requires c κs = search needs
 receive-code-requires : tie.Need-receive-code-requires
 receive-code-requires c κs = search needs
 
-refused-requires : tie.Need-refused-requires
-refused-requires c κs = search needs
+coded-requires : tie.Need-coded-requires
+coded-requires c κs = search needs
 
 same-length : tie.Need-same-length
 same-length c = search needs
@@ -26,7 +26,7 @@ returns c =
     let a = c .before .before .before .before .before .before .before .before .before .before .args in
     let here = c .before .before .before .word-at in
     let code = c .before .before .receive-code in
-    λ m f cells tags. rw (c .refused .ensures) (receive-down (withMails m (a .words .now) (a .marks .now) (a .mail .now) (a .flags .now)) f (a .party) (a .d) (here .result) (here .ensures) (code .result) (code .ensures) cells tags (c .before .if1 .taken))
+    λ m f cells tags. rw (c .coded .ensures) (receive-down (withMails m (a .words .now) (a .marks .now) (a .mail .now) (a .flags .now)) f (a .party) (a .d) (here .result) (here .ensures) (code .result) (code .ensures) cells tags (c .before .if1 .taken))
 
 mul-at : tie.Need-mul-at
 mul-at c = search needs
@@ -73,7 +73,7 @@ receive-spec =
     (tie.spec
     word-at-requires
     receive-code-requires
-    refused-requires
+    coded-requires
     same-length
     same-length-2
     returns

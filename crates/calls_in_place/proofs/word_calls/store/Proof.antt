@@ -28,8 +28,8 @@ lookup-requires c κs = search needs
 store-code-requires : tie.Need-store-code-requires
 store-code-requires c κs = search needs
 
-refused-requires : tie.Need-refused-requires
-refused-requires c κs = search needs
+coded-requires : tie.Need-coded-requires
+coded-requires c κs = search needs
 
 returns : tie.Need-returns
 returns c =
@@ -39,7 +39,7 @@ returns c =
     let base = c .before .before .before .before .base-of in
     let place = c .before .before .before .lookup in
     let code = c .before .before .store-code in
-    λ m en ep ew em f. rw (c .refused .ensures) (store-down m f (a .nums) (a .pages .now) (a .words .now) (a .marks .now) en ep ew em (a .party) (a .a) (a .off) (a .s) (to .result) (from .result) (place .result) (to .ensures) (from .ensures) (place .ensures ∙ ap (λ n. lookupIn (a .nums .v) (a .pages .now) (n + a .off)) (base .ensures)) (code .result) (code .ensures) (a .cells .now) (a .tags .now) (c .before .if1 .taken))
+    λ m en ep ew em f. rw (c .coded .ensures) (store-down m f (a .nums) (a .pages .now) (a .words .now) (a .marks .now) en ep ew em (a .party) (a .a) (a .off) (a .s) (to .result) (from .result) (place .result) (to .ensures) (from .ensures) (place .ensures ∙ ap (λ n. lookupIn (a .nums .v) (a .pages .now) (n + a .off)) (base .ensures)) (code .result) (code .ensures) (a .cells .now) (a .tags .now) (c .before .if1 .taken))
 
 place-number-requires : tie.Need-place-number-requires
 place-number-requires c κs = search needs
@@ -88,7 +88,7 @@ store-spec =
     add-lookup
     lookup-requires
     store-code-requires
-    refused-requires
+    coded-requires
     returns
     place-number-requires
     dies-requires

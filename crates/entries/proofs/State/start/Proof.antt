@@ -9,7 +9,7 @@ use Rattle.entries.proofs.State.start.Lts as lts
 use Rattle.pages.proofs.layer.in_range.Reads as in-range-reads
 use Rattle.entries.proofs.by_value.bare.Reads as bare-reads
 use Rattle.calls_in_place.proofs.word_calls.granted.Reads as granted-reads
-use Rattle.calls_in_place.proofs.word_calls.refused.Reads as refused-reads
+use Rattle.calls_in_place.proofs.word_calls.coded.Reads as coded-reads
 use Rattle.words.proofs.empty.Reads as empty-reads
 
 in-range-requires : tie.Need-in-range-requires
@@ -44,13 +44,13 @@ returns c =
 bare-requires-2 : tie.Need-bare-requires-2
 bare-requires-2 c κs = search needs
 
-refused-requires : tie.Need-refused-requires
-refused-requires c κs = search needs
+coded-requires : tie.Need-coded-requires
+coded-requires c κs = search needs
 
 returns-2 : tie.Need-returns-2
 returns-2 c =
     let a = c .before .before .before .before .args in
-    rw (c .refused .ensures, c .before .bare2 .ensures) (start-out (a .v) (a .f) (sym (c .before .before .before .in-range .ensures) ∙ c .before .before .if1 .left))
+    rw (c .coded .ensures, c .before .bare2 .ensures) (start-out (a .v) (a .f) (sym (c .before .before .before .in-range .ensures) ∙ c .before .before .if1 .left))
 
 pub start-spec : {M : Type 1} → statement M
 start-spec =
@@ -66,5 +66,5 @@ start-spec =
     granted-requires
     returns
     bare-requires-2
-    refused-requires
+    coded-requires
     returns-2)

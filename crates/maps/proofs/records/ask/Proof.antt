@@ -46,7 +46,7 @@ use Rattle.maps.specs.declared.Question.{Question}
 use Rattle.maps.specs.declared.Seen.{Seen}
 use Rattle.maps.specs.declared.Judged.{Judged}
 use Rattle.maps.specs.declared.Answer.{Answer}
-use Rattle.maps.specs.Questions.{left, askOf}
+use Rattle.maps.specs.Questions.{response, askOf}
 use Rattle.maps.specs.Walks.{seenOver, nothing as none-seen, judgeWith, listing, listOver, answerWith}
 use Rattle.maps.proofs.Question as Q
 use Rattle.maps.proofs.Question.Laws as Q′
@@ -142,7 +142,7 @@ module _ {M : Type 1} (𝓤 : URA M) (H : Heap 𝓤) (A : Atoms 𝓤) (W : Given
   abbrev Tokens : Item 𝓤
   Tokens = ‵ (flft κ q) ⊛ ‵ (flft κ′ q′) ⊛ ‵ ftrue
 
-  exits : Is Q.the-row qn (qv ∷ []) → (a : Answer) (u : Val) (bs : List ℕ) → length bs ≡ length cs → left a bs ≡ askOf ys qn cs → Is B.the-row a (u ∷ [])
+  exits : Is Q.the-row qn (qv ∷ []) → (a : Answer) (u : Val) (bs : List ℕ) → length bs ≡ length cs → response a bs ≡ askOf ys qn cs → Is B.the-row a (u ∷ [])
       → ent 𝓤 (⋆ 𝓤 H A (Tokens ∷ ‵ (finally u16 γ′ bs) ∷ ‵ Own ∷ [])) (Post u)
   exits isq a u bs same e is =
       qed W (Tokens ∷ ‵ (finally u16 γ′ bs) ∷ ‵ Own ∷ []) ∵
@@ -201,7 +201,7 @@ module _ {M : Type 1} (𝓤 : URA M) (H : Heap 𝓤) (A : Atoms 𝓤) (W : Given
           ∷ ‵ (fat fullShare Q′.mir l₂ 0 (qv)) ∷ ‵ (fdies Q′.mir l₂) ∷ ‵ (fat fullShare slice l₁ 0 (v)) ∷ ‵ (fdies slice l₁) ∷ ‵ (froom B′.mir l₀ 0) ∷ ‵ (fdies B′.mir l₀) ∷ []
 
       answers : (s : Seen) (u : Val) (j : Judged) (c : ℕ) (bs : List ℕ) → Is E.the-row s (u ∷ []) → j .code < 2 ^ 8 → c < 2 ^ 64 → length bs ≡ length cs
-          → ((a : Answer) → a ≡ answerWith (j .code) s c → left a bs ≡ askOf ys qn cs) → Sq W (Listed u j c bs) (runs C Λ En body.t-8 (atRet En Post))
+          → ((a : Answer) → a ≡ answerWith (j .code) s c → response a bs ≡ askOf ys qn cs) → Sq W (Listed u j c bs) (runs C Λ En body.t-8 (atRet En Post))
       answers s u j c bs is gj gc same rule =
           use0 W (raw (AnswerWith 𝓤 H A mem run .pre (to-answer 𝓤 H A W mem run j s u c))) (asks-answer 𝓤 H A W mem run j s u c gj is gc) $
           calls-at ! (fmOf 𝓤 H (W .laws) 𝓣) (AnswerWith 𝓤 H A mem run) known-answer (to-answer 𝓤 H A W mem run j s u c)

@@ -55,7 +55,7 @@ use Rattle.table.specs.Rows.{blank}
 use Rattle.table.proofs.Reservation as R
 use Rattle.table.proofs.Reservation.Laws as R′
 use Rattle.maps.specs.declared.Question.{Question}
-use Rattle.maps.specs.Walks.{Listed, listing, listWith, listOver}
+use Rattle.maps.specs.Walks.{Listing, listing, listWith, listOver}
 use Rattle.maps.proofs.Question as Q
 use Rattle.maps.proofs.Question.Laws as Q′
 use Rattle.maps.proofs.Turning.{is-there, list-turn, list-all}
@@ -145,7 +145,7 @@ module _ {M : Type 1} (𝓤 : URA M) (H : Heap 𝓤) (A : Atoms 𝓤) (W : Given
   abbrev Bases : Lft → GName → List ℕ → Fml
   Bases k δ l = Owned.MutSlice erased k u16 .own (y δ l)
 
-  abbrev total : Listed
+  abbrev total : Listing
   total = listOver qn (listing 0 cs) (take upto ys)
 
   exits : Is Q.the-row qn (qv ∷ []) → upto < 2 ^ 64 → (c : ℕ) (bs : List ℕ) → c < 2 ^ 64 → (same : length bs ≡ length cs) → listing c bs ≡ total

@@ -46,7 +46,7 @@ use Rattle.maps.specs.declared.Question.the-variants.{Nearest}
 use Rattle.maps.specs.declared.Seen.{Seen}
 use Rattle.maps.specs.declared.Judged.{Judged}
 use Rattle.maps.specs.declared.Answer.{Answer}
-use Rattle.maps.specs.Questions.{left, askOf}
+use Rattle.maps.specs.Questions.{response, askOf}
 use Rattle.maps.specs.Walks.{seenOver, nothing as none-seen, judgeWith, answerWith}
 use Rattle.maps.proofs.Question as Q
 use Rattle.maps.proofs.Question.Laws as Q′
@@ -116,7 +116,7 @@ module _ {M : Type 1} (𝓤 : URA M) (H : Heap 𝓤) (A : Atoms 𝓤) (W : Given
   abbrev Token : Item 𝓤
   Token = ‵ (flft κ q) ⊛ ‵ ftrue
 
-  exits : (a : Answer) (u : Val) → left a [] ≡ askOf ys qn [] → Is B.the-row a (u ∷ []) → ent 𝓤 (⋆ 𝓤 H A (Token ∷ ‵ Own ∷ [])) (Post u)
+  exits : (a : Answer) (u : Val) → response a [] ≡ askOf ys qn [] → Is B.the-row a (u ∷ []) → ent 𝓤 (⋆ 𝓤 H A (Token ∷ ‵ Own ∷ [])) (Post u)
   exits a u e is =
       qed W (Token ∷ ‵ Own ∷ []) ∵
       suffices ! _ (ends-at 𝓤 H A nearest.ended stayed (nearest.clauses 𝓤 H A mem run) W bound u a (tt, (tt, (tt, tt))) (tt, (tt, (tt, tt)))) $ says ! e $ frame ! $

@@ -1,5 +1,5 @@
 -- `maps::steps::is_listed` meets its contract: by the question.
-use Rattle.maps.specs.Questions.{listed}
+use Rattle.maps.specs.Questions.{isListed}
 use mathlib.Core.Path.{refl}
 use borrow.Author.Needs.{needs}
 use Rattle.maps.proofs.steps.is_listed.Statement.{statement}
@@ -21,15 +21,15 @@ enum-known-question-3 : tie.Need-enum-known-question-3
 enum-known-question-3 c = search needs
 
 returns : tie.Need-returns
-unfolding listed
+unfolding isListed
 returns c = rw (c .before .before .question .given .1) (c .shares .ensures)
 
 returns-2 : tie.Need-returns-2
-unfolding listed
+unfolding isListed
 returns-2 c = rw (c .before .before .question2 .given .1) (c .lies-within .ensures)
 
 returns-3 : tie.Need-returns-3
-unfolding listed
+unfolding isListed
 returns-3 c = rw (c .before .question3 .given .1) refl
 
 pub is-listed-spec : {M : Type 1} → statement M

@@ -11,8 +11,8 @@ use Rattle.printing.proofs.session.one.Tie as tie
 formed-requires : tie.Need-formed-requires
 formed-requires c κs = search needs
 
-refused-requires : tie.Need-refused-requires
-refused-requires c κs = search needs
+coded-requires : tie.Need-coded-requires
+coded-requires c κs = search needs
 
 same-length : tie.Need-same-length
 same-length c = search needs
@@ -91,7 +91,7 @@ one-spec =
     tie.close
     (tie.spec
     formed-requires
-    refused-requires
+    coded-requires
     same-length
     same-length-2
     same-length-3
