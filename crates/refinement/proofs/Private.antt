@@ -29,10 +29,12 @@ use Rattle.histories.proofs.Always.{inv-run, inv-begun}
 use Rattle.histories.proofs.Forming.{standing-run, standing-begun}
 use Rattle.privacy.specs.Rule.{housed, Time, lasting, over, until, timeAfter, private, struck, Left, remaining, left, Told, told, heard, Sight, dark, shown, sightAt, sight, hidden, Alike}
 use Rattle.privacy.specs.Claim.{time, afterTake}
-use Rattle.privacy.proofs.Main.{privacy, cores-unnoticed}
+use Rattle.privacy.proofs.Main.{privacy, cores-unnoticed, costs-unnoticed}
 use Rattle.refinement.specs.Uses.{Served, exported, begins, Reply, reply, servedAll, repliesOf}
 use Rattle.refinement.specs.Bytes.{writing, machineIn, replying, replies}
 use Rattle.refinement.specs.Private.{toOther, SameAt, Unnoticed, LibraryPrivacy}
+use Rattle.cetomuhi.specs.Exports.{costLent}
+use Rattle.refinement.proofs.Answers.{answers-written}
 use Rattle.refinement.proofs.Bytes.{bytes-are-histories, machine-back}
 
 -- A call of another party.
@@ -119,9 +121,9 @@ module _ (house : ℕ) (t : Time) (g h : Machine) (core : g .state .core ≡ h .
         byte-same (getD (g .tags) at 0) (getD (h .tags) at 0) (inv₁ .memory .bytes n at e) (inv₂ .memory .bytes n at q) (ap (λ (x : Slot). x .tag) w),
       )
 
-  written-same : machineIn (writing g) ≡ g → (r q : List Reply) → filter (toOther house) r ≡ filter (toOther house) q → Unnoticed house t (writing g) (writing h) r q
+  written-same : machineIn (writing g) ≡ g → ((n : ℕ) → costLent (writing g .lent) n ≡ costLent (writing h .lent) n) → (r q : List Reply) → filter (toOther house) r ≡ filter (toOther house) q → Unnoticed house t (writing g) (writing h) r q
   unfolding arraysOf mailboxOf
-  written-same back r q e = record {
+  written-same back costs r q e = record {
     replies = e;
     numbers = ap (λ (k : Core). numbersOf k .v ∷ numbersOf k .f ∷ numbersOf k .count ∷ numbersOf k .place ∷ numbersOf k .base ∷ numbersOf k .length ∷ []) core;
     rows = ap (λ (k : Core). map rowCode (k .table .rows)) core;
@@ -133,6 +135,7 @@ module _ (house : ℕ) (t : Time) (g h : Machine) (core : g .state .core ≡ h .
         word-same (g .state .registers) (h .state .registers) (8 * p + i)
         (sym (register-at (g .state .registers) p i hp hi) ∙ alike .registers p i n ∙ register-at (h .state .registers) p i hp hi);
     mailboxes = λ p n. word-same (g .state .mailboxes) (h .state .mailboxes) p (alike .mailboxes p n);
+    costs = costs;
     shown = λ n at d z. shown-same n at d (ap (λ (m : Machine). lookupOf (m .state .core .pages) n) (sym back) ∙ z);
   }
 
@@ -164,9 +167,13 @@ library-privacy v f cells tags before c house base reg permissions after₁ afte
     let heard-same : filter (toOther house) (replies calls₁ (answers m calls₁)) ≡ filter (toOther house) (replies calls₂ (answers m calls₂)) =
     others-heard house calls₁ m ∙ ap₂ heardBy (others-same house (time v f cells tags before c house base reg permissions) (afterTake v f cells tags before c house base reg permissions) before c after₁ after₂ (w .same)) (u .answers)
     ∙ sym (others-heard house calls₂ m) in
-    let standing = standing-run calls₁ m v f (standing-begun v f cells tags (w .begins)) in
+    let fresh = standing-begun v f cells tags (w .begins) in
+    let k₁ = standing-run calls₁ m v f fresh in
+    let k₂ = standing-run calls₂ m v f fresh in
+    let charged = costs-unnoticed v f cells tags before c house base reg permissions after₁ after₂ w in
     let there = written-same house t (run m calls₁) (run m calls₂) core (u .alike) (inv-run calls₁ m (inv-begun v f cells tags)) (inv-run calls₂ m (inv-begun v f cells tags))
-    (machine-back (run m calls₁) v f standing) (replies calls₁ (answers m calls₁)) (replies calls₂ (answers m calls₂)) heard-same in
+    (machine-back (run m calls₁) v f k₁) (λ n. answers-written (run m calls₁) v f k₁ .cost n ∙ charged n ∙ sym (answers-written (run m calls₂) v f k₂ .cost n))
+    (replies calls₁ (answers m calls₁)) (replies calls₂ (answers m calls₂)) heard-same in
     let x₁ = subst (λ (x : Served). Unnoticed house t x (writing (run m calls₂)) (replies calls₁ (answers m calls₁)) (replies calls₂ (answers m calls₂))) (sym left₁) there in
     let x₂ = subst (λ (x : Served). Unnoticed house t (servedAll exported (begins v f l₁ cells tags) uses₁) x (replies calls₁ (answers m calls₁)) (replies calls₂ (answers m calls₂))) (sym left₂) x₁ in
     let x₃ = subst (λ (x : List Reply). Unnoticed house t (servedAll exported (begins v f l₁ cells tags) uses₁) (servedAll exported (begins v f l₂ cells tags) uses₂) x (replies calls₂ (answers m calls₂))) (sym told₁) x₂ in
