@@ -25,7 +25,7 @@ use Rattle.refinement.specs.Bytes.{writing, Starts, replying, replies}
 
 -- So many commands done, what is lent the writing of a machine, and these numbers first among the answers, whose rest is kept.
 abbrev pub leaves : ℕ → Machine → List ℕ → List ℕ → Done
-leaves n m numbers answers = done n (writing m .lent) (m .cells) (m .tags) (numbers ++ drop (length numbers) answers)
+leaves n m numbers buffer = done n (writing m .lent) (m .cells) (m .tags) (numbers ++ drop (length numbers) buffer)
 
 -- The numbers of replies, one after the other; and those of a refusal 3.
 unfoldable pub numbersOf : List Reply → List ℕ
@@ -49,14 +49,16 @@ pub record Answers (s : Served) (m : Machine) : Type 0 where
   -- A command whose bytes read as a call is that call's step.
   pub call : (input : List ℕ) (at : ℕ) (buffer : List ℕ) → 4 ≤ length buffer → (c : Call) (n : ℕ) → readOf (drop at input) ≡ Read c n
       → commandLent (s .lent) input at (s .cells) (s .tags) buffer ≡ leaves 1 (next m c) (replying c (outcome m c .answer) .numbers) buffer
-  -- Bytes that read as no call leave all as it was, under refusal 3.
+  -- Bytes that read as no call leave all as it was, and 3 0 0 0 is put.
   pub no-call : (input : List ℕ) (at : ℕ) (buffer : List ℕ) → 4 ≤ length buffer → readOf (drop at input) ≡ Refused
-      → commandLent (s .lent) input at (s .cells) (s .tags) buffer ≡ leaves 1 m noCall buffer
+      → commandLent (s .lent) input at (s .cells) (s .tags) buffer ≡ done 1 (s .lent) (s .cells) (s .tags) (noCall ++ drop 4 buffer)
   -- Without room for its answer nothing is done.
   pub no-room : (input : List ℕ) (at : ℕ) (buffer : List ℕ) → length buffer < 4
       → commandLent (s .lent) input at (s .cells) (s .tags) buffer ≡ done 0 (s .lent) (s .cells) (s .tags) buffer
+  -- A run, whatever its bytes and its room.
   pub ran : (input : List ℕ) (at : ℕ) (buffer : List ℕ)
       → commandsLent (s .lent) input at (s .cells) (s .tags) buffer ≡ ranFrom m (parseFrom (length buffer / 4) input at) buffer
+  -- The questions.
   pub formed : formedLent (s .lent) ≡ true
   pub cost : (n : ℕ) → costLent (s .lent) n ≡ pageCost (m .state) n
   pub list : (q : Question) (count : ℕ) (bases : List ℕ) → listLent (ownRows (s .lent)) q count bases ≡ listedBy (askOf (live (m .state .core .table)) q bases) count
