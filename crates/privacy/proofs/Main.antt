@@ -36,6 +36,7 @@ use Rattle.histories.specs.Runs.{Machine, outcome, next, run, begun, granted, B
 use Rattle.histories.proofs.Always.{inv-step, inv-run, inv-begun}
 use Rattle.histories.proofs.Findings.{row-first}
 use Rattle.histories.proofs.Forming.{always-formed}
+use Rattle.histories.proofs.Leading.{run-append}
 use Rattle.histories.proofs.View.{shown-at}
 use Rattle.privacy.specs.Rule.{housed, Time, lasting, takenRange, timeAfter, into, told, heard}
 use Rattle.privacy.specs.Claim.{Within, Privacy, CostsUnnoticed, CoresUnnoticed, MapsUnnoticed}
@@ -136,11 +137,6 @@ take-ok m take house base reg permissions is inv t = go (fate m take)
         }
 
 -- Two lists that begin alike.
-pub run-on : (m : Machine) (k l : List Call) → run m (k ++ l) ≡ run (run m k) l
-unfolding run
-run-on m [] l = refl
-run-on m (c ∷ k) l = run-on (next m c) k l
-
 heard-on : (house : ℕ) (m : Machine) (k l₁ l₂ : List Call) → heard house (run m k) l₁ ≡ heard house (run m k) l₂ → heard house m (k ++ l₁) ≡ heard house m (k ++ l₂)
 unfolding run heard
 heard-on house m [] l₁ l₂ e = e
@@ -172,7 +168,7 @@ module _ (v f : ℕ) (cells tags : List ℕ) (before : List Call) (c : Call) (ho
       glue house (Ok house) (Rel house) (keeps house) (turned house) (alone house) (both-left house) after₁ after₂ span (next taken c) (next taken c) ok ok (itself house span (next taken c)) (w .same) (w .discreet₁) (w .discreet₂)
 
   ran : (l : List Call) → run (next taken c) l ≡ run begin (before ++ c ∷ l)
-  ran l = sym (run-on begin before (c ∷ l) ∙ run-first taken c l)
+  ran l = sym (run-append before (c ∷ l) begin ∙ run-first taken c l)
 
   -- What the whole lists leave.
   left-related : Rel house (timeAfter span (next taken c) after₁) (run begin (before ++ c ∷ after₁)) (run begin (before ++ c ∷ after₂))

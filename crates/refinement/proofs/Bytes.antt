@@ -25,7 +25,7 @@ use Rattle.formed.specs.Test.{sized}
 use Rattle.histories.specs.Runs.{Machine, machine, outcome, next, run, answers, begun, Begins}
 use Rattle.histories.specs.Forming.{Standing}
 use Rattle.histories.proofs.Forming.{standing-run, standing-begun}
-use Rattle.privacy.proofs.Main.{run-on}
+use Rattle.histories.proofs.Leading.{run-append}
 use Rattle.cetomuhi.specs.Lent.{Lent, lent, numbersOver, arraysIn, arraysOver}
 use Rattle.cetomuhi.specs.Exports.{Done, done, Started, started, startLent, commandLent}
 use Rattle.refinement.specs.Inputs.{readThen, parseFrom}
@@ -101,7 +101,7 @@ refined (u ∷ uses) m v f k =
     let d = did-use m (answers-written m v f k) u in
     let rest = refined uses (run m (callsIn u)) v f (standing-run (callsIn u) m v f k) in
     record {
-      left = ap (λ (s : Served). servedAll exported s uses) (d .left) ∙ rest .left ∙ ap writing (sym (run-on m (callsIn u) (callsOf uses)));
+      left = ap (λ (s : Served). servedAll exported s uses) (d .left) ∙ rest .left ∙ ap writing (sym (run-append (callsIn u) (callsOf uses) m));
       answered =
           ap₂ (λ (x y : List Reply). x ++ y) (d .answered) (ap (λ (s : Served). repliesOf exported s uses) (d .left) ∙ rest .answered)
           ∙ replies-on (callsIn u) (callsOf uses) m;
