@@ -4,11 +4,14 @@ use native.Mathlib.Omega.{arith}
 use mathlib.Core.Bool.{Bool, true, false}
 use mathlib.Core.List.{List, [], _∷_, _++_, append-assoc, append-nil}
 use mathlib.Core.Path.{_≡_, refl, sym, _∙_, ap, subst}
-use lib.ListN.{length, take, drop, set, length-append, length-set, take-append-drop}
+use lib.Dec.{leb}
+use borrow.Author.Tests.{leb-true, le-leb, lt-leb}
+use lib.ListN.{length, take, drop, set, length-append, length-drop, length-set, take-append-drop}
 use lib.Seq.{set-split, take-append-le, take-take, take-at, drop-at, drop-drop, length-take-le}
+use Rattle.capabilities.proofs.Choice.{pick-yes, pick-no}
 use Rattle.words.specs.Words.{byteOf}
 use Rattle.lines.specs.Lines.{decimal, lineOf}
-use Rattle.lines.specs.Laid.{Laid}
+use Rattle.lines.specs.Laid.{Laid, laidIn}
 use Rattle.lines.proofs.Decimal.{tens, decimal-one, decimal-pair, decimal-two, decimal-some, decimal-long, line-short}
 
 -- One put after another.
@@ -66,8 +69,29 @@ laid-none at a =
     let same : at ≡ at + 0 = omega arith in
     record { ends = same; size = refl; fits = λ w. sym (take-append-drop at a) ∙ ap (λ (n : ℕ). take at a ++ drop n a) same }
 
-pub laid-past : (xs : List ℕ) (at end : ℕ) (a : List ℕ) → end ≡ at + length xs → length a < end → Laid xs at a end a
-laid-past xs at end a e h = record { ends = e; size = refl; fits = λ w. let z : ⊥ = omega arith in absurd z }
+-- One piece, which is put if it fits.
+module _ (new : List ℕ) (at end : ℕ) (a : List ℕ) where
+  pub laid-in : {b : List ℕ} → end ≡ at + length new → b ≡ laidIn new at a → Laid new at a end b
+  unfolding laidIn
+  laid-in {b} e p = record { ends = e; size = ap length p ∙ go (leb (at + length new) (length a)) refl; fits = λ h. p ∙ pick-yes _ _ _ (le-leb (at + length new) (length a) h) }
+    where
+      go : (c : Bool) → leb (at + length new) (length a) ≡ c → length (laidIn new at a) ≡ length a
+      go true f =
+          let h = leb-true (at + length new) (length a) f in
+          ap length (pick-yes _ (take at a ++ (new ++ drop (at + length new) a)) a f)
+          ∙ simp (length-append, length-drop, length-take-le at a (omega arith)) (omega arith)
+      go false f = ap length (pick-no _ (take at a ++ (new ++ drop (at + length new) a)) a f)
+
+  -- Put where it fits, and kept where it does not.
+  pub in-laid : {b : List ℕ} → end ≤ length a → Laid new at a end b → (end ≡ at + length new) × (b ≡ laidIn new at a)
+  unfolding laidIn
+  in-laid h p =
+      let w : at + length new ≤ length a = omega (arith, p .ends) in
+      (p .ends, p .fits w ∙ sym (pick-yes _ (take at a ++ (new ++ drop (at + length new) a)) a (le-leb (at + length new) (length a) w)))
+
+  pub in-past : end ≡ at + length new → length a < end → (end ≡ at + length new) × (a ≡ laidIn new at a)
+  unfolding laidIn
+  in-past e h = (e, sym (pick-no _ (take at a ++ (new ++ drop (at + length new) a)) a (lt-leb (at + length new) (length a) (omega arith))))
 
 -- One byte stored.
 pub laid-one : (x at end : ℕ) (a : List ℕ) → end ≡ at + 1 → end ≤ length a → Laid (x ∷ []) at a end (set a at x)
@@ -206,11 +230,11 @@ line-length code number tag =
 
 -- A line of six bytes.
 module _ (code number : ℕ) (tag : Bool) (at : ℕ) (a : List ℕ) (h : code < 10) (w : number < 10) where
-  pub short-past : length a < at + 6 → Laid (lineOf code number tag) at a (at + 6) a
+  pub short-past : length a < at + 6 → (at + 6 ≡ at + length (lineOf code number tag)) × (a ≡ laidIn (lineOf code number tag) at a)
   short-past p =
       let c : length (decimal code) ≡ 1 = ap length (decimal-one code h) in
       let n : length (decimal number) ≡ 1 = ap length (decimal-one number w) in
-      laid-past (lineOf code number tag) at (at + 6) a (rw (line-length code number tag) (omega arith)) p
+      in-past (lineOf code number tag) at (at + 6) a (rw (line-length code number tag) (omega arith)) p
 
   pub laid-short :
       (b d : List ℕ) → Laid ((48 + code) ∷ 32 ∷ (48 + number) ∷ []) at a (at + 3) b → Laid (tagged tag) (at + 3) b (at + 3 + 3) d
@@ -239,7 +263,6 @@ module _ (code number : ℕ) (tag : Bool) (at first second end : ℕ) (a b c d :
 
 -- A line ends near its place.
 pub line-near :
-    (code number : ℕ) (tag : Bool) (at end : ℕ) (a b : List ℕ) → Laid (lineOf code number tag) at a end b → code < 100
-    → number < 18446744073709551616 → end ≤ at + 26
-line-near code number tag at end a b p h w =
-    let l : length (lineOf code number tag) ≤ 26 = line-short code number tag w h in omega (arith, p .ends)
+    (code number : ℕ) (tag : Bool) (at end : ℕ) → end ≡ at + length (lineOf code number tag) → code < 100 → number < 18446744073709551616 → end ≤ at + 26
+line-near code number tag at end e h w =
+    let l : length (lineOf code number tag) ≤ 26 = line-short code number tag w h in omega arith

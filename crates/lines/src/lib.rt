@@ -5,7 +5,7 @@ ghost use mathlib.Core.Path.{_≡_};
 ghost use lib.ListN.{length, set};
 ghost use Rattle.words.specs.Words.{byteOf};
 ghost use Rattle.lines.specs.Lines.{decimal, lineOf};
-ghost use Rattle.lines.specs.Laid.{Laid};
+ghost use Rattle.lines.specs.Laid.{Laid, laidIn};
 
 // How many digits a number has.
 fn width(n: u64) -> usize
@@ -79,7 +79,8 @@ fn put_short(code: u8, number: u8, tag: bool, at: usize, out: &mut [u8]) -> usiz
     requires { ⌜ code < 10 ⌝ }
     requires { ⌜ number < 10 ⌝ }
     requires { ⌜ at < 4294967296 ⌝ }
-    ensures { λ r. ⌜ Laid (lineOf code number tag) at (now (out .entry)) r (now (out .exit)) ⌝ }
+    ensures { λ r. ⌜ r ≡ at + length (lineOf code number tag) ⌝ }
+    ensures { λ _. ⌜ now (out .exit) ≡ laidIn (lineOf code number tag) at (now (out .entry)) ⌝ }
 {
     let end = at + 6;
     if out.len() < end {
@@ -94,7 +95,8 @@ fn put_short(code: u8, number: u8, tag: bool, at: usize, out: &mut [u8]) -> usiz
 
 fn put_long(code: u8, number: u64, tag: bool, at: usize, out: &mut [u8]) -> usize
     requires { ⌜ at < 4294967296 ⌝ }
-    ensures { λ r. ⌜ Laid (lineOf code number tag) at (now (out .entry)) r (now (out .exit)) ⌝ }
+    ensures { λ r. ⌜ r ≡ at + length (lineOf code number tag) ⌝ }
+    ensures { λ _. ⌜ now (out .exit) ≡ laidIn (lineOf code number tag) at (now (out .entry)) ⌝ }
 {
     let first = at + width(code as u64);
     let second = first + 1 + width(number);
@@ -112,7 +114,8 @@ fn put_long(code: u8, number: u64, tag: bool, at: usize, out: &mut [u8]) -> usiz
 // Puts a line at a place of a lent buffer, if it fits, and answers where it ends; if it does not fit nothing is written. The
 // place is a u32, so that no end passes what a usize holds.
 pub fn put_line(code: u8, number: u64, tag: bool, at: u32, out: &mut [u8]) -> usize
-    ensures { λ r. ⌜ Laid (lineOf code number tag) at (now (out .entry)) r (now (out .exit)) ⌝ }
+    ensures { λ r. ⌜ r ≡ at + length (lineOf code number tag) ⌝ }
+    ensures { λ _. ⌜ now (out .exit) ≡ laidIn (lineOf code number tag) at (now (out .entry)) ⌝ }
     ensures { λ r. ⌜ (code < 100 → r ≤ at + 26) ⌝ }
 {
     if (code < 10) & (number < 10) {

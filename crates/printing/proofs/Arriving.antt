@@ -20,8 +20,9 @@ use Rattle.arrays.specs.Reading.{stateOf, Formed}
 use Rattle.arrays.specs.Steps.{leaving}
 use Rattle.arrays.proofs.RoundTrip.{state-back-again, written-formed}
 use Rattle.arrays.proofs.Starting.{begun, firstNumber, rootNumber, fresh-in}
-use Rattle.lines.specs.Laid.{Laid}
+use Rattle.lines.specs.Laid.{Laid, laidIn}
 use Rattle.lines.specs.Lines.{lineOf}
+use Rattle.lines.proofs.Laying.{laid-in}
 use Rattle.session_rules.specs.Session.{endsSession, zeroed, linesFrom}
 use Rattle.session_rules.proofs.Sessions as sessions
 use Rattle.session_rules.proofs.Sessions.{Going, going-none, going-all, goes-on, take-zeroed}
@@ -56,7 +57,11 @@ module _ {input : List ℕ} {a₀ : Arrays} {cells₀ tags₀ out₀ : List ℕ}
   -- One turn of the loop.
   module _ (more : at < length input) {r : Answer} {a′ : Arrays} {cells′ tags′ : List ℕ} {n : ℕ}
       (e : ranOn (leaving r a′ cells′ tags′) n ≡ commandJudgedOn a input at cells tags)
-      {end₁ : ℕ} {out₁ : List ℕ} (put : Laid (lineOf (r .code) (r .number) (r .tag)) end out end₁ out₁) (short : r .code < 100 → end₁ ≤ end + 26) where
+      {end₁ : ℕ} {out₁ : List ℕ} (ends : end₁ ≡ end + length (lineOf (r .code) (r .number) (r .tag)))
+      (lies : out₁ ≡ laidIn (lineOf (r .code) (r .number) (r .tag)) end out) (short : r .code < 100 → end₁ ≤ end + 26) where
+    put : Laid (lineOf (r .code) (r .number) (r .tag)) end out end₁ out₁
+    put = laid-in (lineOf (r .code) (r .number) (r .tag)) end end₁ out ends lies
+
     abbrev on : ran (commanded r a′ n) cells′ tags′ ≡ commandOf (stateOf a) input at cells tags
     on = ran-on a (v .formed) input at cells tags r a′ cells′ tags′ n e
 

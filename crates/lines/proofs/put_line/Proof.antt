@@ -18,7 +18,7 @@ same-length : tie.Need-same-length
 same-length c = search needs
 
 returns : tie.Need-returns
-returns c = let a = c .before .before .before .before .before .before .args in let p = c .before .before .put-short .ensures in (p, λ h. line-near (a .code) (a .number) (a .tag) (a .at) _ (a .out .now) _ p h (omega arith))
+returns c = let a = c .before .before .before .before .before .before .args in let p = c .before .before .put-short .ensures in (p .0, (p .1, λ h. line-near (a .code) (a .number) (a .tag) (a .at) _ (p .0) h (omega arith)))
 
 put-long-requires : tie.Need-put-long-requires
 put-long-requires c κs = search needs
@@ -27,7 +27,7 @@ same-length-2 : tie.Need-same-length-2
 same-length-2 c = search needs
 
 returns-2 : tie.Need-returns-2
-returns-2 c = let a = c .before .before .before .before .before .before .args in let p = c .before .before .put-long .ensures in (p, λ h. line-near (a .code) (a .number) (a .tag) (a .at) _ (a .out .now) _ p h (omega arith))
+returns-2 c = let a = c .before .before .before .before .before .before .args in let p = c .before .before .put-long .ensures in (p .0, (p .1, λ h. line-near (a .code) (a .number) (a .tag) (a .at) _ (p .0) h (omega arith)))
 
 pub put-line-spec : {M : Type 1} → statement M
 put-line-spec =

@@ -4,7 +4,7 @@ use Prim.Native.Nat.{_+_}
 use mathlib.Core.Path.{_∙_}
 use lib.ListN.{length-set}
 use Rattle.lines.specs.Lines.{lineOf}
-use Rattle.lines.proofs.Laying.{laid-past, laid-line, line-length, spaced-size}
+use Rattle.lines.proofs.Laying.{in-past, in-laid, laid-line, line-length, spaced-size}
 use borrow.Author.Needs.{needs}
 use Rattle.lines.proofs.put_long.Statement.{statement}
 use Rattle.lines.proofs.put_long.Tie as tie
@@ -34,7 +34,7 @@ returns c =
     let first = a .at + c .before .before .width .result in
     let two = c .before .width2 .ensures .0 in
     let second = first + 1 + c .before .width2 .result in
-    laid-past (lineOf (a .code) (a .number) (a .tag)) (a .at) (second + 3) (a .out .now) (rw (line-length (a .code) (a .number) (a .tag)) (omega (arith, one, two))) (c .if1 .taken)
+    in-past (lineOf (a .code) (a .number) (a .tag)) (a .at) (second + 3) (a .out .now) (rw (line-length (a .code) (a .number) (a .tag)) (omega (arith, one, two))) (c .if1 .taken)
 
 put-requires : tie.Need-put-requires
 put-requires c κs = search needs
@@ -84,7 +84,8 @@ returns-2 c =
     let second = first + 1 + c .before .before .before .before .before .before .before .before .before .before .before .before .before .width2 .result in
     let p = c .before .before .before .before .before .before .before .before .before .before .put .ensures (a .at) (omega (arith, one)) in
     let q = c .before .before .before .before .before .before .put2 .ensures (first + 1) (omega (arith, two)) in
-    laid-line (a .code) (a .number) (a .tag) (a .at) first second (second + 3) (a .out .now) _ _ _ p (omega (arith, p .size)) q (c .before .before .put-tag .ensures)
+    in-laid (lineOf (a .code) (a .number) (a .tag)) (a .at) (second + 3) (a .out .now) (omega arith)
+    (laid-line (a .code) (a .number) (a .tag) (a .at) first second (second + 3) (a .out .now) _ _ _ p (omega (arith, p .size)) q (c .before .before .put-tag .ensures))
 
 pub put-long-spec : {M : Type 1} → statement M
 put-long-spec =

@@ -3,7 +3,8 @@ use native.Mathlib.Omega.{arith}
 use Prim.Native.Nat.{_+_}
 use mathlib.Core.Path.{refl, _∙_}
 use lib.ListN.{length-set}
-use Rattle.lines.proofs.Laying.{short-past, laid-short, laid-three}
+use Rattle.lines.specs.Lines.{lineOf}
+use Rattle.lines.proofs.Laying.{short-past, in-laid, laid-short, laid-three}
 use borrow.Author.Needs.{needs}
 use Rattle.lines.proofs.put_short.Statement.{statement}
 use Rattle.lines.proofs.put_short.Tie as tie
@@ -45,7 +46,7 @@ same-length : tie.Need-same-length
 same-length c = c .before .before .put-tag .ensures .size ∙ simp length-set refl
 
 returns-2 : tie.Need-returns-2
-returns-2 c = let a = c .before .before .before .before .before .before .args in let p = c .before .before .before .before .before .before .pre in laid-short (a .code) (a .number) (a .tag) (a .at) (a .out .now) (p .0) (p .1 .0) _ _ (laid-three (48 + a .code) 32 (48 + a .number) (a .at) (a .out .now) (omega arith)) (c .before .before .put-tag .ensures)
+returns-2 c = let a = c .before .before .before .before .before .before .args in let p = c .before .before .before .before .before .before .pre in in-laid (lineOf (a .code) (a .number) (a .tag)) (a .at) (a .at + 6) (a .out .now) (omega arith) (laid-short (a .code) (a .number) (a .tag) (a .at) (a .out .now) (p .0) (p .1 .0) _ _ (laid-three (48 + a .code) 32 (48 + a .number) (a .at) (a .out .now) (omega arith)) (c .before .before .put-tag .ensures))
 
 pub put-short-spec : {M : Type 1} → statement M
 put-short-spec =

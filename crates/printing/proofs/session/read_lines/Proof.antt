@@ -2,8 +2,11 @@
 use borrow.Author.Needs.{needs}
 use Prim.Native.Nat.{_+_, _*_}
 use native.Mathlib.Omega.{arith}
+use mathlib.Core.Bool.{false}
 use mathlib.Core.Path.{sym, _∙_}
 use borrow.Author.Tests.{not-true, not-false}
+use Rattle.lines.specs.Lines.{lineOf}
+use Rattle.lines.proofs.Laying.{laid-in}
 use Rattle.session_rules.proofs.Sessions.{read-short, read-out, read-in}
 use Rattle.printing.proofs.session.read_lines.Statement.{statement}
 use Rattle.printing.proofs.session.read_lines.Tie as tie
@@ -18,7 +21,7 @@ returns : tie.Need-returns
 returns c =
     let put = c .before .before .put-line in
     let a = c .before .before .before .before .before .before .before .args in
-    read-short (a .input .now) (a .out .now) (put .result) _ (c .before .before .before .before .if1 .taken) (put .ensures .0)
+    read-short (a .input .now) (a .out .now) (put .result) _ (c .before .before .before .before .if1 .taken) (laid-in (lineOf 1 0 false) 0 (put .result) (a .out .now) (put .ensures .0) (put .ensures .1 .0))
 
 shared-slice-read-wide : tie.Need-shared-slice-read-wide
 shared-slice-read-wide c = search needs
@@ -63,7 +66,7 @@ returns-2 c =
     let wide = c .before .before .before .before .before .before .before .before .before .before .wide in
     let if1 = c .before .before .before .before .before .before .before .before .before .before .before .before .if1 in
     let a = c .before .before .before .before .before .before .before .before .before .before .before .before .before .before .before .args in
-    read-out (a .input .now) (256 * wide .result + wide2 .result) (wide3 .result) (let e = wide .ensures .0 in let e₂ = wide2 .ensures .0 in omega (arith, e, e₂)) (wide3 .ensures .0) (if1 .left) (a .out .now) (put .result) _ (sym (range .ensures) ∙ not-true _ (test .taken)) (put .ensures .0)
+    read-out (a .input .now) (256 * wide .result + wide2 .result) (wide3 .result) (let e = wide .ensures .0 in let e₂ = wide2 .ensures .0 in omega (arith, e, e₂)) (wide3 .ensures .0) (if1 .left) (a .out .now) (put .result) _ (sym (range .ensures) ∙ not-true _ (test .taken)) (laid-in (lineOf 1 0 false) 0 (put .result) (a .out .now) (put .ensures .0) (put .ensures .1 .0))
 
 put-line-requires-3 : tie.Need-put-line-requires-3
 put-line-requires-3 c κs = search needs
@@ -78,7 +81,7 @@ started-requires c κs =
     let wide = c .before .before .before .before .before .before .before .before .before .before .before .wide in
     let if1 = c .before .before .before .before .before .before .before .before .before .before .before .before .before .if1 in
     let a = c .before .before .before .before .before .before .before .before .before .before .before .before .before .before .before .before .args in
-    let near = put .ensures .1 (omega arith) in
+    let near = put .ensures .1 .1 (omega arith) in
     (sym (range .ensures) ∙ not-false _ (test .left), (if1 .left, (c .before .before .before .before .before .before .before .before .before .before .before .before .before .before .before .before .pre, omega (arith, near))))
 
 same-length-3 : tie.Need-same-length-3
@@ -95,7 +98,7 @@ returns-3 c =
     let wide = c .before .before .before .before .before .before .before .before .before .before .before .before .before .before .wide in
     let if1 = c .before .before .before .before .before .before .before .before .before .before .before .before .before .before .before .before .if1 in
     let a = c .before .before .before .before .before .before .before .before .before .before .before .before .before .before .before .before .before .before .before .args in
-    read-in (a .input .now) (256 * wide .result + wide2 .result) (wide3 .result) (let e = wide .ensures .0 in let e₂ = wide2 .ensures .0 in omega (arith, e, e₂)) (wide3 .ensures .0) (if1 .left) (a .out .now) (put .result) _ (sym (range .ensures) ∙ not-false _ (test .left)) (put .ensures .0) (started .result) _ (started .ensures .0) (started .ensures .1)
+    read-in (a .input .now) (256 * wide .result + wide2 .result) (wide3 .result) (let e = wide .ensures .0 in let e₂ = wide2 .ensures .0 in omega (arith, e, e₂)) (wide3 .ensures .0) (if1 .left) (a .out .now) (put .result) _ (sym (range .ensures) ∙ not-false _ (test .left)) (laid-in (lineOf 0 0 false) 0 (put .result) (a .out .now) (put .ensures .0) (put .ensures .1 .0)) (started .result) _ (started .ensures .0) (started .ensures .1)
 
 pub read-lines-spec : {M : Type 1} → statement M
 read-lines-spec =
