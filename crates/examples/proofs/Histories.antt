@@ -18,7 +18,7 @@ use Rattle.words.specs.declared.Slot.{Slot}
 use Rattle.words.specs.Words.{byteOf}
 use Rattle.machine.specs.Formed.{startOf}
 use Rattle.machine.specs.Step.{stepOf}
-use Rattle.machine.specs.Variants.{Rule, instead, sweepBy, loadBy, storeBy}
+use Rattle.cases.specs.Variants.{Rule, instead, sweepBy, loadBy, storeBy}
 use Rattle.cases.specs.WrongMachines.{untouched, loadsDying, keptByte}
 use Rattle.machine.proofs.Computing.{computing}
 use Rattle.histories.specs.Runs.{Machine, machine, begun, Begins}

@@ -1,6 +1,7 @@
 -- What party 0 brings about alone, by computing, and what it does not; and beside each the calls or the machine that would not do.
 -- Assumes nothing.
 use Prim.Native.Nat.{ℕ, zero, suc, _+_}
+use native.Mathlib.Omega.{arith}
 use mathlib.Core.List.{List, [], _∷_, _++_, map}
 use mathlib.Core.Path.{_≡_, refl}
 use Rattle.pages.specs.declared.PageState.{PageState}
@@ -18,13 +19,13 @@ use Rattle.calls.specs.Commands.{page, frame}
 use Rattle.words.specs.declared.Slot.{Slot}
 use Rattle.words.specs.Words.{byteOf, collectedMailbox}
 use Rattle.machine.specs.Step.{stepOf}
-use Rattle.machine.specs.Variants.{Rule, instead, endBy, collectBy, destroyBy}
-use Rattle.machine.specs.WrongMachines.{untouched}
+use Rattle.cases.specs.Variants.{Rule, instead, endBy, collectBy, destroyBy}
+use Rattle.cases.specs.WrongMachines.{untouched}
 use Rattle.machine.proofs.Computing.{computing}
 use Rattle.histories.specs.Runs.{Machine, machine, outcome, next, run, begun}
 use Rattle.histories.specs.Live.{virtual, wordIn}
 use Rattle.histories.specs.Restoring.{eachBelow, manyBelow, sweepAndCollect, finishing, taking, merging, destroying, releasing, unclaiming, everyPage, unmapping, revoking, _andThen_, restoring}
-use Rattle.histories.specs.Manager.{unmappingAll, takingBack}
+use Rattle.histories.specs.Manager.{unmappingAll, takingBack, Beside}
 use Rattle.examples.proofs.Histories.{start}
 use Rattle.examples.proofs.Restoring.{swept, counted}
 
@@ -117,12 +118,34 @@ pub none-live :
 unfolding leaves tagged cellsShown house start eachBelow manyBelow sweepAndCollect finishing taking merging destroying releasing unclaiming unmapping revoking _andThen_ restoring outcome next run begun computing
 none-live = refl
 
--- What party 0 cannot do alone. Party 5 has taken cells 0 to 7, and party 3 holds cells 8 to 31 Open, which share a page with them.
-pub apart : Machine
-apart = run start (Split 0 0 8 ∷ Give 0 0 5 ∷ Give 0 8 3 ∷ Take 5 0 0 ∷ [])
+-- What party 0 cannot do alone. Party 5 has taken cells 0 to 7, and a party holds cells 8 to 31 Open, which share a page with them.
+unfoldable pub apart : ℕ → Machine
+apart p = run start (Split 0 0 8 ∷ Give 0 0 5 ∷ Give 0 8 p ∷ Take 5 0 0 ∷ [])
 
 pub refused :
-    leaves stepOf [] apart (Revoke 0 0 ∷ Merge 0 0 ∷ Revoke 0 8 ∷ Give 0 8 0 ∷ [])
+    leaves stepOf [] (apart 3) (Revoke 0 0 ∷ Merge 0 0 ∷ Revoke 0 8 ∷ Give 0 8 0 ∷ [])
     ≡ left (10 ∷ 7 ∷ 6 ∷ 6 ∷ []) (reservation 0 8 Taken 0 5 ∷ reservation 8 24 Open 3 9 ∷ []) Unmapped Unmapped 1
 unfolding leaves tagged cellsShown apart start outcome next run begun computing
 refused = refl
+
+-- So what is said of such a reservation is said of this one.
+pub beside : Beside (apart 3 .state .core .table) 0 1
+unfolding apart start outcome next run begun computing
+beside =
+    record {
+      used = omega arith;
+      state = refl;
+      other = record { used = omega arith; state = refl; holder = λ e. let z : _≡_ {A = ℕ} 3 0 = e in omega arith };
+      cell = 7;
+      within = refl;
+      near = 8;
+      theirs = refl;
+      page = refl;
+    }
+
+-- If party 0 itself holds the other one, it takes it, merges the two, and takes all back.
+pub merged-back :
+    leaves stepOf [] (apart 0) (Take 0 8 0 ∷ Merge 0 0 ∷ Revoke 0 0 ∷ Sweep 0 16 ∷ Collect 0 ∷ [])
+    ≡ left (0 ∷ 0 ∷ 0 ∷ 0 ∷ 0 ∷ []) (reservation 0 32 Open 0 9 ∷ []) Unmapped Unmapped 0
+unfolding leaves tagged cellsShown apart start outcome next run begun computing
+merged-back = refl

@@ -20,7 +20,7 @@ use Rattle.machine.specs.Reasons.{reads}
 use Rattle.machine.specs.Effects.{withTable}
 use Rattle.machine.specs.Formed.{answered}
 use Rattle.machine.specs.Step.{outcomeWith, withCore}
-use Rattle.machine.specs.Variants.{Rule, instead}
+use Rattle.cases.specs.Variants.{Rule, instead}
 use Rattle.words.specs.Words.{empty}
 use Rattle.histories.specs.Runs.{Machine, machine, begun}
 use Rattle.examples.proofs.Pairs.{Pair, inOne, inTwo, same, fine, ones, twos, WithinOf, within, comparing}

@@ -24,7 +24,7 @@ use Rattle.machine.specs.Formed.{answered}
 use Rattle.machine.specs.Roles.{Sources, fills, plain, asked}
 use Rattle.machine.specs.Effects.{withClaims}
 use Rattle.machine.specs.Step.{Outcome, outcomeWith, effectOn, withCore, stepOf}
-use Rattle.machine.specs.Variants.{Rule, instead, operand, sweepBy, loadBy, claimBy, ruledBy}
+use Rattle.cases.specs.Variants.{Rule, instead, operand, sweepBy, loadBy, claimBy, ruledBy}
 use Rattle.machine.proofs.Computing.{computing}
 use Rattle.histories.specs.Runs.{Machine, outcome, next, run, begun, Reached}
 use Rattle.histories.specs.Sharing.{claimsIn, Shows, byRelease}

@@ -140,7 +140,7 @@ pub record Ends (c : Core) : Type 0 where
   pub whole-length : rowAt (c .table) row .length % 16 ≡ 0
   pub freed : anyMapped (c .pages) (revoked c) ≡ false
 
-whole-while : (c : Core) → CoreFacts c → running c ≡ true → wholePages (rowOf (c .table) (revokingOf (c .table))) ≡ true
+pub whole-while : (c : Core) → CoreFacts c → running c ≡ true → wholePages (rowOf (c .table) (revokingOf (c .table))) ≡ true
 whole-while c facts run =
     let r = rowOf (c .table) (revokingOf (c .table)) in
     and-left (wholePages r) (allFreed (c .pages) (revoked c))

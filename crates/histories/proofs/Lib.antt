@@ -32,6 +32,7 @@ pub mod RestoringPages
 pub mod RestoringEnds
 pub mod Restoring
 pub mod Manager
+pub mod Withheld
 pub mod Frames
 pub mod PageAfter
 pub mod Cleaning

@@ -27,7 +27,7 @@ module _ (m : Machine) (p base : ℕ) (w : Went m (Revoke p base)) where
   unfolding done effect
   revoke-core = ap (λ x. x .state .core) (went-next m (Revoke p base) w)
 
-  revoke-code : revokeOf (m .state .core) p base .code ≡ 0
+  pub revoke-code : revokeOf (m .state .core) p base .code ≡ 0
   unfolding revokeOf reasons
   revoke-code = after-five (unnamed p) (notManager p) (revokeReasons (m .state .core) p base) (w .clear)
 

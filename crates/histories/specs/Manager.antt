@@ -1,16 +1,19 @@
 -- What party 0 alone brings about. From every reached state, by calls that are computed from it, each party 0's own and each granted in its
--- turn: a revocation that runs comes to its end; every page is unmapped; a Taken reservation of whole pages is taken back. Assumes nothing.
-use Prim.Native.Nat.{ℕ, _<_}
+-- turn: a revocation that runs comes to its end; every page is unmapped; a Taken reservation of whole pages is taken back. And what it
+-- cannot: a Taken reservation that shares a page with one that another party holds Open stays Taken. Assumes nothing.
+use Prim.Native.Nat.{ℕ, _+_, _/_, _<_, _≤_}
 use mathlib.Core.Bool.{true, false}
 use mathlib.Core.List.{List}
 use mathlib.Core.Path.{_≡_}
 use lib.ListN.{length, set}
 use Rattle.capabilities.specs.Lists.{Every}
-use Rattle.capabilities.specs.Range.{pageInside}
+use Rattle.capabilities.specs.Range.{inside, pageInside}
 use Rattle.pages.specs.declared.PageState.the-variants.{Unmapped}
 use Rattle.pages.specs.Entries.{isMapped}
 use Rattle.pages.specs.Layer.{pageAt}
+use Rattle.table.specs.declared.Reservation.{Reservation}
 use Rattle.table.specs.declared.ReservationState.the-variants.{Open, Taken, Revoking}
+use Rattle.table.specs.Table.{Table}
 use Rattle.table.specs.Rows.{live, rangeOf, reservation, noTaker}
 use Rattle.reservations.specs.Revocation.{running, wholePages}
 use Rattle.calls.specs.declared.Call.{Call}
@@ -68,3 +71,46 @@ abbrev pub TakenBack : Type 0
 TakenBack =
     (m : Machine) (r : Reached m) → running (m .state .core) ≡ false → (i : ℕ) → i < length (live (m .state .core .table)) → rowAt (m .state .core .table) i .state ≡ Taken
     → wholePages (rowAt (m .state .core .table) i) ≡ true → ByManager m (takingBack i m) × Returned m (run m (takingBack i m)) (r .v) i
+
+-- What another party than 0 holds Open.
+pub record OthersOpen (t : Table) (j : ℕ) : Type 0 where
+  pub used : j < length (live t)
+  pub state : rowAt t j .state ≡ Open
+  pub holder : rowAt t j .holder ≡ 0 → ⊥
+
+-- A reservation is among those of a table.
+pub record Stands (t : Table) (r : Reservation) : Type 0 where
+  pub row : ℕ
+  pub used : row < length (live t)
+  pub is : rowAt t row ≡ r
+
+-- It stays as it is, whatever calls party 0 makes, granted or refused.
+abbrev pub OthersStay : Type 0
+OthersStay =
+    (m : Machine) → Reached m → (j : ℕ) → OthersOpen (m .state .core .table) j → (calls : List Call) → Every (λ c. callerOf c ≡ 0) calls
+    → Stands (run m calls .state .core .table) (rowAt (m .state .core .table) j)
+
+-- The i-th reservation is Taken, and one of its cells is in the same page as a cell of the j-th, which another party holds Open.
+pub record Beside (t : Table) (i j : ℕ) : Type 0 where
+  pub used : i < length (live t)
+  pub state : rowAt t i .state ≡ Taken
+  pub other : OthersOpen t j
+  pub cell : ℕ
+  pub within : inside (rangeOf (rowAt t i)) cell ≡ true
+  pub near : ℕ
+  pub theirs : inside (rangeOf (rowAt t j)) near ≡ true
+  pub page : cell / 16 ≡ near / 16
+
+-- The cells of a reservation lie within a Taken one.
+pub record StaysTaken (t : Table) (r : Reservation) : Type 0 where
+  pub row : ℕ
+  pub used : row < length (live t)
+  pub state : rowAt t row .state ≡ Taken
+  pub from : rowAt t row .base ≤ r .base
+  pub upto : r .base + r .length ≤ rowAt t row .base + rowAt t row .length
+
+-- Whatever calls party 0 makes, it stays Taken, by itself or merged with others.
+abbrev pub NotTakenBack : Type 0
+NotTakenBack =
+    (m : Machine) → Reached m → (i j : ℕ) → Beside (m .state .core .table) i j → (calls : List Call) → Every (λ c. callerOf c ≡ 0) calls
+    → StaysTaken (run m calls .state .core .table) (rowAt (m .state .core .table) i)
