@@ -1,4 +1,3 @@
-pub mod Freed
 pub mod Revocation
 pub mod Tested
 pub mod Starting

@@ -1,13 +1,13 @@
 -- The test of the revocation, by whether one runs. Assumes nothing.
 use Prim.Native.Nat.{ℕ}
 use mathlib.Core.Bool.{Bool, true, false, not, _&&_}
-use mathlib.Core.List.{List, map}
+use mathlib.Core.List.{List}
 use mathlib.Core.Path.{_≡_, refl, sym, ap, _∙_}
 use lib.Dec.{eqb}
-use Rattle.capabilities.specs.Lists.{pick, each}
+use Rattle.capabilities.specs.Lists.{pick}
 use Rattle.capabilities.proofs.Choice.{pick-yes, pick-no}
-use Rattle.pages.specs.Freed.{freedIn, allFreed}
-use Rattle.pages.specs.Numbers.{pageIn}
+use Rattle.pages.specs.Freed.{allFreed}
+use Rattle.pages.specs.Numbers.{layerOf}
 use Rattle.table.specs.declared.Reservation.{Reservation}
 use Rattle.table.specs.declared.Found.{Found}
 use Rattle.table.specs.Rows.{rangeOf}
@@ -45,12 +45,12 @@ module _ (n : Numbers) (rows pages frames principals counts : List ℕ) (found :
       (unfold coreOf in sym (pick-no (running c) (wholePages (rowOf (c .table) (revokingOf (c .table))) && allFreed (c .pages) (revoked c)) (eqb (c .place) 0) (unfold running in ap not (sym (ap missing found-is) ∙ m))))
 
   pub one-runs : missing found ≡ false
-      → (eqb (n .base) (row .base) && eqb (n .length) (row .length)) && (wholePages row && each (freedIn (rangeOf row)) 0 (map pageIn pages))
+      → (eqb (n .base) (row .base) && eqb (n .length) (row .length)) && (wholePages row && allFreed (layerOf (n .v) (n .f) pages frames) (rangeOf row))
       ≡ (cached n (coreOf n rows pages frames principals counts) && revocationSound (coreOf n rows pages frames principals counts))
   unfolding revocationSound
   one-runs m =
       let r = rowOf (c .table) (revokingOf (c .table)) in
-      ap (λ (b : Bool). b && (wholePages row && each (freedIn (rangeOf row)) 0 (map pageIn pages))) kept-is
-      ∙ ap (λ (x : Reservation). cached n c && (wholePages x && each (freedIn (rangeOf x)) 0 (map pageIn pages))) row-is
+      ap (λ (b : Bool). b && (wholePages row && allFreed (layerOf (n .v) (n .f) pages frames) (rangeOf row))) kept-is
+      ∙ ap (λ (x : Reservation). cached n c && (wholePages x && allFreed (layerOf (n .v) (n .f) pages frames) (rangeOf x))) row-is
       ∙ ap (λ (b : Bool). cached n c && b)
-      (unfold coreOf allFreed revoked in sym (pick-yes (running c) (wholePages r && allFreed (c .pages) (revoked c)) (eqb (c .place) 0) (unfold running in ap not (sym (ap missing found-is) ∙ m))))
+      (unfold coreOf revoked in sym (pick-yes (running c) (wholePages r && allFreed (c .pages) (revoked c)) (eqb (c .place) 0) (unfold running in ap not (sym (ap missing found-is) ∙ m))))

@@ -35,7 +35,6 @@ use Rattle.arrays.specs.declared.Arrays.{Arrays}
 use Rattle.arrays.specs.Reading.{arrays, coreOf, numbersOf, stateOf, arraysOf, Formed}
 use Rattle.arrays.proofs.Facts.{lengths, claims-pass}
 use Rattle.arrays.proofs.Writing.{same-arrays}
-use Rattle.arrays.proofs.Lists.{length-map}
 use Rattle.formed.specs.Test.{sized, canonical, cached, formedOf, Tested, Passing}
 
 pub record Parts (a : Arrays) : Type 0 where
@@ -310,10 +309,3 @@ module _ (a : Arrays) where
 
   pub back-decides : front ≡ true → (b : Bool) → b ≡ back → b ≡ formedOf a
   back-decides e b d = by-parts a b (λ z. all-parts e (sym d ∙ z)) (λ p. d ∙ back-holds p)
-
--- There are 256 pages in a sound layer.
-pub layer-pages : (v f : ℕ) (pages frames : List ℕ) → layerSound v f pages frames ≡ true → length pages ≡ 256
-unfolding layerSound
-layer-pages v f pages frames e =
-    let w = and-left (wellFormed (layerOf v f pages frames)) _ e in
-    sym (length-map pageIn pages) ∙ layer.sound (layerOf v f pages frames) w .long-pages

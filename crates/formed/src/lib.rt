@@ -1,8 +1,7 @@
 // Whether lent arrays are a well-formed state, each number as the state is written.
 use arrays::Numbers;
-use capabilities::Range;
-use capabilities::ranges::inside;
 use claims::sound::claims_sound;
+use pages::lent::all_freed;
 use pages::sound::layer_sound;
 use reservations::range_of;
 use reservations::whole_pages;
@@ -13,44 +12,14 @@ use table::tiling::well_formed;
 use words::registers::bits;
 use words::registers::mailboxes_sound;
 ghost use mathlib.Core.Path.{_≡_};
-ghost use mathlib.Core.List.{map};
-ghost use Prim.Native.Nat.{_<_};
-ghost use lib.ListN.{length};
-ghost use Rattle.capabilities.specs.Lists.{each};
-ghost use Rattle.pages.specs.Freed.{freedIn};
-ghost use Rattle.pages.specs.Numbers.{pageIn};
 ghost use Rattle.arrays.specs.Reading.{arrays};
 ghost use Rattle.formed.specs.Test.{RevocationKept, formedOf};
 
 pub mod fresh;
 
-// A page of the range is Freed; one outside may be anything.
-fn freed_in(range: Range, page: usize, number: u16) -> bool
-    requires { ⌜ page < 256 ⌝ }
-    ensures { λ r. ⌜ r ≡ freedIn range page (pageIn number) ⌝ }
-{
-    let here = inside(range, 16 * (page as u32));
-    !here | (number == 1)
-}
-
-fn all_freed(pages: &[u16], range: Range) -> bool
-    requires { ⌜ length (now pages) ≡ 256 ⌝ }
-    ensures { λ r. ⌜ r ≡ each (freedIn range) 0 (map pageIn (now (pages .entry))) ⌝ }
-{
-    let mut all = true;
-    let mut p: usize = 0;
-    while p < 256 {
-        let here = freed_in(range, p, pages[p]);
-        all = all & here;
-        p += 1;
-    }
-    all
-}
-
 // The range that is kept beside V and F is the Revoking reservation's, which is made of whole pages, all Freed; if there is none, the
 // sweep place is 0.
 fn revocation_kept(nums: Numbers, rows: &[u64], pages: &[u16]) -> bool
-    requires { ⌜ length (now pages) ≡ 256 ⌝ }
     ensures { λ r. ⌜ RevocationKept r nums (now (rows .entry)) (now (pages .entry)) ⌝ }
 {
     let count = nums.count;

@@ -96,38 +96,46 @@ module _ (r : Range) (k : ℕ) where
       go true t = let u = leb-true from k t in within (omega arith) (omega arith)
       go false t = let u = leb-false from k t in before (omega arith)
 
--- A loop over the range's pages alone: the others are not in it.
-module _ (from : ℕ) (pages : List ℕ) where
-  abbrev pub notMappedFrom : ℕ → PageEntry → Bool
-  notMappedFrom k e = not (leb from k && isMapped (e .state))
+-- A loop that tests the range's pages alone: the others are not in it.
+module _ (Q : PageEntry → Bool) (from : ℕ) (pages : List ℕ) where
+  abbrev pub testedFrom : ℕ → PageEntry → Bool
+  testedFrom k e = not (leb from k) || Q e
 
-  pub mapped-none : false ≡ not (each notMappedFrom 0 (take from (map pageIn pages)))
-  mapped-none =
-      sym (ap not (each-all notMappedFrom 0 (take from (map pageIn pages)) (pageIn 0)
-      (λ i h. rw (zero-add, lt-leb from i (omega (arith, h, length-take from (map pageIn pages)))))))
+  pub test-none : true ≡ each testedFrom 0 (take from (map pageIn pages))
+  test-none =
+      sym (each-all testedFrom 0 (take from (map pageIn pages)) (pageIn 0)
+      (λ i h. rw (zero-add, lt-leb from i (omega (arith, h, length-take from (map pageIn pages))))))
 
-  pub mapped-more : (p : ℕ) (any here : Bool) → from ≤ p → p < length pages
-      → any ≡ not (each notMappedFrom 0 (take p (map pageIn pages))) → here ≡ isMapped (pageFrom (getD pages p 0))
-      → (any || here) ≡ not (each notMappedFrom 0 (take (p + 1) (map pageIn pages)))
-  mapped-more p any here a h e x =
+  pub test-more : (p : ℕ) (all here : Bool) → from ≤ p → p < length pages → all ≡ each testedFrom 0 (take p (map pageIn pages)) → here ≡ Q (pageIn (getD pages p 0))
+      → (all && here) ≡ each testedFrom 0 (take (p + 1) (map pageIn pages))
+  test-more p all here a h e x =
       let l = map pageIn pages in
-      e2 ∙ sym (ap not (each-more notMappedFrom l p (pageIn 0) (omega (arith, length-map pages pageIn)) ∙ ap (λ y. each notMappedFrom 0 (take p l) && notMappedFrom p y) (List·getD-map pageIn pages p 0) ∙ ap (λ y. each notMappedFrom 0 (take p l) && not (y && isMapped (pageFrom (getD pages p 0)))) (le-leb from p a)))
-    where
-      turn : (a b : Bool) → (not a || b) ≡ not (a && not b)
-      turn true true = refl
-      turn true false = refl
-      turn false b = refl
+      rw (e, x)
+      (sym (each-more testedFrom l p (pageIn 0) (omega (arith, length-map pages pageIn)) ∙ ap (λ y. each testedFrom 0 (take p l) && testedFrom p y) (List·getD-map pageIn pages p 0)
+      ∙ ap (λ y. each testedFrom 0 (take p l) && (not y || Q (pageIn (getD pages p 0)))) (le-leb from p a)))
 
-      e2 : (any || here) ≡ not (each notMappedFrom 0 (take p (map pageIn pages)) && not (isMapped (pageFrom (getD pages p 0))))
-      e2 = rw (e, x) (turn (each notMappedFrom 0 (take p (map pageIn pages))) (isMapped (pageFrom (getD pages p 0))))
-
-  pub mapped-all : (r : Range) (p : ℕ) → from ≡ (r .base + 15) / 16 → p - from ≤ min ((r .base + r .length + 15) / 16) (length pages) - from
+  pub test-all : (r : Range) (p : ℕ) → from ≡ (r .base + 15) / 16 → p - from ≤ min ((r .base + r .length + 15) / 16) (length pages) - from
       → min ((r .base + r .length + 15) / 16) (length pages) ≤ p
-      → not (each notMappedFrom 0 (take p (map pageIn pages))) ≡ not (each (notMappedIn r) 0 (map pageIn pages))
-  unfolding notMappedIn
-  mapped-all r p e q h =
-      ap not
-      (each-same notMappedFrom (notMappedIn r) 0 (take p (map pageIn pages))
-      (λ i x k. ap (λ b. not (b && isMapped (x .state))) (sym (passed r (0 + i) from p (length pages) e q (omega (arith, k, length-take p (map pageIn pages))))))
-      ∙ each-rest (notMappedIn r) p (map pageIn pages) (pageIn 0)
-      (λ i a b. rw (beyond r i (omega (arith, length-map pages pageIn)))))
+      → each testedFrom 0 (take p (map pageIn pages)) ≡ each (λ k e. not (pageInside r k) || Q e) 0 (map pageIn pages)
+  test-all r p e q h =
+      each-same testedFrom (λ k e. not (pageInside r k) || Q e) 0 (take p (map pageIn pages))
+      (λ i x k. ap (λ b. not b || Q x) (sym (passed r (0 + i) from p (length pages) e q (omega (arith, k, length-take p (map pageIn pages))))))
+      ∙ each-rest (λ k e. not (pageInside r k) || Q e) p (map pageIn pages) (pageIn 0)
+      (λ i a b. rw (beyond r i (omega (arith, length-map pages pageIn))))
+
+-- 13 looks for a Mapped page, so that it tests for one that is not.
+abbrev pub notMapped : PageEntry → Bool
+notMapped e = not (isMapped (e .state))
+
+pub any-more : (all here : Bool) → (not all || here) ≡ not (all && not here)
+any-more true true = refl
+any-more true false = refl
+any-more false here = refl
+
+pub mapped-in : (r : Range) (l : List PageEntry) → each (λ k e. not (pageInside r k) || notMapped e) 0 l ≡ each (notMappedIn r) 0 l
+unfolding notMappedIn
+mapped-in r l = each-same _ _ 0 l (λ i x h. go (pageInside r (0 + i)) (isMapped (x .state)))
+  where
+    go : (a b : Bool) → (not a || not b) ≡ not (a && b)
+    go true b = refl
+    go false b = refl

@@ -19,6 +19,7 @@ use Rattle.pages.specs.declared.FrameState.{FrameState}
 use Rattle.pages.specs.declared.FrameState.the-variants.{Dirty, Free, Mapped as Shown}
 use Rattle.pages.specs.Entries.{isUnmapped, isMapped, mapsBelow, pageEntry, frameEntry}
 use Rattle.pages.specs.Layer.{pageAt, frameAt, pageSound, wellFormed}
+use Rattle.pages.specs.Freed.{isFreed}
 use Rattle.pages.specs.Numbers.{pageFrom, pageCode, frameFrom, frameCode, pageIn, frameIn, layerOf}
 use Rattle.pages.proofs.Formed.{sound}
 
@@ -52,6 +53,12 @@ unfolding pageFrom
 unmapped-code zero = refl
 unmapped-code (suc zero) = refl
 unmapped-code (suc (suc n)) = ne-eqb (suc (suc n)) 0 (λ z. omega arith) ∙ sym (ap isUnmapped (page-shown (suc (suc n)) (omega arith)))
+
+pub freed-code : (n : ℕ) → eqb n 1 ≡ isFreed (pageFrom n)
+unfolding pageFrom
+freed-code zero = refl
+freed-code (suc zero) = refl
+freed-code (suc (suc n)) = ne-eqb (suc (suc n)) 1 (λ z. omega arith) ∙ sym (ap isFreed (page-shown (suc (suc n)) (omega arith)))
 
 -- Written and read again: the same.
 pub page-back : (s : PageState) → mapsBelow 256 s ≡ true → pageFrom (pageCode s) ≡ s

@@ -23,6 +23,7 @@ ghost use Rattle.capabilities.specs.Refusals.{first};
 ghost use Rattle.pages.specs.declared.PageState.the-variants.{Freed, Mapped};
 ghost use Rattle.pages.specs.declared.FrameState.the-variants.{Dirty, Free, Mapped as Shown};
 ghost use Rattle.pages.specs.Entries.{isUnmapped, isMapped, frameNumber};
+ghost use Rattle.pages.specs.Freed.{isFreed, allFreed};
 ghost use Rattle.pages.specs.Mapping.{mapReasons, unmapReasons, zeroReasons, cleared, placeIn, lookupOf, anyMapped, freedOf, releasedOf};
 ghost use Rattle.pages.specs.Numbers.{pageFrom, pageCode, frameFrom, frameCode, layerOf, freedNumbers, releasedNumbers};
 
@@ -264,6 +265,26 @@ pub fn any_mapped(pages: &[u16], range: Range) -> bool
         p += 1;
     }
     any
+}
+
+fn is_freed(code: u16) -> bool
+    ensures { λ r. ⌜ r ≡ isFreed (pageFrom code) ⌝ }
+{
+    code == 1
+}
+
+// Whether all pages of the range are Freed.
+pub fn all_freed(pages: &[u16], range: Range) -> bool
+    ensures { λ r. ⌜ ((v f : ℕ) (frames : List ℕ) → r ≡ allFreed (layerOf v f (now (pages .entry)) frames) range) ⌝ }
+{
+    let upto = end_page(range, pages.len());
+    let mut all = true;
+    let mut p = first_page(range);
+    while p < upto {
+        all = all & is_freed(pages[p]);
+        p += 1;
+    }
+    all
 }
 
 fn freed(code: u16) -> u16

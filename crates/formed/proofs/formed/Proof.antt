@@ -2,9 +2,8 @@
 use mathlib.Core.Bool.{Bool, _&&_}
 use mathlib.Core.Path.{_≡_, refl, sym, ap, _∙_}
 use borrow.Author.Tests.{not-true, not-false}
-use Rattle.capabilities.proofs.Choice.{and-right}
 use Rattle.arrays.specs.Reading.{arrays}
-use Rattle.formed.proofs.Tested.{lengthsFit, front-fails, back-decides, layer-pages}
+use Rattle.formed.proofs.Tested.{lengthsFit, front-fails, back-decides}
 use borrow.Author.Needs.{needs}
 use Rattle.formed.proofs.formed.Statement.{statement}
 use Rattle.formed.proofs.formed.Tie as tie
@@ -42,11 +41,7 @@ mul-placed : tie.Need-mul-placed
 mul-placed c = search needs
 
 revocation-kept-requires : tie.Need-revocation-kept-requires
-revocation-kept-requires c κs =
-    let a = c .before .before .before .before .before .before .before .before .before .before .before .before .before .before .before .args in
-    let m = arrays (a .nums) (a .words .now) (a .marks .now) (a .mail .now) (a .flags .now) (a .rows .now) (a .pages .now) (a .frames .now) (a .principals .now) (a .counts .now) in
-    let e = not-false _ (c .before .before .before .before .if1 .left) in
-    layer-pages (a .nums .v) (a .nums .f) (a .pages .now) (a .frames .now) (sym (c .before .before .before .before .before .layer-sound .ensures) ∙ and-right (lengthsFit m) _ e)
+revocation-kept-requires c κs = search needs
 
 bits-requires : tie.Need-bits-requires
 bits-requires c κs = search needs

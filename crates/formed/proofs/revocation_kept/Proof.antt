@@ -1,12 +1,10 @@
 -- `formed::revocation_kept` meets its contract. The row found is the Revoking one; the two ways are those of the definition.
 use mathlib.Core.Bool.{Bool, _&&_}
-use mathlib.Core.List.{map}
 use mathlib.Core.Path.{_≡_, sym, ap, _∙_}
 use lib.Dec.{eqb}
 use Rattle.capabilities.specs.declared.Range.{Range}
-use Rattle.capabilities.specs.Lists.{each}
-use Rattle.pages.specs.Freed.{freedIn}
-use Rattle.pages.specs.Numbers.{pageIn}
+use Rattle.pages.specs.Freed.{allFreed}
+use Rattle.pages.specs.Numbers.{layerOf}
 use Rattle.reservations.specs.Revocation.{wholePages}
 use Rattle.formed.proofs.Revocation.{none-runs, one-runs}
 use borrow.Author.Needs.{needs}
@@ -14,7 +12,7 @@ use Rattle.formed.proofs.revocation_kept.Statement.{statement}
 use Rattle.formed.proofs.revocation_kept.Tie as tie
 use Rattle.formed.proofs.revocation_kept.Reads as reads
 use Rattle.formed.proofs.revocation_kept.Lts as lts
-use Rattle.formed.proofs.all_freed.Reads as all-freed-reads
+use Rattle.pages.proofs.lent.all_freed.Reads as all-freed-reads
 use Rattle.table.proofs.row.missing.Reads as missing-reads
 use Rattle.reservations.proofs.range_of.Reads as range-of-reads
 use Rattle.reservations.proofs.whole_pages.Reads as whole-pages-reads
@@ -53,7 +51,7 @@ returns-2 c =
     let row = c .before .before .before .before .before .before .before .before .before .row-in in
     let kept = eqb (a .nums .base) (row .result .base) && eqb (a .nums .length) (row .result .length) in
     λ frames principals counts. ap (λ (x : Bool). kept && (x && c .all-freed .result)) (c .before .before .whole-pages .ensures)
-    ∙ ap (λ (x : Bool). kept && (wholePages (row .result) && x)) (c .all-freed .ensures ∙ ap (λ (r : Range). each (freedIn r) 0 (map pageIn (a .pages .now))) (c .before .range-of .ensures))
+    ∙ ap (λ (x : Bool). kept && (wholePages (row .result) && x)) (c .all-freed .ensures (a .nums .v) (a .nums .f) frames ∙ ap (λ (r : Range). allFreed (layerOf (a .nums .v) (a .nums .f) (a .pages .now) frames) r) (c .before .range-of .ensures))
     ∙ one-runs (a .nums) (a .rows .now) (a .pages .now) frames principals counts (found .result) (row .result) (found .ensures) (row .ensures) (sym (c .before .before .before .before .missing .ensures) ∙ c .before .before .before .if1 .left)
 
 pub revocation-kept-spec : {M : Type 1} → statement M
