@@ -27,9 +27,9 @@ STDIN, STDOUT = "crates/calls_run/stdin", "crates/calls_run/stdout"
 IN_C, IN_RUST, BENCH = "tests/widths.h", "rust/cetomuhi/tests/widths/mod.rs", "bench/src/plain/kinds.rs"
 OTHERS = table.ENUM, table.ROWS, around.HEADER, around.HEX, CRATE, VECTORS, STDIN, STDOUT, IN_C, IN_RUST, BENCH
 
-AT, BYTES = "crates/calls/src/kinds_at.rt", "crates/calls/src/kinds_bytes.rt"
+AT, BYTES = "crates/calls/src/reader/kinds_at.rt", "crates/calls/src/kinds_bytes.rt"
 FROM, NUMBERS = "crates/operands/src/kinds_from.rt", "crates/operands/src/kinds_numbers.rt"
-PROOF = "crates/calls/proofs/kinds_at/call_at/Proof.antt"
+PROOF = "crates/calls/proofs/reader/kinds_at/call_at/Proof.antt"
 WORDS = "rust/cetomuhi/src/kinds.rs"
 
 # What goes wrong, the file, the text there, what stands in its place, and a word of the line by which it is found. The line begins

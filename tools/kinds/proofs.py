@@ -117,7 +117,7 @@ def call_at(kinds):
     needs.append((name, need(name, text).replace("= \n", "=\n")))
     idea = ("In each arm the command is the arm's number, so that kind's own function answers; "
             "in the last arm only the last command is left.")
-    return proof("calls", "kinds_at/call_at", idea, uses, needs)
+    return proof("calls", "reader/kinds_at/call_at", idea, uses, needs)
 
 
 def by_kind(kinds, suffix, function, unfolding=""):

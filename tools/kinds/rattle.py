@@ -69,6 +69,24 @@ pub(crate) fn length_of(command: u8) -> usize
 READERS = {"u8": "byte_in", "VirtualPage": "page_at", "Frame": "frame_at", "u16": "two_at", "u64": "eight_at"}
 
 
+# It stands beside `call_at`, so that what this requires of its arguments is asked of no other module.
+READ_CALL = """// The call at the beginning of an input, or refusal 3. Nothing of its operands is judged here.
+pub fn read_call(s: &[u8]) -> Reading
+    ensures { λ r. ⌜ Reads (now (s .entry)) r ⌝ }
+{
+    let command = byte_at(s, 0);
+    let used = commands::length_of(command);
+    if used == 0 {
+        return Reading::Refused;
+    }
+    if s.len() < used {
+        return Reading::Refused;
+    }
+    let call = call_at(command, s);
+    Reading::Read { call, used }
+}"""
+
+
 def fields(kind, readers, source, width):
     """The fields of a call that is read from `source`; an operand's place is 1 and the widths before it."""
     place, lines = 1, []
@@ -88,21 +106,23 @@ def kind_at(kind):
 
 
 def reader(kinds):
-    used = sorted({READERS[operand.type] for kind in kinds for operand in kind.operands})
+    used = sorted({"byte_at"} | {READERS[operand.type] for kind in kinds for operand in kind.operands})
     arms = [f"        commands::{kind.constant} => {kind.snake}_at(s)," for kind in kinds[:-1]]
     head = "\n".join([
         RATTLE,
         "// Bytes read as calls. First a function a kind: the call that the operands after the command's byte make.",
+        *(f"use super::{name};" for name in used),
         "use crate::Call;",
+        "use crate::Reading;",
         "use crate::commands;",
-        *(f"use crate::digits::{name};" for name in used),
         "ghost use mathlib.Core.Path.{_≡_};",
         "ghost use Prim.Native.Nat.{_≤_};",
         "ghost use lib.ListN.{length};",
         "ghost use Rattle.calls.specs.Commands.{callAt, commandLength, lastByte};",
+        "ghost use Rattle.calls.specs.Reader.{Reads};",
     ])
     call_at = """// The call of a command's byte and the operands after it. In the last arm only the last command is left.
-pub(crate) fn call_at(command: u8, s: &[u8]) -> Call
+fn call_at(command: u8, s: &[u8]) -> Call
     requires { ⌜ ((1 ≤ command) × (command ≤ lastByte)) × (commandLength command ≤ length (now s)) ⌝ }
     ensures { λ r. ⌜ r ≡ callAt command (now (s .entry)) ⌝ }
 {
@@ -111,7 +131,7 @@ pub(crate) fn call_at(command: u8, s: &[u8]) -> Call
         _ => %s_at(s),
     }
 }""" % ("\n".join(arms), kinds[-1].snake)
-    return made("crates/calls/src/kinds_at.rt", [head, *map(kind_at, kinds), call_at])
+    return made("crates/calls/src/reader/kinds_at.rt", [head, *map(kind_at, kinds), call_at, READ_CALL])
 
 
 def operand_bytes(operand):

@@ -1,7 +1,6 @@
 // Calls and their bytes: document 01, "Commands".
 mod commands;
 mod digits;
-mod kinds_at;
 mod kinds_bytes;
 mod reader;
 mod writer;

@@ -4,8 +4,8 @@ use Prim.Native.Nat.{ℕ, _≤_}
 use mathlib.Core.Path.{_≡_, _∙_, subst}
 use Rattle.calls.proofs.Inputs as inputs
 use Rattle.calls.proofs.Table.{in-table}
-use Rattle.calls.proofs.reader.read_call.Statement.{statement}
-use Rattle.calls.proofs.reader.read_call.Tie as tie
+use Rattle.calls.proofs.reader.kinds_at.read_call.Statement.{statement}
+use Rattle.calls.proofs.reader.kinds_at.read_call.Tie as tie
 
 below : {m k n : ℕ} → m ≡ k → m ≤ n → k ≤ n
 below {n = n} p h = subst (λ k. k ≤ n) p h

@@ -2,8 +2,8 @@
 use borrow.Author.Needs.{needs}
 use mathlib.Core.Path.{ap}
 use Rattle.calls.specs.Commands.{frame}
-use Rattle.calls.proofs.digits.frame_at.Statement.{statement}
-use Rattle.calls.proofs.digits.frame_at.Tie as tie
+use Rattle.calls.proofs.reader.frame_at.Statement.{statement}
+use Rattle.calls.proofs.reader.frame_at.Tie as tie
 
 byte-in-requires : tie.Need-byte-in-requires
 byte-in-requires c κs = search needs

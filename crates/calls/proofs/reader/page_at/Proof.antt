@@ -2,8 +2,8 @@
 use borrow.Author.Needs.{needs}
 use mathlib.Core.Path.{ap}
 use Rattle.calls.specs.Commands.{page}
-use Rattle.calls.proofs.digits.page_at.Statement.{statement}
-use Rattle.calls.proofs.digits.page_at.Tie as tie
+use Rattle.calls.proofs.reader.page_at.Statement.{statement}
+use Rattle.calls.proofs.reader.page_at.Tie as tie
 
 byte-in-requires : tie.Need-byte-in-requires
 byte-in-requires c κs = search needs

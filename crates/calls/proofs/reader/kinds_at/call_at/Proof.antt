@@ -2,8 +2,8 @@
 -- In each arm the command is the arm's number, so that kind's own function answers; in the last arm only the last command is left.
 use Rattle.calls.specs.Commands.{callAt, lastByte}
 use Rattle.calls.proofs.Cases.{in-case, last-case, long-enough}
-use Rattle.calls.proofs.kinds_at.call_at.Statement.{statement}
-use Rattle.calls.proofs.kinds_at.call_at.Tie as tie
+use Rattle.calls.proofs.reader.kinds_at.call_at.Statement.{statement}
+use Rattle.calls.proofs.reader.kinds_at.call_at.Tie as tie
 
 take-at-requires : tie.Need-take-at-requires
 take-at-requires c κs = long-enough (c .match .keys1) (c .before .before .pre .1)

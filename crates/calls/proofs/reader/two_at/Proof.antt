@@ -1,8 +1,8 @@
 -- The first byte counts 256 times. The search would find this by itself; the file is here so that a wrong order is refused at `returns`.
 use borrow.Author.Needs.{needs}
 use Rattle.calls.proofs.Bytes.{in-order}
-use Rattle.calls.proofs.digits.two_at.Statement.{statement}
-use Rattle.calls.proofs.digits.two_at.Tie as tie
+use Rattle.calls.proofs.reader.two_at.Statement.{statement}
+use Rattle.calls.proofs.reader.two_at.Tie as tie
 
 byte-in-requires : tie.Need-byte-in-requires
 byte-in-requires c κs = search needs

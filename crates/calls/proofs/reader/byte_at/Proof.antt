@@ -2,8 +2,8 @@
 use borrow.Author.Needs.{needs}
 use mathlib.Core.Path.{sym}
 use lib.ListN.{List·getD-eq-default}
-use Rattle.calls.proofs.digits.byte_at.Statement.{statement}
-use Rattle.calls.proofs.digits.byte_at.Tie as tie
+use Rattle.calls.proofs.reader.byte_at.Statement.{statement}
+use Rattle.calls.proofs.reader.byte_at.Tie as tie
 
 shared-slice-read-result : tie.Need-shared-slice-read-result
 shared-slice-read-result c = search needs

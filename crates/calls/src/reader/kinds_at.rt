@@ -1,16 +1,19 @@
 // Made by tools/kinds from the enum of calls: not to be changed here.
 // Bytes read as calls. First a function a kind: the call that the operands after the command's byte make.
+use super::byte_at;
+use super::byte_in;
+use super::eight_at;
+use super::frame_at;
+use super::page_at;
+use super::two_at;
 use crate::Call;
+use crate::Reading;
 use crate::commands;
-use crate::digits::byte_in;
-use crate::digits::eight_at;
-use crate::digits::frame_at;
-use crate::digits::page_at;
-use crate::digits::two_at;
 ghost use mathlib.Core.Path.{_≡_};
 ghost use Prim.Native.Nat.{_≤_};
 ghost use lib.ListN.{length};
 ghost use Rattle.calls.specs.Commands.{callAt, commandLength, lastByte};
+ghost use Rattle.calls.specs.Reader.{Reads};
 
 fn take_at(s: &[u8]) -> Call
     requires { ⌜ 5 ≤ length (now s) ⌝ }
@@ -243,7 +246,7 @@ fn destroy_at(s: &[u8]) -> Call
 }
 
 // The call of a command's byte and the operands after it. In the last arm only the last command is left.
-pub(crate) fn call_at(command: u8, s: &[u8]) -> Call
+fn call_at(command: u8, s: &[u8]) -> Call
     requires { ⌜ ((1 ≤ command) × (command ≤ lastByte)) × (commandLength command ≤ length (now s)) ⌝ }
     ensures { λ r. ⌜ r ≡ callAt command (now (s .entry)) ⌝ }
 {
@@ -270,4 +273,20 @@ pub(crate) fn call_at(command: u8, s: &[u8]) -> Call
         commands::RELEASE => release_at(s),
         _ => destroy_at(s),
     }
+}
+
+// The call at the beginning of an input, or refusal 3. Nothing of its operands is judged here.
+pub fn read_call(s: &[u8]) -> Reading
+    ensures { λ r. ⌜ Reads (now (s .entry)) r ⌝ }
+{
+    let command = byte_at(s, 0);
+    let used = commands::length_of(command);
+    if used == 0 {
+        return Reading::Refused;
+    }
+    if s.len() < used {
+        return Reading::Refused;
+    }
+    let call = call_at(command, s);
+    Reading::Read { call, used }
 }
