@@ -3,8 +3,8 @@
 
 In README.md and docs/*.md, `crate:Module.name` is a definition or theorem of crates/crate/specs/Module.antt or
 crates/crate/proofs/Module.antt, `crate:lib.Name` a type of crates/crate/src/lib.rt, and `crate!edit` the file
-crates/crate/must-fail/edit.edit or, of an edit outside the gate, tests/edits/crate/edit.edit. Each one that stands for nothing is printed, and
-the exit status is 1 then.
+crates/crate/must-fail/edit.edit; an edit outside the gate is cited by its path, `tests/edits/crate/edit.edit`. Each one that stands for
+nothing is printed, and the exit status is 1 then.
 """
 import pathlib
 import re
@@ -14,6 +14,7 @@ ROOT = pathlib.Path(__file__).resolve().parent.parent
 CRATES = ROOT / "crates"
 NAMED = re.compile(r"`([a-z_]+):([A-Za-z]+)\.([^`\s]+)`")
 EDIT = re.compile(r"`([a-z_]+)!([a-z0-9_]+)`")
+OUTSIDE = re.compile(r"`(tests/edits/[^`\s]+\.edit)`")
 
 
 def read(path):
@@ -31,7 +32,7 @@ def is_declared(crate, module, name):
 
 
 def is_edit(crate, name):
-    return any((folder / f"{name}.edit").is_file() for folder in (CRATES / crate / "must-fail", ROOT / "tests/edits" / crate))
+    return (CRATES / crate / "must-fail" / f"{name}.edit").is_file()
 
 
 def faults(text):
@@ -42,6 +43,9 @@ def faults(text):
     for crate, edit in EDIT.findall(text):
         if not is_edit(crate, edit):
             yield f"`{crate}!{edit}`"
+    for path in OUTSIDE.findall(text):
+        if not (ROOT / path).is_file():
+            yield f"`{path}`"
 
 
 def main():
