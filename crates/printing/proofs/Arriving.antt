@@ -16,10 +16,11 @@ use Rattle.machine.specs.Command.{ran, commandOf}
 use Rattle.machine.proofs.Keeps.{start-formed}
 use Rattle.arrays.specs.declared.Arrays.{Arrays}
 use Rattle.arrays.specs.declared.Answer.{Answer}
-use Rattle.arrays.specs.Reading.{stateOf, Formed}
+use Rattle.arrays.specs.declared.Numbers.{Numbers}
+use Rattle.arrays.specs.Reading.{arrays, stateOf, arraysOf, Formed}
 use Rattle.arrays.specs.Steps.{leaving}
 use Rattle.arrays.proofs.RoundTrip.{state-back-again, written-formed}
-use Rattle.arrays.proofs.Starting.{begun, firstNumber, rootNumber, fresh-in}
+use Rattle.arrays.proofs.Starting.{firstNumber, rootNumber, fresh-in}
 use Rattle.lines.specs.Laid.{Laid, laidIn}
 use Rattle.lines.specs.Lines.{lineOf}
 use Rattle.lines.proofs.Laying.{laid-in}
@@ -110,18 +111,14 @@ module _ {input : List ℕ} {a₀ : Arrays} {cells₀ tags₀ out₀ : List ℕ}
 
 -- The arrays of a start that is granted.
 module _ (v f : ℕ) (e : inRange v f ≡ true) where
-  abbrev first-arrays : Arrays
-  first-arrays = begun v f 1 (set (replicate 64 0) 0 (firstNumber v)) (set (replicate 32 0) 0 rootNumber)
+  abbrev first-arrays : Numbers → Arrays
+  first-arrays n =
+      arrays n (replicate 64 0) (replicate 64 0) (replicate 8 0) (replicate 8 0) (set (replicate 64 0) 0 (firstNumber v)) (replicate 256 0) (replicate 128 0)
+      (set (replicate 32 0) 0 rootNumber) (replicate 8192 0)
 
   fresh-well : wellFormed (fresh v f) ≡ true
   unfolding startOf
   fresh-well = start-formed v f (ap (λ (b : Bool). pick b 0 1) e)
-
-  pub begun-formed : Formed first-arrays
-  begun-formed = subst Formed (fresh-in v f e) (written-formed (fresh v f) fresh-well)
-
-  begun-state : stateOf first-arrays ≡ fresh v f
-  begun-state = ap stateOf (sym (fresh-in v f e)) ∙ state-back-again (fresh v f) fresh-well
 
   pub frames-most : 16 * f ≤ 2048
   frames-most = let small : f ≤ 128 = leb-true f 128 (and-right (ltb 0 f) (leb f 128) (and-right (ltb 0 v && leb v 256) (ltb 0 f && leb f 128) e)) in omega (arith, small)
@@ -129,9 +126,20 @@ module _ (v f : ℕ) (e : inRange v f ≡ true) where
   pub lent-zeroed : take {A = ℕ} (16 * f) (replicate 2048 0) ≡ zeroed f
   lent-zeroed = take-zeroed (16 * f) 2048 frames-most
 
-  pub begun-lines : (input : List ℕ) (begin : ℕ) (out : List ℕ) (end : ℕ) (out₁ : List ℕ)
-      → Laid (linesFrom (length input) (stateOf first-arrays) input 3 (take (16 * f) (replicate 2048 0)) (take (16 * f) (replicate 2048 0))) begin out end out₁
-      → Laid (linesFrom (length input) (fresh v f) input 3 (zeroed f) (zeroed f)) begin out end out₁
-  begun-lines input begin out end out₁ put =
-      subst (λ (x : List ℕ). Laid (linesFrom (length input) (fresh v f) input 3 x x) begin out end out₁) lent-zeroed
-      (subst (λ (s : State). Laid (linesFrom (length input) s input 3 (take (16 * f) (replicate 2048 0)) (take (16 * f) (replicate 2048 0))) begin out end out₁) begun-state put)
+  -- Their small numbers are a start's.
+  module _ (n : Numbers) (own : n ≡ record { v = v; f = f; count = 1; place = 0; base = 0; length = 0 }) where
+    written : arraysOf (fresh v f) ≡ first-arrays n
+    written = fresh-in v f e ∙ ap (λ (x : Numbers). first-arrays x) (sym own)
+
+    pub begun-formed : Formed (first-arrays n)
+    begun-formed = subst Formed written (written-formed (fresh v f) fresh-well)
+
+    begun-state : stateOf (first-arrays n) ≡ fresh v f
+    begun-state = ap stateOf (sym written) ∙ state-back-again (fresh v f) fresh-well
+
+    pub begun-lines : (input : List ℕ) (begin : ℕ) (out : List ℕ) (end : ℕ) (out₁ : List ℕ)
+        → Laid (linesFrom (length input) (stateOf (first-arrays n)) input 3 (take (16 * f) (replicate 2048 0)) (take (16 * f) (replicate 2048 0))) begin out end out₁
+        → Laid (linesFrom (length input) (fresh v f) input 3 (zeroed f) (zeroed f)) begin out end out₁
+    begun-lines input begin out end out₁ put =
+        subst (λ (x : List ℕ). Laid (linesFrom (length input) (fresh v f) input 3 x x) begin out end out₁) lent-zeroed
+        (subst (λ (s : State). Laid (linesFrom (length input) s input 3 (take (16 * f) (replicate 2048 0)) (take (16 * f) (replicate 2048 0))) begin out end out₁) begun-state put)

@@ -143,6 +143,20 @@ fn commands(
     end
 }
 
+// The small numbers of a fresh state.
+fn fresh_numbers(v: u16, f: u16) -> Numbers
+    ensures { λ r. ⌜ r ≡ record { v = v; f = f; count = 1; place = 0; base = 0; length = 0 } ⌝ }
+{
+    Numbers {
+        v,
+        f,
+        count: 1,
+        place: 0,
+        base: 0,
+        length: 0,
+    }
+}
+
 // The same from a fresh state, over zeroed memory of 16 F cells.
 fn started(checked: bool, v: u16, f: u16, input: &[u8], begin: usize, out: &mut [u8]) -> usize
     requires { ⌜ inRange v f ≡ true ⌝ }
@@ -165,14 +179,7 @@ fn started(checked: bool, v: u16, f: u16, input: &[u8], begin: usize, out: &mut 
     let mut counts = [0u16; 8192];
     rows[0] = 1048576 * (v as u64) + 2533274790395904;
     principals[0] = 4294975488;
-    let nums = Numbers {
-        v,
-        f,
-        count: 1,
-        place: 0,
-        base: 0,
-        length: 0,
-    };
+    let nums = fresh_numbers(v, f);
     let n = 16 * f as usize;
     commands(
         checked,
