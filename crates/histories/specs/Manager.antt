@@ -40,8 +40,8 @@ pub record Returned (m n : Machine) (v i : ℕ) : Type 0 where
   pub quiet : running (n .state .core) ≡ false
   pub none : NoneInto n (rangeOf (rowAt (m .state .core .table) i))
 
--- The one that was Revoking.
-pub record Finished (m n : Machine) (v : ℕ) : Type 0 where
+-- So is the one that was Revoking in m.
+pub record RevocationEnded (m n : Machine) (v : ℕ) : Type 0 where
   pub row : ℕ
   pub used : row < length (live (m .state .core .table))
   pub was : rowAt (m .state .core .table) row .state ≡ Revoking
@@ -49,7 +49,7 @@ pub record Finished (m n : Machine) (v : ℕ) : Type 0 where
 
 -- A revocation that runs comes to its end by a sweep of all cells and a collect, both party 0's.
 abbrev pub RevocationEnds : Type 0
-RevocationEnds = (m : Machine) (r : Reached m) → running (m .state .core) ≡ true → ByManager m (sweepAndCollect (r .f)) × Finished m (run m (sweepAndCollect (r .f))) (r .v)
+RevocationEnds = (m : Machine) (r : Reached m) → running (m .state .core) ≡ true → ByManager m (sweepAndCollect (r .f)) × RevocationEnded m (run m (sweepAndCollect (r .f))) (r .v)
 
 -- Party 0 alone unmaps every page. Claims do not keep it from that: it holds principal 0, below which all others stand.
 unfoldable pub unmappingAll : Machine → List Call
