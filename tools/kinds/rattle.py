@@ -253,25 +253,21 @@ pub fn numbers_of(call: Call) -> [u64; 7]
 
 # ---- crates/calls_run
 
-COUNTS = ("one", "two", "three", "four", "five", "six")
-
-
-def shown_arm(kind):
-    values = [o.number if o.type == "u64" else f"{o.number} as u64" for o in kind.operands]
-    head = f"        {pattern(kind)} => {COUNTS[len(values) - 1]}("
-    room = LINE - len(head.split("\n")[-1]) - len("),")
-    return listed([f'b"{kind.word}"', *values], min(60, room), head, "),", 8)
+def shown_by(kind):
+    return f'shown(b"{kind.word}", &numbers[1..{1 + len(kind.operands)}]),'
 
 
 def shown(kinds):
-    used = sorted({COUNTS[len(kind.operands) - 1] for kind in kinds})
-    head = "\n".join([RATTLE, *(f"use crate::show::{name};" for name in used), "use calls::Call;"])
-    call = """// A call's word and its operands, in the order of their bytes.
+    arms = [f"        {kind.byte} => {shown_by(kind)}" for kind in kinds[:-1]]
+    head = "\n".join([RATTLE, "use crate::show::shown;", "use calls::Call;"])
+    call = """// A call's word and its operands, in the order of their bytes. In the last arm only the last command is left.
 pub(crate) fn call(c: Call) {
-    match c {
+    let numbers = operands::numbers_of(c);
+    match numbers[0] {
 %s
+        _ => %s
     }
-}""" % "\n".join(map(shown_arm, kinds))
+}""" % ("\n".join(arms), shown_by(kinds[-1]))
     return made("crates/calls_run/src/kinds_shown.rt", [head, call])
 
 

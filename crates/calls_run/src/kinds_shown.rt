@@ -1,93 +1,31 @@
 // Made by tools/kinds from the enum of calls: not to be changed here.
-use crate::show::five;
-use crate::show::four;
-use crate::show::one;
-use crate::show::six;
-use crate::show::three;
-use crate::show::two;
+use crate::show::shown;
 use calls::Call;
 
-// A call's word and its operands, in the order of their bytes.
+// A call's word and its operands, in the order of their bytes. In the last arm only the last command is left.
 pub(crate) fn call(c: Call) {
-    match c {
-        Call::Take { party, base, reg } => three(b"take", party as u64, base as u64, reg as u64),
-        Call::Split { party, base, len } => three(b"split", party as u64, base as u64, len as u64),
-        Call::Merge { party, base } => two(b"merge", party as u64, base as u64),
-        Call::Give { party, base, to } => three(b"give", party as u64, base as u64, to as u64),
-        Call::Revoke { party, base } => two(b"revoke", party as u64, base as u64),
-        Call::Sweep { party, n } => two(b"sweep", party as u64, n as u64),
-        Call::Collect { party } => one(b"collect", party as u64),
-        Call::Map { party, page, frame } => three(
-            b"map",
-            party as u64,
-            page.0 as u64,
-            frame.0 as u64,
-        ),
-        Call::Unmap { party, page } => two(b"unmap", party as u64, page.0 as u64),
-        Call::Zero { party, frame } => two(b"zero", party as u64, frame.0 as u64),
-        Call::Load { party, a, off, d } => four(
-            b"load",
-            party as u64,
-            a as u64,
-            off as u64,
-            d as u64,
-        ),
-        Call::Store { party, a, off, s } => four(
-            b"store",
-            party as u64,
-            a as u64,
-            off as u64,
-            s as u64,
-        ),
-        Call::Narrow {
-            party,
-            s,
-            off,
-            len,
-            mask,
-            d,
-        } => six(
-            b"narrow",
-            party as u64,
-            s as u64,
-            off as u64,
-            len as u64,
-            mask as u64,
-            d as u64,
-        ),
-        Call::Number { party, d, value } => three(b"number", party as u64, d as u64, value),
-        Call::Grant { party, s, to } => three(b"grant", party as u64, s as u64, to as u64),
-        Call::Receive { party, d } => two(b"receive", party as u64, d as u64),
-        Call::TakeMasked {
-            party,
-            base,
-            reg,
-            mask,
-        } => four(b"take", party as u64, base as u64, reg as u64, mask as u64),
-        Call::Create {
-            party,
-            parent,
-            child,
-            limit,
-            holder,
-        } => five(
-            b"create",
-            party as u64,
-            parent as u64,
-            child as u64,
-            limit as u64,
-            holder as u64,
-        ),
-        Call::Claim {
-            party,
-            principal,
-            page,
-        } => three(b"claim", party as u64, principal as u64, page.0 as u64),
-        Call::Release {
-            party,
-            principal,
-            page,
-        } => three(b"release", party as u64, principal as u64, page.0 as u64),
-        Call::Destroy { party, principal } => two(b"destroy", party as u64, principal as u64),
+    let numbers = operands::numbers_of(c);
+    match numbers[0] {
+        1 => shown(b"take", &numbers[1..4]),
+        2 => shown(b"split", &numbers[1..4]),
+        3 => shown(b"merge", &numbers[1..3]),
+        4 => shown(b"give", &numbers[1..4]),
+        5 => shown(b"revoke", &numbers[1..3]),
+        6 => shown(b"sweep", &numbers[1..3]),
+        7 => shown(b"collect", &numbers[1..2]),
+        8 => shown(b"map", &numbers[1..4]),
+        9 => shown(b"unmap", &numbers[1..3]),
+        10 => shown(b"zero", &numbers[1..3]),
+        11 => shown(b"load", &numbers[1..5]),
+        12 => shown(b"store", &numbers[1..5]),
+        13 => shown(b"narrow", &numbers[1..7]),
+        14 => shown(b"number", &numbers[1..4]),
+        15 => shown(b"grant", &numbers[1..4]),
+        16 => shown(b"receive", &numbers[1..3]),
+        17 => shown(b"take", &numbers[1..5]),
+        18 => shown(b"create", &numbers[1..6]),
+        19 => shown(b"claim", &numbers[1..4]),
+        20 => shown(b"release", &numbers[1..4]),
+        _ => shown(b"destroy", &numbers[1..3]),
     }
 }

@@ -22,32 +22,12 @@ pub(crate) fn hex(bytes: &[u8]) {
     }
 }
 
-pub(crate) fn one(word: &[u8], party: u64) {
+// A word and the numbers after it.
+pub(crate) fn shown(word: &[u8], numbers: &[u64]) {
     io::write_all(STDOUT_FILENO, word);
-    number(party);
-}
-
-pub(crate) fn two(word: &[u8], party: u64, x: u64) {
-    one(word, party);
-    number(x);
-}
-
-pub(crate) fn three(word: &[u8], party: u64, x: u64, y: u64) {
-    two(word, party, x);
-    number(y);
-}
-
-pub(crate) fn four(word: &[u8], party: u64, x: u64, y: u64, z: u64) {
-    three(word, party, x, y);
-    number(z);
-}
-
-pub(crate) fn five(word: &[u8], party: u64, x: u64, y: u64, z: u64, t: u64) {
-    four(word, party, x, y, z);
-    number(t);
-}
-
-pub(crate) fn six(word: &[u8], party: u64, x: u64, y: u64, z: u64, t: u64, u: u64) {
-    five(word, party, x, y, z, t);
-    number(u);
+    let mut i = 0;
+    while i < numbers.len() {
+        number(numbers[i]);
+        i += 1;
+    }
 }
