@@ -45,9 +45,17 @@ fn bare(nums: Numbers, rows: [u64; 64], principals: [u64; 32]) -> State
     State { arrays }
 }
 
-fn commanded(answer: Answer, used: usize, state: State) -> Commanded
-    ensures { λ r. ⌜ r ≡ commanding answer used state ⌝ }
+fn answered(answer: Answer, arrays: Arrays) -> Answered
+    ensures { λ r. ⌜ (r .answer ≡ answer) × (r .state .arrays ≡ arrays) ⌝ }
 {
+    let state = State { arrays };
+    Answered { answer, state }
+}
+
+fn commanded(answer: Answer, used: usize, arrays: Arrays) -> Commanded
+    ensures { λ r. ⌜ r ≡ commanding answer used (record { arrays = arrays }) ⌝ }
+{
+    let state = State { arrays };
     Commanded {
         answer,
         used,
@@ -149,10 +157,10 @@ impl State {
     }
 
     // One call.
-    pub fn call(mut self, call: Call, cells: &mut [u64], tags: &mut [u8]) -> Answered
+    pub fn call(self, call: Call, cells: &mut [u64], tags: &mut [u8]) -> Answered
         ensures { λ r. ⌜ leaving (r .answer) (r .state .arrays) (now (cells .exit)) (now (tags .exit)) ≡ stepOn (self .arrays) call (now (cells .entry)) (now (tags .entry)) ⌝ }
     {
-        let a = self.arrays;
+        let mut a = self.arrays;
         let mut words = a.words;
         let mut marks = a.marks;
         let mut mail = a.mail;
@@ -178,35 +186,24 @@ impl State {
             tags,
         );
         let nums = done.nums;
-        let answer = done.answer;
-        let after = Arrays {
-            nums,
-            words,
-            marks,
-            mail,
-            flags,
-            rows,
-            pages,
-            frames,
-            principals,
-            counts,
-        };
-        self.arrays = after;
-        let state = self;
-        Answered { answer, state }
+        a.nums = nums;
+        a.words = words;
+        a.marks = marks;
+        a.mail = mail;
+        a.flags = flags;
+        a.rows = rows;
+        a.pages = pages;
+        a.frames = frames;
+        a.principals = principals;
+        a.counts = counts;
+        answered(done.answer, a)
     }
 
     // One command of bytes.
-    pub fn command(
-        mut self,
-        input: &[u8],
-        at: usize,
-        cells: &mut [u64],
-        tags: &mut [u8],
-    ) -> Commanded
+    pub fn command(self, input: &[u8], at: usize, cells: &mut [u64], tags: &mut [u8]) -> Commanded
         ensures { λ r. ⌜ ranOn (leaving (r .answer) (r .state .arrays) (now (cells .exit)) (now (tags .exit))) (r .used) ≡ commandOn (self .arrays) (now (input .entry)) at (now (cells .entry)) (now (tags .entry)) ⌝ }
     {
-        let a = self.arrays;
+        let mut a = self.arrays;
         let mut words = a.words;
         let mut marks = a.marks;
         let mut mail = a.mail;
@@ -233,20 +230,16 @@ impl State {
             tags,
         );
         let nums = done.nums;
-        let answer = done.answer;
-        let after = Arrays {
-            nums,
-            words,
-            marks,
-            mail,
-            flags,
-            rows,
-            pages,
-            frames,
-            principals,
-            counts,
-        };
-        self.arrays = after;
-        commanded(answer, done.used, self)
+        a.nums = nums;
+        a.words = words;
+        a.marks = marks;
+        a.mail = mail;
+        a.flags = flags;
+        a.rows = rows;
+        a.pages = pages;
+        a.frames = frames;
+        a.principals = principals;
+        a.counts = counts;
+        commanded(done.answer, done.used, a)
     }
 }

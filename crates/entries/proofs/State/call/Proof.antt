@@ -33,6 +33,9 @@ slice-aggregate-call-in-9 c = let g = c .before .before .before .before .before 
 call-in-requires : tie.Need-call-in-requires
 call-in-requires c κs = search needs
 
+answered-requires : tie.Need-answered-requires
+answered-requires c κs = search needs
+
 same-length : tie.Need-same-length
 same-length c = search needs
 
@@ -40,7 +43,7 @@ same-length-2 : tie.Need-same-length-2
 same-length-2 c = search needs
 
 returns : tie.Need-returns
-returns c = search needs
+returns c = rw (c .answered .ensures .0, c .answered .ensures .1) (c .before .before .before .before .before .before .before .before .before .before .before .before .before .before .before .call-in .ensures)
 
 pub call-spec : {M : Type 1} → statement M
 call-spec =
@@ -56,6 +59,7 @@ call-spec =
     slice-aggregate-call-in-8
     slice-aggregate-call-in-9
     call-in-requires
+    answered-requires
     same-length
     same-length-2
     returns)

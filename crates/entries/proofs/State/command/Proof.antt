@@ -47,7 +47,7 @@ same-length-2 : tie.Need-same-length-2
 same-length-2 c = search needs
 
 returns : tie.Need-returns
-returns c = rw (c .commanded .ensures) (c .before .before .before .before .before .before .before .before .before .before .before .before .before .before .before .before .command-in .ensures)
+returns c = rw (c .commanded .ensures) (c .before .before .before .before .before .before .before .before .before .before .before .before .before .before .before .command-in .ensures)
 
 pub command-spec : {M : Type 1} → statement M
 command-spec =
