@@ -38,16 +38,16 @@ module _ (a : Arrays) (input : List ℕ) (at : ℕ) (cells tags : List ℕ) wher
   abbrev turned : ℕ → RanOn
   turned code = ranOn (leaving (answer code empty) a cells tags) 0
 
-  code-is : (b d : Bool) → formedOf a ≡ b → fits a cells tags ≡ d → endCode a cells tags ≡ pick (not b) 1 (pick (not d) 2 3)
+  code-is : (b d : Bool) → formedOf a ≡ b → fits a cells tags ≡ d → endCode (formedOf a) (a .nums .f) cells tags ≡ pick (not b) 1 (pick (not d) 2 3)
   unfolding endCode
   code-is b d p q =
       ap (λ (x : Bool). pick (not x) 1 (pick (not (fits a cells tags)) 2 3)) p ∙ ap (λ (x : Bool). pick (not b) 1 (pick (not x) 2 3)) q
 
   -- Where no byte is left, a command is refused.
-  pub command-ended : length input ≤ at → turned (endCode a cells tags) ≡ commandOn a input at cells tags
+  pub command-ended : length input ≤ at → turned (endCode (formedOf a) (a .nums .f) cells tags) ≡ commandOn a input at cells tags
   command-ended h = go (formedOf a) (fits a cells tags) refl refl
     where
-      go : (b d : Bool) → formedOf a ≡ b → fits a cells tags ≡ d → turned (endCode a cells tags) ≡ t
+      go : (b d : Bool) → formedOf a ≡ b → fits a cells tags ≡ d → turned (endCode (formedOf a) (a .nums .f) cells tags) ≡ t
       go true true p q =
           ap turned (code-is true true p q)
           ∙ command-formed a cells tags input at p (turned 3) (command-none a cells tags q input at (tested a p) (sym (past-the-end (drop-of-length-le input h) .is)))

@@ -13,11 +13,10 @@ use Rattle.capabilities.proofs.Choice.{pick-yes, pick-no}
 use Rattle.words.specs.Words.{empty}
 use Rattle.machine.specs.Formed.{startOf}
 use Rattle.arrays.specs.declared.Arrays.{Arrays}
-use Rattle.arrays.specs.declared.Answer.{Answer}
 use Rattle.arrays.specs.declared.Numbers.{Numbers}
 use Rattle.arrays.specs.Reading.{arrays, arraysOf}
 use Rattle.arrays.specs.Steps.{answer}
-use Rattle.formed.specs.Test.{sized}
+use Rattle.formed.specs.Test.{formedOf, sized}
 use Rattle.formed.specs.Fresh.{Start, starting, startIn}
 use Rattle.step.specs.Entries.{RanOn, commandOn}
 use Rattle.entries.specs.Runs.{Run, answerNumbers, runOf, runIn}
@@ -93,15 +92,20 @@ module _ (l : Lent) where
         (d ∙ ap (λ (x : Numbers). runIn (with-numbers x) input at cells tags (take 4 answers)) e ∙ run-of-one (arraysIn l) input at cells tags m (take 4 answers) (length-take-le 4 answers h))
         ∙ one h
 
+    abbrev refused-first : ℕ → List ℕ
+    refused-first code = answerNumbers (answer code empty) 0 ++ drop 4 answers
+
     -- A refusal where no byte is left.
     pub command-turned : 4 ≤ length answers → length input ≤ at → (n : Numbers) → n ≡ numbersFrom (l .numbers)
-        → (r : Answer) → r ≡ answer (endCode (with-numbers n) cells tags) empty
-        → (answers′ : List ℕ) → answers′ ≡ answerNumbers r 0 ++ drop 4 answers
-        → done 1 l cells tags answers′ ≡ commandLent l input at cells tags answers
-    command-turned h m n e r d answers′ p =
-        ap (λ (x : List ℕ). done 1 l cells tags x) p
-        ∙ ap (λ (x : Answer). done 1 l cells tags (answerNumbers x 0 ++ drop 4 answers)) (d ∙ ap (λ (x : Numbers). answer (endCode (with-numbers x) cells tags) empty) e)
-        ∙ ap (λ (x : Lent). done 1 x cells tags (answerNumbers (answer (endCode (arraysIn l) cells tags) empty) 0 ++ drop 4 answers)) (sym (lent-back l))
+        → (good : Bool) → good ≡ formedOf (with-numbers n)
+        → (k : ℕ) → k ≡ 1 → (answers′ : List ℕ) → answers′ ≡ refused-first (endCode good (n .f) cells tags)
+        → done k l cells tags answers′ ≡ commandLent l input at cells tags answers
+    command-turned h m n e good d k q answers′ p =
+        ap (λ (x : ℕ). done x l cells tags answers′) q
+        ∙ ap (λ (x : List ℕ). done 1 l cells tags x)
+        (p ∙ ap (λ (x : Bool). refused-first (endCode x (n .f) cells tags)) d
+        ∙ ap (λ (x : Numbers). refused-first (endCode (formedOf (with-numbers x)) (x .f) cells tags)) e)
+        ∙ ap (λ (x : Lent). done 1 x cells tags (refused-first (endCode (formedOf (arraysIn l)) (arraysIn l .nums .f) cells tags))) (sym (lent-back l))
         ∙ ap (λ (x : RanOn). doneOne x l answers) (command-ended (arraysIn l) input at cells tags m)
         ∙ one h
 

@@ -7,7 +7,6 @@ use lib.Dec.{eqb, leb}
 use Rattle.capabilities.specs.Lists.{pick}
 use Rattle.machine.specs.Formed.{startOf}
 use Rattle.machine.specs.Cost.{Costed}
-use Rattle.arrays.specs.declared.Arrays.{Arrays}
 use Rattle.arrays.specs.Reading.{arraysOf}
 use Rattle.formed.specs.Test.{formedOf, sized}
 use Rattle.cost.specs.Asked.{costOn}
@@ -55,9 +54,9 @@ done n l cells tags answers = record { count = n; lent = l; cells = cells; tags 
 
 -- Why a command is turned down where no byte is left: the state is not well formed, the lent memory is not of 16 F cells and tags, or,
 -- if neither, no byte is found.
-unfoldable pub endCode : Arrays → List ℕ → List ℕ → ℕ
-endCode a cells tags =
-    pick (not (formedOf a)) 1 (pick (not (eqb (length cells) (16 * a .nums .f) && eqb (length tags) (16 * a .nums .f))) 2 3)
+unfoldable pub endCode : Bool → ℕ → List ℕ → List ℕ → ℕ
+endCode good f cells tags =
+    pick (not good) 1 (pick (not (eqb (length cells) (16 * f) && eqb (length tags) (16 * f))) 2 3)
 
 -- One command was done, and its answer stands first among the answers.
 abbrev pub doneOne : RanOn → Lent → List ℕ → Done

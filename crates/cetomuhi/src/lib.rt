@@ -3,6 +3,7 @@
 use crate::numbers::numbers_from;
 use arrays::Answer;
 use arrays::Numbers;
+use calls_in_place::word_calls::coded;
 use capabilities::refusal::first;
 use cost::page_cost;
 use entries::runs::commands_in;
@@ -53,43 +54,17 @@ fn put_answer(answers: &mut [u64], answer: Answer, used: usize)
     answers[3] = used as u64;
 }
 
-// The answer of a command where no byte is left: refusal 1, 2 or 3.
-fn at_end(
-    nums: Numbers,
-    words: &[u64],
-    marks: &[u8],
-    mail: &[u64],
-    flags: &[u8],
-    rows: &[u64],
-    pages: &[u16],
-    frames: &[u8],
-    principals: &[u64],
-    counts: &[u16],
-    cells: &[u64],
-    tags: &[u8],
-) -> Answer
-    ensures { λ r. ⌜ r ≡ answering (endCode (arrays nums (now (words .entry)) (now (marks .entry)) (now (mail .entry)) (now (flags .entry)) (now (rows .entry)) (now (pages .entry)) (now (frames .entry)) (now (principals .entry)) (now (counts .entry))) (now (cells .entry)) (now (tags .entry))) empty ⌝ }
+// The answer of a command where no byte is left, refusal 1, 2 or 3, is put first among the answers; answers that one was done.
+fn put_end(answers: &mut [u64], good: bool, f: u16, cells: &[u64], tags: &[u8]) -> usize
+    requires { ⌜ 4 ≤ length (now answers) ⌝ }
+    ensures { λ r. ⌜ r ≡ 1 ⌝ }
+    ensures { λ _. ⌜ now (answers .exit) ≡ answerNumbers (answering (endCode good f (now (cells .entry)) (now (tags .entry))) empty) 0 ++ drop 4 (now (answers .entry)) ⌝ }
 {
-    let size = 16 * (nums.f as usize);
+    let size = 16 * (f as usize);
     let fits = (cells.len() == size) & (tags.len() == size);
-    let good = formed(
-        nums,
-        words,
-        marks,
-        mail,
-        flags,
-        rows,
-        pages,
-        frames,
-        principals,
-        counts,
-    );
     let code = first(1, !good, first(2, !fits, 3));
-    Answer {
-        code,
-        number: 0,
-        tag: false,
-    }
+    put_answer(answers, coded(code), 0);
+    1
 }
 
 // The number of this boundary; another layout has another one, and so have rules under which a call that was there does something else.
@@ -270,11 +245,10 @@ pub extern "C" fn cetomuhi_command(
             tags,
             &mut answers[..4],
         );
-        let next = ran.nums;
-        put_numbers(numbers, next);
+        put_numbers(numbers, ran.nums);
         return ran.done;
     }
-    let answer = at_end(
+    let good = formed(
         nums,
         words,
         marks,
@@ -285,11 +259,8 @@ pub extern "C" fn cetomuhi_command(
         frames,
         principals,
         counts,
-        cells,
-        tags,
     );
-    put_answer(answers, answer, 0);
-    1
+    put_end(answers, good, nums.f, cells, tags)
 }
 
 // The commands from a place of an input on, as many as there is room for, with four answers each; the state is tested once. Answers how
