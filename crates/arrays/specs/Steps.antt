@@ -7,7 +7,7 @@ use Rattle.machine.specs.Step.{Outcome, ruled}
 use Rattle.arrays.specs.declared.Numbers.{Numbers}
 use Rattle.arrays.specs.declared.Arrays.{Arrays}
 use Rattle.arrays.specs.declared.Answer.{Answer}
-use Rattle.arrays.specs.Reading.{arrays, state_of, arraysOf, Formed}
+use Rattle.arrays.specs.Reading.{arrays, state_of, arrays_of, Formed}
 
 abbrev pub answer : ℕ → Slot → Answer
 answer code w = record { code = code; number = w.cell; tag = w.tag }
@@ -25,7 +25,7 @@ leaving r a cells tags = record { answer = r; arrays = a; cells = cells; tags = 
 -- The outcome of a rule, its state written as arrays.
 unfoldable pub left_of : Outcome → Leaving
 left_of o =
-    leaving (record { code = o.answer.code; number = o.answer.number; tag = o.answer.tag }) (arraysOf o.answer.state) o.cells o.tags
+    leaving (record { code = o.answer.code; number = o.answer.number; tag = o.answer.tag }) (arrays_of o.answer.state) o.cells o.tags
 
 -- A call that leaves lent memory alone, on well-formed arrays, is what the rules say on the state read.
 abbrev pub Does : Answer → Arrays → Arrays → Call → Type 0
@@ -35,23 +35,23 @@ Does r before after c = Formed before → (cells tags : List ℕ) → leaving r 
 abbrev pub with_words : Arrays → List ℕ → List ℕ → Arrays
 with_words a words marks = arrays a.nums words marks a.mail a.flags a.rows a.pages a.frames a.principals a.counts
 
-abbrev pub withMail : Arrays → List ℕ → List ℕ → Arrays
-withMail a mail flags = arrays a.nums a.words a.marks mail flags a.rows a.pages a.frames a.principals a.counts
+abbrev pub with_mail : Arrays → List ℕ → List ℕ → Arrays
+with_mail a mail flags = arrays a.nums a.words a.marks mail flags a.rows a.pages a.frames a.principals a.counts
 
-abbrev pub withRows : Arrays → List ℕ → Arrays
-withRows a rows = arrays a.nums a.words a.marks a.mail a.flags rows a.pages a.frames a.principals a.counts
+abbrev pub with_rows : Arrays → List ℕ → Arrays
+with_rows a rows = arrays a.nums a.words a.marks a.mail a.flags rows a.pages a.frames a.principals a.counts
 
-abbrev pub withPages : Arrays → List ℕ → List ℕ → Arrays
-withPages a pages frames = arrays a.nums a.words a.marks a.mail a.flags a.rows pages frames a.principals a.counts
+abbrev pub with_pages : Arrays → List ℕ → List ℕ → Arrays
+with_pages a pages frames = arrays a.nums a.words a.marks a.mail a.flags a.rows pages frames a.principals a.counts
 
-abbrev pub withMails : Arrays → List ℕ → List ℕ → List ℕ → List ℕ → Arrays
-withMails a words marks mail flags = arrays a.nums words marks mail flags a.rows a.pages a.frames a.principals a.counts
+abbrev pub with_mails : Arrays → List ℕ → List ℕ → List ℕ → List ℕ → Arrays
+with_mails a words marks mail flags = arrays a.nums words marks mail flags a.rows a.pages a.frames a.principals a.counts
 
-abbrev pub withTable : Arrays → Numbers → List ℕ → Arrays
-withTable a nums rows = arrays nums a.words a.marks a.mail a.flags rows a.pages a.frames a.principals a.counts
+abbrev pub with_table : Arrays → Numbers → List ℕ → Arrays
+with_table a nums rows = arrays nums a.words a.marks a.mail a.flags rows a.pages a.frames a.principals a.counts
 
-abbrev pub withClaims : Arrays → List ℕ → List ℕ → Arrays
-withClaims a principals counts =
+abbrev pub with_claims : Arrays → List ℕ → List ℕ → Arrays
+with_claims a principals counts =
     arrays a.nums a.words a.marks a.mail a.flags a.rows a.pages a.frames principals counts
 
 -- The small numbers, with so many rows in use.

@@ -8,7 +8,7 @@ use native.Mathlib.Omega.{arith}
 use lib.Arith.{digits_div, digits_mod, digits_lt}
 use lib.ListN.{length, get_or, take, drop, length-append, length-drop}
 use lib.Seq.{append_snoc, get_or_at, drop-cons, take-suc, take-add, drop-drop, get_or-drop}
-use Rattle.calls.specs.Bytes.{bytes, number, bytesIn, numbersAt, sum, Fit, Bytes}
+use Rattle.calls.specs.Bytes.{bytes, number, bytes_in, numbers_at, sum, Fit, Bytes}
 
 -- The eighth digit of a number of eight bytes has nothing above it.
 pub top_digit : (x : ℕ) → x < 2 ^ 64 → x / 256 / 256 / 256 / 256 / 256 / 256 / 256 % 256 ≡ x / 256 / 256 / 256 / 256 / 256 / 256 / 256
@@ -21,11 +21,11 @@ top_digit x h =
 
 -- ---- one number
 
-pub length-bytes : (w x : ℕ) → length (bytes w x) ≡ w
-length-bytes zero x = refl
-length-bytes (suc zero) x = refl
-length-bytes (suc (suc w)) x =
-    let front : length (bytes (suc w) (x / 256)) ≡ suc w = length-bytes (suc w) (x / 256) in
+pub length_bytes : (w x : ℕ) → length (bytes w x) ≡ w
+length_bytes zero x = refl
+length_bytes (suc zero) x = refl
+length_bytes (suc (suc w)) x =
+    let front : length (bytes (suc w) (x / 256)) ≡ suc w = length_bytes (suc w) (x / 256) in
     simp length-append (omega arith)
 
 -- One more byte behind a number.
@@ -33,11 +33,11 @@ pub in_order : {m n p q : ℕ} → m ≡ n → p ≡ q → m * 256 + p ≡ n * 2
 in_order e f = cc
 
 -- The number that was written is read.
-number-of-bytes : (w x i : ℕ) (a rest : List ℕ) → length a ≡ i → number (suc w) i (a ++ (bytes (suc w) x ++ rest)) ≡ x
-number-of-bytes zero x i a rest h = get_or_at a x rest 0 i h
-number-of-bytes (suc w) x i a rest h =
+number_of_bytes : (w x i : ℕ) (a rest : List ℕ) → length a ≡ i → number (suc w) i (a ++ (bytes (suc w) x ++ rest)) ≡ x
+number_of_bytes zero x i a rest h = get_or_at a x rest 0 i h
+number_of_bytes (suc w) x i a rest h =
     subst (λ (s : List ℕ). number (suc (suc w)) i (a ++ s) ≡ x) (sym (append_snoc front (x % 256) rest))
-    (in_order (number-of-bytes w (x / 256) i a (x % 256 ∷ rest) h) last ∙ div-add-mod' x 256)
+    (in_order (number_of_bytes w (x / 256) i a (x % 256 ∷ rest) h) last ∙ div-add-mod' x 256)
   where
     front : List ℕ
     front = bytes (suc w) (x / 256)
@@ -45,7 +45,7 @@ number-of-bytes (suc w) x i a rest h =
     last : get_or (a ++ (front ++ (x % 256 ∷ rest))) (i + suc w) 0 ≡ x % 256
     last =
         rw (← append_assoc) (get_or_at (a ++ front) (x % 256) rest 0 (i + suc w)
-        (simp length-append (omega (arith, length-bytes (suc w) (x / 256)))))
+        (simp length-append (omega (arith, length_bytes (suc w) (x / 256)))))
 
 one_more : (w n b : ℕ) → b < 256 → bytes (suc (suc w)) (n * 256 + b) ≡ bytes (suc w) n ++ (b ∷ [])
 one_more w n b h =
@@ -53,15 +53,15 @@ one_more w n b h =
     ∙ ap (λ (r : ℕ). bytes (suc w) n ++ (r ∷ [])) (digits_mod n h)
 
 -- What was read is written as the bytes that were there.
-bytes-of-number : (w i : ℕ) (s : List ℕ) → Bytes s → i + w ≤ length s → bytes w (number w i s) ≡ take w (drop i s)
-bytes-of-number zero i s b h = refl
-bytes-of-number (suc zero) i s b h =
+bytes_of_number : (w i : ℕ) (s : List ℕ) → Bytes s → i + w ≤ length s → bytes w (number w i s) ≡ take w (drop i s)
+bytes_of_number zero i s b h = refl
+bytes_of_number (suc zero) i s b h =
     let here : i < length s = omega arith in
     rw (drop-cons s i 0 here)
-bytes-of-number (suc (suc w)) i s b h =
+bytes_of_number (suc (suc w)) i s b h =
     let here : suc w < length (drop i s) = simp length-drop (omega arith) in
     one_more w (number (suc w) i s) (get_or s (i + suc w) 0) (b (i + suc w))
-    ∙ ap (λ (l : List ℕ). l ++ (get_or s (i + suc w) 0 ∷ [])) (bytes-of-number (suc w) i s b (omega arith))
+    ∙ ap (λ (l : List ℕ). l ++ (get_or s (i + suc w) 0 ∷ [])) (bytes_of_number (suc w) i s b (omega arith))
     ∙ ap (λ (x : ℕ). take (suc w) (drop i s) ++ (x ∷ [])) (sym (get_or-drop i s (suc w) 0))
     ∙ sym (take-suc (drop i s) (suc w) 0 here)
 
@@ -73,22 +73,22 @@ number_fits (suc (suc w)) i s b =
     subst (λ (n : ℕ). number (suc (suc w)) i s < n) (sym (pow-suc 256 (suc w)))
     (digits_lt (number_fits (suc w) i s b) (b (i + suc w)))
 
-bytes-append : (s t : List ℕ) → Bytes s → Bytes t → Bytes (s ++ t)
-bytes-append [] t bs bt i = bt i
-bytes-append (x ∷ s) t bs bt zero = bs zero
-bytes-append (x ∷ s) t bs bt (suc i) = bytes-append s t (λ j. bs (suc j)) bt i
+bytes_append : (s t : List ℕ) → Bytes s → Bytes t → Bytes (s ++ t)
+bytes_append [] t bs bt i = bt i
+bytes_append (x ∷ s) t bs bt zero = bs zero
+bytes_append (x ∷ s) t bs bt (suc i) = bytes_append s t (λ j. bs (suc j)) bt i
 
 one_byte : (x : ℕ) → x < 256 → Bytes (x ∷ [])
 one_byte x h zero = h
 one_byte x h (suc i) = omega arith
 
 -- A number that fits is written in bytes.
-fitting-bytes : (w x : ℕ) → x < 256 ^ w → Bytes (bytes w x)
-fitting-bytes zero x h i = omega arith
-fitting-bytes (suc zero) x h i = one_byte x h i
-fitting-bytes (suc (suc w)) x h i =
-    bytes-append (bytes (suc w) (x / 256)) (x % 256 ∷ [])
-    (fitting-bytes (suc w) (x / 256) ((div-lt_iff_lt-mul (omega arith)).1 (subst (λ (n : ℕ). x < n) (pow-suc 256 (suc w)) h)))
+fitting_bytes : (w x : ℕ) → x < 256 ^ w → Bytes (bytes w x)
+fitting_bytes zero x h i = omega arith
+fitting_bytes (suc zero) x h i = one_byte x h i
+fitting_bytes (suc (suc w)) x h i =
+    bytes_append (bytes (suc w) (x / 256)) (x % 256 ∷ [])
+    (fitting_bytes (suc w) (x / 256) ((div-lt_iff_lt-mul (omega arith)).1 (subst (λ (n : ℕ). x < n) (pow-suc 256 (suc w)) h)))
     (one_byte (x % 256) (mod-lt x (omega arith))) i
 
 -- ---- several numbers, each in its own width
@@ -101,55 +101,55 @@ formed (w ∷ ws) [] = false
 formed (zero ∷ ws) (x ∷ xs) = false
 formed (suc w ∷ ws) (x ∷ xs) = formed ws xs
 
-pub length-bytesIn : (ws xs : List ℕ) → formed ws xs ≡ true → length (bytesIn ws xs) ≡ sum ws
-length-bytesIn [] [] f = refl
-length-bytesIn [] (x ∷ xs) f = refl
-length-bytesIn (w ∷ ws) [] f = absurd (true≢false (sym f))
-length-bytesIn (zero ∷ ws) (x ∷ xs) f = absurd (true≢false (sym f))
-length-bytesIn (suc w ∷ ws) (x ∷ xs) f =
-    let first : length (bytes (suc w) x) ≡ suc w = length-bytes (suc w) x in
-    let others : length (bytesIn ws xs) ≡ sum ws = length-bytesIn ws xs f in
+pub length_bytes_in : (ws xs : List ℕ) → formed ws xs ≡ true → length (bytes_in ws xs) ≡ sum ws
+length_bytes_in [] [] f = refl
+length_bytes_in [] (x ∷ xs) f = refl
+length_bytes_in (w ∷ ws) [] f = absurd (true≢false (sym f))
+length_bytes_in (zero ∷ ws) (x ∷ xs) f = absurd (true≢false (sym f))
+length_bytes_in (suc w ∷ ws) (x ∷ xs) f =
+    let first : length (bytes (suc w) x) ≡ suc w = length_bytes (suc w) x in
+    let others : length (bytes_in ws xs) ≡ sum ws = length_bytes_in ws xs f in
     simp length-append (omega arith)
 
-pub numbers-of-bytes : (ws xs : List ℕ) (i : ℕ) (a rest : List ℕ) → formed ws xs ≡ true → length a ≡ i
-    → numbersAt ws i (a ++ (bytesIn ws xs ++ rest)) ≡ xs
-numbers-of-bytes [] [] i a rest f h = refl
-numbers-of-bytes [] (x ∷ xs) i a rest f h = absurd (true≢false (sym f))
-numbers-of-bytes (w ∷ ws) [] i a rest f h = absurd (true≢false (sym f))
-numbers-of-bytes (zero ∷ ws) (x ∷ xs) i a rest f h = absurd (true≢false (sym f))
-numbers-of-bytes (suc w ∷ ws) (x ∷ xs) i a rest f h =
-    subst (λ (s : List ℕ). numbersAt (suc w ∷ ws) i (a ++ s) ≡ x ∷ xs) (sym (append_assoc first others rest))
-    (cons₂ (number-of-bytes w x i a (others ++ rest) h)
-    (subst (λ (s : List ℕ). numbersAt ws (i + suc w) s ≡ xs) (append_assoc a first (others ++ rest))
-    (numbers-of-bytes ws xs (i + suc w) (a ++ first) rest f longer)))
+pub numbers_of_bytes : (ws xs : List ℕ) (i : ℕ) (a rest : List ℕ) → formed ws xs ≡ true → length a ≡ i
+    → numbers_at ws i (a ++ (bytes_in ws xs ++ rest)) ≡ xs
+numbers_of_bytes [] [] i a rest f h = refl
+numbers_of_bytes [] (x ∷ xs) i a rest f h = absurd (true≢false (sym f))
+numbers_of_bytes (w ∷ ws) [] i a rest f h = absurd (true≢false (sym f))
+numbers_of_bytes (zero ∷ ws) (x ∷ xs) i a rest f h = absurd (true≢false (sym f))
+numbers_of_bytes (suc w ∷ ws) (x ∷ xs) i a rest f h =
+    subst (λ (s : List ℕ). numbers_at (suc w ∷ ws) i (a ++ s) ≡ x ∷ xs) (sym (append_assoc first others rest))
+    (cons₂ (number_of_bytes w x i a (others ++ rest) h)
+    (subst (λ (s : List ℕ). numbers_at ws (i + suc w) s ≡ xs) (append_assoc a first (others ++ rest))
+    (numbers_of_bytes ws xs (i + suc w) (a ++ first) rest f longer)))
   where
     first : List ℕ
     first = bytes (suc w) x
 
     others : List ℕ
-    others = bytesIn ws xs
+    others = bytes_in ws xs
 
     cons₂ : {m n : ℕ} {p q : List ℕ} → m ≡ n → p ≡ q → m ∷ p ≡ n ∷ q
     cons₂ d e = cc
 
     longer : length (a ++ first) ≡ i + suc w
-    longer = simp length-append (omega (arith, length-bytes (suc w) x))
+    longer = simp length-append (omega (arith, length_bytes (suc w) x))
 
-pub bytes-of-numbers : (ws : List ℕ) (i : ℕ) (s : List ℕ) → Bytes s → i + sum ws ≤ length s
-    → bytesIn ws (numbersAt ws i s) ≡ take (sum ws) (drop i s)
-bytes-of-numbers [] i s b h = refl
-bytes-of-numbers (w ∷ ws) i s b h =
-    ap (λ (l : List ℕ). l ++ bytesIn ws (numbersAt ws (i + w) s)) (bytes-of-number w i s b (omega arith))
-    ∙ ap (λ (l : List ℕ). take w (drop i s) ++ l) (bytes-of-numbers ws (i + w) s b (omega arith))
+pub bytes_of_numbers : (ws : List ℕ) (i : ℕ) (s : List ℕ) → Bytes s → i + sum ws ≤ length s
+    → bytes_in ws (numbers_at ws i s) ≡ take (sum ws) (drop i s)
+bytes_of_numbers [] i s b h = refl
+bytes_of_numbers (w ∷ ws) i s b h =
+    ap (λ (l : List ℕ). l ++ bytes_in ws (numbers_at ws (i + w) s)) (bytes_of_number w i s b (omega arith))
+    ∙ ap (λ (l : List ℕ). take w (drop i s) ++ l) (bytes_of_numbers ws (i + w) s b (omega arith))
     ∙ ap (λ (l : List ℕ). take w (drop i s) ++ take (sum ws) l) (sym (drop-drop w i s))
     ∙ sym (take-add w (sum ws) (drop i s))
 
-pub numbers_fit : (ws : List ℕ) (i : ℕ) (s : List ℕ) → Bytes s → Fit ws (numbersAt ws i s)
+pub numbers_fit : (ws : List ℕ) (i : ℕ) (s : List ℕ) → Bytes s → Fit ws (numbers_at ws i s)
 numbers_fit [] i s b = tt
 numbers_fit (w ∷ ws) i s b = (number_fits w i s b, numbers_fit ws (i + w) s b)
 
-pub fitting-bytesIn : (ws xs : List ℕ) → Fit ws xs → Bytes (bytesIn ws xs)
-fitting-bytesIn [] xs f i = omega arith
-fitting-bytesIn (w ∷ ws) [] f i = omega arith
-fitting-bytesIn (w ∷ ws) (x ∷ xs) f i =
-    bytes-append (bytes w x) (bytesIn ws xs) (fitting-bytes w x f.0) (fitting-bytesIn ws xs f.1) i
+pub fitting_bytes_in : (ws xs : List ℕ) → Fit ws xs → Bytes (bytes_in ws xs)
+fitting_bytes_in [] xs f i = omega arith
+fitting_bytes_in (w ∷ ws) [] f i = omega arith
+fitting_bytes_in (w ∷ ws) (x ∷ xs) f i =
+    bytes_append (bytes w x) (bytes_in ws xs) (fitting_bytes w x f.0) (fitting_bytes_in ws xs f.1) i

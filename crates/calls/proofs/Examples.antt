@@ -36,7 +36,7 @@ session =
     0x0B ∷ 0x03 ∷ 0x00 ∷ 0x00 ∷ 0x06 ∷ 0x02 ∷
     []
 
-pub session-read :
+pub session_read :
     calls 32 session
     ≡ Zero 0 (frame 0)
     ∷ Map 0 (page 0) (frame 0)
@@ -57,4 +57,4 @@ pub session-read :
     ∷ Load 3 0 6 2
     ∷ []
 unfolding calls session whole read_of
-session-read = refl
+session_read = refl

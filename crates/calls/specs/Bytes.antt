@@ -14,15 +14,15 @@ number (suc zero) i s = get_or s i 0
 number (suc (suc w)) i s = number (suc w) i s * 256 + get_or s (i + suc w) 0
 
 -- Numbers one after the other, each in its own width.
-abbrev pub bytesIn : List ℕ → List ℕ → List ℕ
-bytesIn [] xs = []
-bytesIn (w ∷ ws) [] = []
-bytesIn (w ∷ ws) (x ∷ xs) = bytes w x ++ bytesIn ws xs
+abbrev pub bytes_in : List ℕ → List ℕ → List ℕ
+bytes_in [] xs = []
+bytes_in (w ∷ ws) [] = []
+bytes_in (w ∷ ws) (x ∷ xs) = bytes w x ++ bytes_in ws xs
 
 -- The numbers that stand one after the other from place `i` on.
-abbrev pub numbersAt : List ℕ → ℕ → List ℕ → List ℕ
-numbersAt [] i s = []
-numbersAt (w ∷ ws) i s = number w i s ∷ numbersAt ws (i + w) s
+abbrev pub numbers_at : List ℕ → ℕ → List ℕ → List ℕ
+numbers_at [] i s = []
+numbers_at (w ∷ ws) i s = number w i s ∷ numbers_at ws (i + w) s
 
 abbrev pub sum : List ℕ → ℕ
 sum [] = 0

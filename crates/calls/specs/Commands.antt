@@ -2,7 +2,7 @@
 use Rattle.std.specs.Prelude.{ℕ, ◌+◌, ◌-◌, List, [], ◌∷◌, ◌++◌, map, get_or, length, replicate}
 use Rattle.pages.specs.declared.VirtualPage.{VirtualPage}
 use Rattle.pages.specs.declared.Frame.{Frame}
-use Rattle.calls.specs.Bytes.{bytesIn, numbersAt, sum, Fit}
+use Rattle.calls.specs.Bytes.{bytes_in, numbers_at, sum, Fit}
 use Rattle.calls.specs.Parts.{parts_of}
 use Rattle.calls.specs.declared.Call.{Call}
 use Rattle.calls.specs.declared.Call.TheVariants.{Take, Split, Merge, Give, Revoke, Sweep, Collect, Map, Unmap, Zero, Load, Store, Narrow, Number, Grant, Receive, TakeMasked, Create, Claim, Release, Destroy}
@@ -22,14 +22,14 @@ abbrev pub command : List ℕ → ((ℕ → ℕ) → Call) → Command
 command ws f = record { widths = ws; make = f }
 
 -- The first row. It stands apart since a byte past the table, of which nobody asks, gives it too.
-abbrev pub take-command : Command
-take-command = command (1 ∷ 2 ∷ 1 ∷ []) (λ x. Take (x 0) (x 1) (x 2))
+abbrev pub take_command : Command
+take_command = command (1 ∷ 2 ∷ 1 ∷ []) (λ x. Take (x 0) (x 1) (x 2))
 
 -- The commands from 01 on, a row each.
 abbrev pub commands : List Command
 commands =
     -- 01 take P base/2 reg
-    take-command
+    take_command
     -- 02 split P base/2 len/2
     ∷ command (1 ∷ 2 ∷ 2 ∷ []) (λ x. Split (x 0) (x 1) (x 2))
     -- 03 merge P base/2
@@ -73,40 +73,40 @@ commands =
     ∷ []
 
 -- The byte of the last command, which is how many there are.
-abbrev pub lastByte : ℕ
-lastByte = length commands
+abbrev pub last_byte : ℕ
+last_byte = length commands
 
 -- The command of a byte that is one.
-abbrev pub commandOf : ℕ → Command
-commandOf k = get_or commands (k - 1) take-command
+abbrev pub command_of : ℕ → Command
+command_of k = get_or commands (k - 1) take_command
 
 -- The length of each command with its own byte, and 0 at 0, which is none.
 abbrev pub lengths : List ℕ
 lengths = 0 ∷ map (λ c. 1 + sum c.widths) commands
 
 -- A command's length; 0 for a byte that is no command.
-abbrev pub commandLength : ℕ → ℕ
-commandLength k = get_or lengths k 0
+abbrev pub command_length : ℕ → ℕ
+command_length k = get_or lengths k 0
 
 -- The call that the operands after a command's byte make.
 abbrev pub call_at : ℕ → List ℕ → Call
-call_at k s = (commandOf k).make (λ i. get_or (numbersAt (commandOf k).widths 1 s) i 0)
+call_at k s = (command_of k).make (λ i. get_or (numbers_at (command_of k).widths 1 s) i 0)
 
 -- A call's command byte.
 abbrev pub byte_of : Call → ℕ
 byte_of c = (parts_of c).0
 
 -- Its operands.
-abbrev pub operandsOf : Call → List ℕ
-operandsOf c = (parts_of c).1
+abbrev pub operands_of : Call → List ℕ
+operands_of c = (parts_of c).1
 
 -- The bytes that a call is written as.
 abbrev pub bytes_of : Call → List ℕ
-bytes_of c = byte_of c ∷ bytesIn (commandOf (byte_of c)).widths (operandsOf c)
+bytes_of c = byte_of c ∷ bytes_in (command_of (byte_of c)).widths (operands_of c)
 
 -- Each operand fits its width.
 abbrev pub Fitting : Call → Type 0
-Fitting c = Fit (commandOf (byte_of c)).widths (operandsOf c)
+Fitting c = Fit (command_of (byte_of c)).widths (operands_of c)
 
 -- Bytes with 0 after them, up to the length of the longest command.
 abbrev pub padded : List ℕ → List ℕ

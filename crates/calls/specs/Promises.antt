@@ -4,7 +4,7 @@ use Rattle.std.specs.Prelude.{ℕ, ◌≤◌, List, ◌++◌, ◌≡◌, length,
 use Rattle.calls.specs.declared.Call.{Call}
 use Rattle.calls.specs.declared.Reading.TheVariants.{Read}
 use Rattle.calls.specs.Bytes.{Bytes}
-use Rattle.calls.specs.Commands.{commandLength, byte_of, bytes_of, Fitting}
+use Rattle.calls.specs.Commands.{command_length, byte_of, bytes_of, Fitting}
 use Rattle.calls.specs.Reader.{read_of}
 
 -- A call that was written is read, whatever follows it, and uses the bytes that were written. It holds of every call: one whose
@@ -17,7 +17,7 @@ WrittenInBytes = (c : Call) → Fitting c → Bytes (bytes_of c)
 
 -- The lengths of the reader and of the writer agree.
 abbrev pub LengthsAgree : Type 0
-LengthsAgree = (c : Call) → length (bytes_of c) ≡ commandLength (byte_of c)
+LengthsAgree = (c : Call) → length (bytes_of c) ≡ command_length (byte_of c)
 
 -- What a call that was read says of the input: the bytes it used are there, they are those that it is written as, and its numbers fit.
 pub record ReadFrom (s : List ℕ) (c : Call) (n : ℕ) : Type 0 where

@@ -16,12 +16,12 @@ abbrev pub outcome : ℕ → ℕ → List ℕ → Outcome
 outcome code n out = record { code = code; len = n; buffer = out }
 
 -- The paper's numbers for each case of the answer, with the buffer that goes with it.
-abbrev pub outcomeOf : Written → List ℕ → Outcome
-outcomeOf (Wrote n) out = outcome 0 n out
-outcomeOf TooShort out = outcome 3 0 out
+abbrev pub outcome_of : Written → List ℕ → Outcome
+outcome_of (Wrote n) out = outcome 0 n out
+outcome_of TooShort out = outcome 3 0 out
 
-unfoldable pub writeOf : Call → List ℕ → Outcome
-writeOf c out =
+unfoldable pub write_of : Call → List ℕ → Outcome
+write_of c out =
     pick (leb (length (bytes_of c)) (length out))
     (outcome 0 (length (bytes_of c)) (bytes_of c ++ drop (length (bytes_of c)) out))
     (outcome 3 0 out)

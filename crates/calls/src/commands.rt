@@ -1,7 +1,7 @@
 // Made by tools/kinds from the enum of calls: not to be changed here.
 // The byte of each command, and its length with that byte.
 ghost use Rattle.std.specs.Prelude.{◌≡◌};
-ghost use Rattle.calls.specs.Commands.{commandLength};
+ghost use Rattle.calls.specs.Commands.{command_length};
 
 pub(crate) const TAKE: u8 = 0x01;
 
@@ -50,7 +50,7 @@ pub(crate) const LONGEST: usize = 11;
 
 // A command's length; 0 for a byte that is no command.
 pub(crate) fn length_of(command: u8) -> usize
-    ensures { result ≡ commandLength command }
+    ensures { result ≡ command_length command }
 {
     match command {
         TAKE => 5,

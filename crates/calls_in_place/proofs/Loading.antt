@@ -7,61 +7,61 @@ use mathlib.Core.Path.{◌≡◌, sym, ap, ◌∙◌}
 use lib.ListN.{set}
 use Rattle.capabilities.specs.Capability.{base_of, permits}
 use Rattle.capabilities.specs.Refusals.{first}
-use Rattle.capabilities.proofs.Refusals.{first-clear}
+use Rattle.capabilities.proofs.Refusals.{first_clear}
 use Rattle.pages.specs.declared.Place.{Place}
 use Rattle.calls.specs.declared.Call.{Call}
 use Rattle.calls.specs.declared.Call.TheVariants.{Load}
 use Rattle.words.specs.declared.Slot.{Slot}
-use Rattle.words.specs.Words.{empty, byte_of, keepTag, word_at, loaded, registerOf, placeNumber}
-use Rattle.words.specs.WordReasons.{mayNotLoad, cellReasons, loadReasons}
+use Rattle.words.specs.Words.{empty, byte_of, keep_tag, word_at, loaded, register_of, place_number}
+use Rattle.words.specs.WordReasons.{may_not_load, cell_reasons, load_reasons}
 use Rattle.machine.specs.Reasons.{addressed, reasons}
-use Rattle.machine.specs.Effects.{effect, effect_of, putRegister, keepMailboxes, keepMemory}
-use Rattle.machine.specs.Step.{reasonsOn, effectOn, ruled}
-use Rattle.machine.proofs.Deeds.{found-fetched}
+use Rattle.machine.specs.Effects.{effect, effect_of, put_register, keep_mailboxes, keep_memory}
+use Rattle.machine.specs.Step.{reasons_on, effect_on, ruled}
+use Rattle.machine.proofs.Deeds.{found_fetched}
 use Rattle.arrays.specs.declared.Arrays.{Arrays}
 use Rattle.arrays.specs.declared.Numbers.{Numbers}
 use Rattle.arrays.specs.Reading.{state_of, Formed}
 use Rattle.arrays.specs.Steps.{answer, leaving, left_of, with_words}
 use Rattle.arrays.proofs.Ruling.{down, registered}
-use Rattle.words.specs.Lent.{registerIn}
-use Rattle.calls_in_place.specs.Parts.{lookupIn, diesIn}
-use Rattle.calls_in_place.proofs.Reading.{register-read, addressed-by}
-use Rattle.calls_in_place.proofs.Cached.{dies-cached}
+use Rattle.words.specs.Lent.{register_in}
+use Rattle.calls_in_place.specs.Parts.{lookup_in, dies_in}
+use Rattle.calls_in_place.proofs.Reading.{register_read, addressed_by}
+use Rattle.calls_in_place.proofs.Cached.{dies_cached}
 
 module _ (b : Arrays) (f : Formed b) (n : Numbers) (pages : List ℕ) (en : b.nums ≡ n) (ep : b.pages ≡ pages) (p a off d : ℕ) (from : Slot) (place : Place)
-    (e1 : from ≡ registerIn b.words b.marks p a) (e2 : place ≡ lookupIn n.v pages (base_of from.cell + off)) where
+    (e1 : from ≡ register_in b.words b.marks p a) (e2 : place ≡ lookup_in n.v pages (base_of from.cell + off)) where
   abbrev call : Call
   call = Load p a off d
 
-  from_is : from ≡ registerOf (state_of b).registers p a
-  from_is = e1 ∙ sym (register-read b f p a)
+  from_is : from ≡ register_of (state_of b).registers p a
+  from_is = e1 ∙ sym (register_read b f p a)
 
-  place_is : place ≡ addressed (state_of b).core (registerOf (state_of b).registers p a) off
-  place_is = e2 ∙ addressed-by b n pages en ep from off ∙ ap (λ w. addressed (state_of b).core w off) from_is
+  place_is : place ≡ addressed (state_of b).core (register_of (state_of b).registers p a) off
+  place_is = e2 ∙ addressed_by b n pages en ep from off ∙ ap (λ w. addressed (state_of b).core w off) from_is
 
-  code_is : (cells tags : List ℕ) → first (loadReasons p a d from off place) ≡ first (reasonsOn (state_of b) call cells tags)
+  code_is : (cells tags : List ℕ) → first (load_reasons p a d from off place) ≡ first (reasons_on (state_of b) call cells tags)
   unfolding reasons
-  code_is cells tags = ap (λ w. first (loadReasons p a d w off place)) from_is ∙ ap (λ q. first (loadReasons p a d (registerOf (state_of b).registers p a) off q)) place_is
+  code_is cells tags = ap (λ w. first (load_reasons p a d w off place)) from_is ∙ ap (λ q. first (load_reasons p a d (register_of (state_of b).registers p a) off q)) place_is
 
   -- A granted load reads the word at the place.
-  effect_is : (cells tags : List ℕ) → first (loadReasons p a d from off place) ≡ 0 → (x : Slot) → x ≡ loaded (state_of b).core from (word_at cells tags (placeNumber place))
-      → effectOn (state_of b) call cells tags ≡ effect_of (state_of b).core (putRegister p d x) keepMailboxes keepMemory x
+  effect_is : (cells tags : List ℕ) → first (load_reasons p a d from off place) ≡ 0 → (x : Slot) → x ≡ loaded (state_of b).core from (word_at cells tags (place_number place))
+      → effect_on (state_of b) call cells tags ≡ effect_of (state_of b).core (put_register p d x) keep_mailboxes keep_memory x
   unfolding reasons effect
   effect_is cells tags z x ex =
       let k = (state_of b).core in
-      let w = registerOf (state_of b).registers p a in
-      let free : first (cellReasons (mayNotLoad w) w off (addressed k w off)) ≡ 0 = (first-clear 4 _ _ (λ n. omega arith) (sym (code_is cells tags) ∙ z)).1 in
-      ap (λ y. effect_of k (putRegister p d y) keepMailboxes keepMemory y)
-      (found-fetched k cells tags w off free
-      ∙ sym (ex ∙ ap (λ y. loaded k y (word_at cells tags (placeNumber place))) from_is ∙ ap (λ q. loaded k w (word_at cells tags (placeNumber q))) place_is))
+      let w = register_of (state_of b).registers p a in
+      let free : first (cell_reasons (may_not_load w) w off (addressed k w off)) ≡ 0 = (first_clear 4 _ _ (λ n. omega arith) (sym (code_is cells tags) ∙ z)).1 in
+      ap (λ y. effect_of k (put_register p d y) keep_mailboxes keep_memory y)
+      (found_fetched k cells tags w off free
+      ∙ sym (ex ∙ ap (λ y. loaded k y (word_at cells tags (place_number place))) from_is ∙ ap (λ q. loaded k w (word_at cells tags (place_number q))) place_is))
 
-  module _ (k : ℕ) (e : k ≡ first (loadReasons p a d from off place)) (cells tags : List ℕ) where
-    pub load-down : (k ≡ 0 → ⊥) → leaving (answer k empty) b cells tags ≡ left_of (ruled (state_of b) call cells tags)
-    load-down = down b f call cells tags k (e ∙ code_is cells tags)
+  module _ (k : ℕ) (e : k ≡ first (load_reasons p a d from off place)) (cells tags : List ℕ) where
+    pub load_down : (k ≡ 0 → ⊥) → leaving (answer k empty) b cells tags ≡ left_of (ruled (state_of b) call cells tags)
+    load_down = down b f call cells tags k (e ∙ code_is cells tags)
 
-    pub load-done : k ≡ 0 → (w x : Slot) → w ≡ word_at cells tags (placeNumber place) → x ≡ keepTag w (permits from.cell 4 && not (diesIn n w.cell))
+    pub load_done : k ≡ 0 → (w x : Slot) → w ≡ word_at cells tags (place_number place) → x ≡ keep_tag w (permits from.cell 4 && not (dies_in n w.cell))
         → leaving (answer 0 x) (with_words b (set b.words (8 * p + d) x.cell) (set b.marks (8 * p + d) (byte_of x.tag))) cells tags
         ≡ left_of (ruled (state_of b) call cells tags)
-    load-done z w x ew ex =
+    load_done z w x ew ex =
         registered b f call cells tags k (e ∙ code_is cells tags) p d x x z
-        (effect_is cells tags (sym e ∙ z) x (ex ∙ ap (λ (q : Bool). keepTag w (permits from.cell 4 && not q)) (dies-cached b f n en w.cell) ∙ ap (loaded (state_of b).core from) ew))
+        (effect_is cells tags (sym e ∙ z) x (ex ∙ ap (λ (q : Bool). keep_tag w (permits from.cell 4 && not q)) (dies_cached b f n en w.cell) ∙ ap (loaded (state_of b).core from) ew))

@@ -5,38 +5,38 @@ use mathlib.Core.List.{List, []}
 use mathlib.Core.Path.{◌≡◌, sym, ap, ◌∙◌}
 use Rattle.capabilities.specs.Lists.{pick}
 use Rattle.capabilities.specs.Capability.{base_of}
-use Rattle.pages.specs.Mapping.{lookupOf}
+use Rattle.pages.specs.Mapping.{lookup_of}
 use Rattle.pages.proofs.OnNumbers as layer
 use Rattle.words.specs.declared.Slot.{Slot}
-use Rattle.words.specs.Words.{empty, named, registerOf, mailboxOf, word_at}
-use Rattle.words.specs.Lent.{registerIn}
+use Rattle.words.specs.Words.{empty, named, register_of, mailbox_of, word_at}
+use Rattle.words.specs.Lent.{register_in}
 use Rattle.words.proofs.Lent.{slots_get}
 use Rattle.machine.specs.Reasons.{addressed}
 use Rattle.arrays.specs.declared.Arrays.{Arrays}
 use Rattle.arrays.specs.declared.Numbers.{Numbers}
 use Rattle.arrays.specs.Reading.{core_of, state_of, Formed}
 use Rattle.arrays.proofs.Facts.{lengths}
-use Rattle.calls_in_place.specs.Parts.{lookupIn}
+use Rattle.calls_in_place.specs.Parts.{lookup_in}
 
-pub register-read : (a : Arrays) → Formed a → (p r : ℕ) → registerOf (state_of a).registers p r ≡ registerIn a.words a.marks p r
-unfolding registerOf registerIn state_of
-register-read a f p r =
+pub register_read : (a : Arrays) → Formed a → (p r : ℕ) → register_of (state_of a).registers p r ≡ register_in a.words a.marks p r
+unfolding register_of register_in state_of
+register_read a f p r =
     let l = lengths a f in
     ap (λ w. pick (named p && named r) w empty) (slots_get a.words a.marks (8 * p + r) (l.words ∙ sym l.marks))
 
-pub mailbox-read : (a : Arrays) → Formed a → (p : ℕ) → mailboxOf (state_of a).mailboxes p ≡ word_at a.mail a.flags p
-unfolding mailboxOf state_of
-mailbox-read a f p = let l = lengths a f in slots_get a.mail a.flags p (l.mail ∙ sym l.flags)
+pub mailbox_read : (a : Arrays) → Formed a → (p : ℕ) → mailbox_of (state_of a).mailboxes p ≡ word_at a.mail a.flags p
+unfolding mailbox_of state_of
+mailbox_read a f p = let l = lengths a f in slots_get a.mail a.flags p (l.mail ∙ sym l.flags)
 
 module _ (a : Arrays) where
-  pub lookup-read : (cell : ℕ) → lookupOf (state_of a).core.pages cell ≡ lookupIn a.nums.v a.pages cell
+  pub lookup_read : (cell : ℕ) → lookup_of (state_of a).core.pages cell ≡ lookup_in a.nums.v a.pages cell
   unfolding state_of core_of
-  lookup-read cell = layer.lookup-read a.nums.v a.nums.f a.pages a.frames cell ∙ sym (layer.lookup-read a.nums.v 0 a.pages [] cell)
+  lookup_read cell = layer.lookup_read a.nums.v a.nums.f a.pages a.frames cell ∙ sym (layer.lookup_read a.nums.v 0 a.pages [] cell)
 
   -- The place that a call looks up, of small numbers and pages that are the arrays' own.
-  pub addressed-by : (n : Numbers) (pages : List ℕ) → a.nums ≡ n → a.pages ≡ pages → (w : Slot) (off : ℕ)
-      → lookupIn n.v pages (base_of w.cell + off) ≡ addressed (state_of a).core w off
+  pub addressed_by : (n : Numbers) (pages : List ℕ) → a.nums ≡ n → a.pages ≡ pages → (w : Slot) (off : ℕ)
+      → lookup_in n.v pages (base_of w.cell + off) ≡ addressed (state_of a).core w off
   unfolding addressed
-  addressed-by n pages en ep w off =
+  addressed_by n pages en ep w off =
       let cell = base_of w.cell + off in
-      ap (λ (o : Numbers). lookupIn o.v pages cell) (sym en) ∙ ap (λ (l : List ℕ). lookupIn a.nums.v l cell) (sym ep) ∙ sym (lookup-read cell)
+      ap (λ (o : Numbers). lookup_in o.v pages cell) (sym en) ∙ ap (λ (l : List ℕ). lookup_in a.nums.v l cell) (sym ep) ∙ sym (lookup_read cell)

@@ -10,85 +10,85 @@ use Rattle.capabilities.specs.declared.Range.{Range}
 use Rattle.capabilities.specs.Lists.{pick}
 use Rattle.capabilities.specs.Refusals.{first}
 use Rattle.capabilities.proofs.Choice.{pick_yes}
-use Rattle.pages.specs.Numbers.{layerOf}
+use Rattle.pages.specs.Numbers.{layer_of}
 use Rattle.sweep.specs.declared.Swept.{Swept}
-use Rattle.sweep.specs.Sweep.{Passed, sweptTags, swept, passing, sweepOf}
+use Rattle.sweep.specs.Sweep.{Passed, swept_tags, swept, passing, sweep_of}
 use Rattle.table.proofs.Truth.{both}
-use Rattle.reservations.specs.Core.{Core, withPlace}
+use Rattle.reservations.specs.Core.{Core, with_place}
 use Rattle.reservations.specs.Revocation.{running, revoked}
 use Rattle.calls.specs.declared.Call.{Call}
 use Rattle.calls.specs.declared.Call.TheVariants.{Sweep}
 use Rattle.words.specs.Words.{slot, empty}
-use Rattle.words.specs.WordReasons.{unnamed, notManager}
+use Rattle.words.specs.WordReasons.{unnamed, not_manager}
 use Rattle.machine.specs.State.{State}
 use Rattle.machine.specs.Reasons.{reasons}
-use Rattle.machine.specs.Effects.{effect, effect_of, keepRegisters, keepMailboxes, sweepCells, sweptTo}
-use Rattle.machine.specs.Step.{done, withCore, reasonsOn, effectOn, ruled}
-use Rattle.machine.proofs.Ruled.{ruled-done, done-sweep}
+use Rattle.machine.specs.Effects.{effect, effect_of, keep_registers, keep_mailboxes, sweep_cells, swept_to}
+use Rattle.machine.specs.Step.{done, with_core, reasons_on, effect_on, ruled}
+use Rattle.machine.proofs.Ruled.{ruled_done, done_sweep}
 use Rattle.arrays.specs.declared.Arrays.{Arrays}
 use Rattle.arrays.specs.declared.Numbers.{Numbers}
-use Rattle.arrays.specs.Reading.{numbersOf, core_of, state_of, arraysOf, Formed}
+use Rattle.arrays.specs.Reading.{numbers_of, core_of, state_of, arrays_of, Formed}
 use Rattle.arrays.specs.Steps.{answer, leaving, left_of}
 use Rattle.arrays.proofs.Ruling.{wrote, down}
-use Rattle.calls_in_place.specs.Parts.{withNumbers}
-use Rattle.calls_in_place.proofs.Revoking.{running-cached}
-use Rattle.calls_in_place.proofs.Cached.{cachedRange, revoked-cached}
+use Rattle.calls_in_place.specs.Parts.{with_numbers}
+use Rattle.calls_in_place.proofs.Revoking.{running_cached}
+use Rattle.calls_in_place.proofs.Cached.{cached_range, revoked_cached}
 
 -- The small numbers, with the sweep at another place.
 abbrev pub placed : Numbers → ℕ → Numbers
 placed n place = record { v = n.v; f = n.f; count = n.count; place = place; base = n.base; length = n.length }
 
-write-place : (s : State) (q : ℕ) → withNumbers (arraysOf s) (placed (arraysOf s).nums q) ≡ arraysOf (withCore s (withPlace s.core q))
-unfolding arraysOf numbersOf withCore revoked
-write-place s q = refl
+write_place : (s : State) (q : ℕ) → with_numbers (arrays_of s) (placed (arrays_of s).nums q) ≡ arrays_of (with_core s (with_place s.core q))
+unfolding arrays_of numbers_of with_core revoked
+write_place s q = refl
 
-not-not : (b : Bool) → not (not b) ≡ b
-not-not true = refl
-not-not false = refl
+not_not : (b : Bool) → not (not b) ≡ b
+not_not true = refl
+not_not false = refl
 
 module _ (b : Arrays) (f : Formed b) where
   -- No revocation runs if and only if the range that is kept is empty.
-  pub still-cached : not (running (state_of b).core) ≡ eqb b.nums.length 0
-  still-cached = ap not (running-cached b f) ∙ not-not (eqb b.nums.length 0)
+  pub still_cached : not (running (state_of b).core) ≡ eqb b.nums.length 0
+  still_cached = ap not (running_cached b f) ∙ not_not (eqb b.nums.length 0)
 
-module _ (b : Arrays) (f : Formed b) (p n k : ℕ) (e : k ≡ pick (unnamed p) 4 (pick (notManager p) 5 (pick (eqb b.nums.length 0) 11 0))) (cells tags : List ℕ) where
+module _ (b : Arrays) (f : Formed b) (p n k : ℕ) (e : k ≡ pick (unnamed p) 4 (pick (not_manager p) 5 (pick (eqb b.nums.length 0) 11 0))) (cells tags : List ℕ) where
   abbrev call : Call
   call = Sweep p n
 
-  code_is : k ≡ first (reasonsOn (state_of b) call cells tags)
+  code_is : k ≡ first (reasons_on (state_of b) call cells tags)
   unfolding reasons first
-  code_is = e ∙ ap (λ (x : Bool). pick (unnamed p) 4 (pick (notManager p) 5 (pick x 11 0))) (sym (still-cached b f))
+  code_is = e ∙ ap (λ (x : Bool). pick (unnamed p) 4 (pick (not_manager p) 5 (pick x 11 0))) (sym (still_cached b f))
 
-  pub sweep-down : (k ≡ 0 → ⊥) → leaving (answer k empty) b cells tags ≡ left_of (ruled (state_of b) call cells tags)
-  sweep-down = down b f call cells tags k code_is
+  pub sweep_down : (k ≡ 0 → ⊥) → leaving (answer k empty) b cells tags ≡ left_of (ruled (state_of b) call cells tags)
+  sweep_down = down b f call cells tags k code_is
 
   abbrev next : ℕ
-  next = sweptTo (state_of b).core n
+  next = swept_to (state_of b).core n
 
-  effect_is : effectOn (state_of b) call cells tags
-      ≡ effect_of (withPlace (state_of b).core next) keepRegisters keepMailboxes (sweepCells (revoked (state_of b).core) (state_of b).core.place next) (slot (16 * (state_of b).core.pages.f - next) false)
+  effect_is : effect_on (state_of b) call cells tags
+      ≡ effect_of (with_place (state_of b).core next) keep_registers keep_mailboxes (sweep_cells (revoked (state_of b).core) (state_of b).core.place next) (slot (16 * (state_of b).core.pages.f - next) false)
   unfolding effect
   effect_is = refl
 
   -- What the sweep of lent memory leaves, where memory is of the right size.
   passes : length cells ≡ 16 * b.nums.f → length tags ≡ 16 * b.nums.f
-      → sweepOf (layerOf b.nums.v b.nums.f b.pages b.frames) (cachedRange b) b.nums.place n cells tags
-      ≡ passing (swept 0 (16 * (state_of b).core.pages.f - next) next) (sweptTags (state_of b).core.pages.frames (revoked (state_of b).core) (state_of b).core.place next cells tags)
-  unfolding sweepOf state_of core_of
+      → sweep_of (layer_of b.nums.v b.nums.f b.pages b.frames) (cached_range b) b.nums.place n cells tags
+      ≡ passing (swept 0 (16 * (state_of b).core.pages.f - next) next) (swept_tags (state_of b).core.pages.frames (revoked (state_of b).core) (state_of b).core.place next cells tags)
+  unfolding sweep_of state_of core_of
   passes u v =
       pick_yes _ _ _ (both (eqb (length cells) (16 * b.nums.f)) (eqb (length tags) (16 * b.nums.f)) (eq-eqb _ _ u) (eq-eqb _ _ v))
-      ∙ ap (λ (r : Range). passing (swept 0 (16 * (state_of b).core.pages.f - next) next) (sweptTags (state_of b).core.pages.frames r (state_of b).core.place next cells tags)) (sym (revoked-cached b f))
+      ∙ ap (λ (r : Range). passing (swept 0 (16 * (state_of b).core.pages.f - next) next) (swept_tags (state_of b).core.pages.frames r (state_of b).core.place next cells tags)) (sym (revoked_cached b f))
 
-  pub sweep-done : k ≡ 0 → length cells ≡ 16 * b.nums.f → length tags ≡ 16 * b.nums.f → (frames : List ℕ) → b.frames ≡ frames → (r : Swept) (tags' : List ℕ)
-      → passing r tags' ≡ sweepOf (layerOf b.nums.v b.nums.f b.pages frames) (cachedRange b) b.nums.place n cells tags
-      → leaving (answer 0 (slot r.left false)) (withNumbers b (placed b.nums r.place)) cells tags' ≡ left_of (ruled (state_of b) call cells tags)
-  sweep-done z u v frames ef r tags' d =
-      let x : Core = withPlace (state_of b).core next in
+  pub sweep_done : k ≡ 0 → length cells ≡ 16 * b.nums.f → length tags ≡ 16 * b.nums.f → (frames : List ℕ) → b.frames ≡ frames → (r : Swept) (tags' : List ℕ)
+      → passing r tags' ≡ sweep_of (layer_of b.nums.v b.nums.f b.pages frames) (cached_range b) b.nums.place n cells tags
+      → leaving (answer 0 (slot r.left false)) (with_numbers b (placed b.nums r.place)) cells tags' ≡ left_of (ruled (state_of b) call cells tags)
+  sweep_done z u v frames ef r tags' d =
+      let x : Core = with_place (state_of b).core next in
       let w = slot (16 * (state_of b).core.pages.f - next) false in
-      let t = sweptTags (state_of b).core.pages.frames (revoked (state_of b).core) (state_of b).core.place next cells tags in
+      let t = swept_tags (state_of b).core.pages.frames (revoked (state_of b).core) (state_of b).core.place next cells tags in
       let went : passing r tags' ≡ passing (swept 0 (16 * (state_of b).core.pages.f - next) next) t =
-      d ∙ ap (λ (l : List ℕ). sweepOf (layerOf b.nums.v b.nums.f b.pages l) (cachedRange b) b.nums.place n cells tags) (sym ef) ∙ passes u v in
-      ap (λ (y : Passed). leaving (answer 0 (slot y.answer.left false)) (withNumbers b (placed b.nums y.answer.place)) cells y.tags) went
-      ∙ wrote 0 w (withCore (state_of b) x) _ cells t (ap (λ (a : Arrays). withNumbers a (placed a.nums next)) (sym f.kept) ∙ write-place (state_of b) next)
-      ∙ ap left_of (ruled-done (state_of b) call cells tags k code_is z _
-      (done-sweep (state_of b) x w cells tags (revoked (state_of b).core) (state_of b).core.place next ∙ sym (ap (λ y. done (state_of b) y cells tags) effect_is)))
+      d ∙ ap (λ (l : List ℕ). sweep_of (layer_of b.nums.v b.nums.f b.pages l) (cached_range b) b.nums.place n cells tags) (sym ef) ∙ passes u v in
+      ap (λ (y : Passed). leaving (answer 0 (slot y.answer.left false)) (with_numbers b (placed b.nums y.answer.place)) cells y.tags) went
+      ∙ wrote 0 w (with_core (state_of b) x) _ cells t (ap (λ (a : Arrays). with_numbers a (placed a.nums next)) (sym f.kept) ∙ write_place (state_of b) next)
+      ∙ ap left_of (ruled_done (state_of b) call cells tags k code_is z _
+      (done_sweep (state_of b) x w cells tags (revoked (state_of b).core) (state_of b).core.place next ∙ sym (ap (λ y. done (state_of b) y cells tags) effect_is)))

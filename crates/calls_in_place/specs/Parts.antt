@@ -3,27 +3,27 @@ use Rattle.std.specs.Prelude.{ℕ, ◌*◌, Bool, List, [], ◌≡◌, length}
 use Rattle.capabilities.specs.declared.Range.{Range}
 use Rattle.capabilities.specs.Death.{dies}
 use Rattle.pages.specs.declared.Place.{Place}
-use Rattle.pages.specs.Mapping.{lookupOf}
+use Rattle.pages.specs.Mapping.{lookup_of}
 use Rattle.calls.specs.declared.Call.{Call}
 use Rattle.machine.specs.Step.{ruled}
 use Rattle.arrays.specs.declared.Arrays.{Arrays}
 use Rattle.arrays.specs.declared.Answer.{Answer}
 use Rattle.arrays.specs.declared.Numbers.{Numbers}
 use Rattle.calls_in_place.specs.declared.Stepped.{Stepped}
-use Rattle.pages.specs.Numbers.{layerOf}
+use Rattle.pages.specs.Numbers.{layer_of}
 use Rattle.arrays.specs.Reading.{arrays, Formed, state_of}
-use Rattle.arrays.specs.Steps.{Does, leaving, left_of, with_words, withRows, withPages, withMails, withTable, withClaims}
+use Rattle.arrays.specs.Steps.{Does, leaving, left_of, with_words, with_rows, with_pages, with_mails, with_table, with_claims}
 
 -- The place of a virtual cell in lent memory; F and the frames do not matter.
-abbrev pub lookupIn : ℕ → List ℕ → ℕ → Place
-lookupIn v pages cell = lookupOf (layerOf v 0 pages []) cell
+abbrev pub lookup_in : ℕ → List ℕ → ℕ → Place
+lookup_in v pages cell = lookup_of (layer_of v 0 pages []) cell
 
 -- The revoked range as the small numbers have it, empty where no revocation runs; and whether a capability dies with it.
-abbrev pub rangeIn : Numbers → Range
-rangeIn n = record { base = n.base; length = n.length }
+abbrev pub range_in : Numbers → Range
+range_in n = record { base = n.base; length = n.length }
 
-abbrev pub diesIn : Numbers → ℕ → Bool
-diesIn n cell = dies (rangeIn n) cell
+abbrev pub dies_in : Numbers → ℕ → Bool
+dies_in n cell = dies (range_in n) cell
 
 -- A call on the registers, whatever the rest of the arrays is.
 abbrev pub OnWords : Answer → List ℕ → List ℕ → List ℕ → List ℕ → Call → Type 0
@@ -32,36 +32,36 @@ OnWords r words marks words' marks' c = (m : Arrays) → Does r (with_words m wo
 -- One on pages and frames, where V and F are these.
 abbrev pub OnPages : ℕ → ℕ → Answer → List ℕ → List ℕ → List ℕ → List ℕ → Call → Type 0
 OnPages v f r pages frames pages' frames' c =
-    (m : Arrays) → m.nums.v ≡ v → m.nums.f ≡ f → Does r (withPages m pages frames) (withPages m pages' frames') c
+    (m : Arrays) → m.nums.v ≡ v → m.nums.f ≡ f → Does r (with_pages m pages frames) (with_pages m pages' frames') c
 
 -- One on pages and frames that looks at the counts too.
 abbrev pub OnClaimed : ℕ → ℕ → List ℕ → Answer → List ℕ → List ℕ → List ℕ → List ℕ → Call → Type 0
 OnClaimed v f counts r pages frames pages' frames' c =
-    (m : Arrays) → m.nums.v ≡ v → m.nums.f ≡ f → m.counts ≡ counts → Does r (withPages m pages frames) (withPages m pages' frames') c
+    (m : Arrays) → m.nums.v ≡ v → m.nums.f ≡ f → m.counts ≡ counts → Does r (with_pages m pages frames) (with_pages m pages' frames') c
 
 -- One on principals and counts, where V is this.
 abbrev pub OnClaims : ℕ → Answer → List ℕ → List ℕ → List ℕ → List ℕ → Call → Type 0
 OnClaims v r principals counts principals' counts' c =
-    (m : Arrays) → m.nums.v ≡ v → Does r (withClaims m principals counts) (withClaims m principals' counts') c
+    (m : Arrays) → m.nums.v ≡ v → Does r (with_claims m principals counts) (with_claims m principals' counts') c
 
 -- One on frames and lent memory of the right size, where F is this.
 abbrev pub OnFrames : ℕ → Answer → List ℕ → List ℕ → List ℕ → List ℕ → List ℕ → List ℕ → Call → Type 0
 OnFrames f r frames cells tags frames' cells' tags' c =
-    (m : Arrays) → m.nums.f ≡ f → length cells ≡ 16 * f → length tags ≡ 16 * f → Formed (withPages m m.pages frames)
-    → leaving r (withPages m m.pages frames') cells' tags' ≡ left_of (ruled (state_of (withPages m m.pages frames)) c cells tags)
+    (m : Arrays) → m.nums.f ≡ f → length cells ≡ 16 * f → length tags ≡ 16 * f → Formed (with_pages m m.pages frames)
+    → leaving r (with_pages m m.pages frames') cells' tags' ≡ left_of (ruled (state_of (with_pages m m.pages frames)) c cells tags)
 
 -- One on the rows, of which so many are in use.
 abbrev pub OnRows : ℕ → Answer → List ℕ → List ℕ → Call → Type 0
-OnRows count r rows rows' c = (m : Arrays) → m.nums.count ≡ count → Does r (withRows m rows) (withRows m rows') c
+OnRows count r rows rows' c = (m : Arrays) → m.nums.count ≡ count → Does r (with_rows m rows) (with_rows m rows') c
 
 -- One on the rows, the registers and the small numbers.
 abbrev pub OnRowsAndWords : Numbers → Stepped → List ℕ → List ℕ → List ℕ → List ℕ → List ℕ → List ℕ → Call → Type 0
 OnRowsAndWords n r rows words marks rows' words' marks' c =
-    (m : Arrays) → Does r.answer (withTable (with_words m words marks) n rows) (withTable (with_words m words' marks') r.nums rows') c
+    (m : Arrays) → Does r.answer (with_table (with_words m words marks) n rows) (with_table (with_words m words' marks') r.nums rows') c
 
 -- One on the rows and the small numbers.
 abbrev pub OnTable : Numbers → Stepped → List ℕ → List ℕ → Call → Type 0
-OnTable n r rows rows' c = (m : Arrays) → Does r.answer (withTable m n rows) (withTable m r.nums rows') c
+OnTable n r rows rows' c = (m : Arrays) → Does r.answer (with_table m n rows) (with_table m r.nums rows') c
 
 -- One that reads the small numbers, pages and lent memory, and changes the registers.
 abbrev pub OnMemory : Numbers → List ℕ → Answer → List ℕ → List ℕ → List ℕ → List ℕ → List ℕ → List ℕ → Call → Type 0
@@ -78,7 +78,7 @@ OnStore n pages words marks r cells tags cells' tags' c =
 -- One on registers and mailboxes.
 abbrev pub OnMail : Answer → List ℕ → List ℕ → List ℕ → List ℕ → List ℕ → List ℕ → List ℕ → List ℕ → Call → Type 0
 OnMail r words marks mail flags words' marks' mail' flags' c =
-    (m : Arrays) → Does r (withMails m words marks mail flags) (withMails m words' marks' mail' flags') c
+    (m : Arrays) → Does r (with_mails m words marks mail flags) (with_mails m words' marks' mail' flags') c
 
 -- Arrays around some rows and pages, with these small numbers.
 abbrev pub around : Arrays → Numbers → List ℕ → List ℕ → Arrays
@@ -89,14 +89,14 @@ abbrev pub OnRange : Numbers → Stepped → List ℕ → List ℕ → List ℕ 
 OnRange n r rows pages rows' pages' c = (m : Arrays) → Does r.answer (around m n rows pages) (around m r.nums rows' pages') c
 
 -- Arrays with other small numbers.
-abbrev pub withNumbers : Arrays → Numbers → Arrays
-withNumbers m n = arrays n m.words m.marks m.mail m.flags m.rows m.pages m.frames m.principals m.counts
+abbrev pub with_numbers : Arrays → Numbers → Arrays
+with_numbers m n = arrays n m.words m.marks m.mail m.flags m.rows m.pages m.frames m.principals m.counts
 
 -- A call that reads frames and sweeps lent memory of the right size; of the arrays it changes the small numbers alone.
 abbrev pub OnSweep : Numbers → List ℕ → Stepped → List ℕ → List ℕ → List ℕ → Call → Type 0
 OnSweep n frames r cells tags tags' c =
-    (m : Arrays) → m.frames ≡ frames → length cells ≡ 16 * n.f → length tags ≡ 16 * n.f → Formed (withNumbers m n)
-    → leaving r.answer (withNumbers m r.nums) cells tags' ≡ left_of (ruled (state_of (withNumbers m n)) c cells tags)
+    (m : Arrays) → m.frames ≡ frames → length cells ≡ 16 * n.f → length tags ≡ 16 * n.f → Formed (with_numbers m n)
+    → leaving r.answer (with_numbers m r.nums) cells tags' ≡ left_of (ruled (state_of (with_numbers m n)) c cells tags)
 
 -- A call that reads the registers' cells and changes all but these, the frames and the claims.
 abbrev pub OnCollect : Numbers → List ℕ → Stepped → List ℕ → List ℕ → List ℕ → List ℕ → List ℕ → List ℕ → List ℕ → List ℕ → List ℕ → List ℕ → Call → Type 0

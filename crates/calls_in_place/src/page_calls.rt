@@ -1,7 +1,7 @@
 // Pages and frames: the layer's own functions, after the refusals of every manager's command.
 ghost use Rattle.std.specs.Prelude.{◌≡◌, ◌<◌};
 ghost use Rattle.calls.specs.declared.Call.TheVariants.{Map, Unmap, Zero};
-ghost use Rattle.calls_in_place.specs.Parts.{lookupIn, OnPages, OnClaimed, OnFrames};
+ghost use Rattle.calls_in_place.specs.Parts.{lookup_in, OnPages, OnClaimed, OnFrames};
 
 use crate::word_calls::coded;
 use arrays::{Answer, Numbers};
@@ -10,7 +10,7 @@ use pages::{Frame, Place, VirtualPage};
 use words::codes::manager_code;
 
 pub(crate) fn lookup(v: u16, pages: &[u16], cell: u32) -> Place
-    ensures { result ≡ lookupIn v pages.now cell }
+    ensures { result ≡ lookup_in v pages.now cell }
 {
     pages::lent::lookup(v, pages, cell)
 }

@@ -3,7 +3,7 @@ ghost use Rattle.std.specs.Prelude.{◌≡◌};
 ghost use Rattle.words.specs.Words.{empty};
 ghost use Rattle.calls.specs.declared.Call.TheVariants.{Load, Store, Narrow, Number, Grant, Receive};
 ghost use Rattle.arrays.specs.Steps.{answer};
-ghost use Rattle.calls_in_place.specs.Parts.{OnWords, OnMemory, OnStore, OnMail, diesIn};
+ghost use Rattle.calls_in_place.specs.Parts.{OnWords, OnMemory, OnStore, OnMail, dies_in};
 
 use crate::page_calls::lookup;
 use arrays::{Answer, Numbers};
@@ -55,7 +55,7 @@ pub fn number(words: &mut [u64], marks: &mut [u8], party: u8, d: u8, value: u64)
 
 // Whether a capability dies with the range of the small numbers, the revoked one, which is empty where no revocation runs.
 fn dies(nums: Numbers, cell: u64) -> bool
-    ensures { result ≡ diesIn nums cell }
+    ensures { result ≡ dies_in nums cell }
 {
     let range = Range {
         base: nums.base,

@@ -21,9 +21,9 @@ module _ {ℓ} {A : Type ℓ} where
   pub kept : (code : ℕ) (x y : A) → (code ≡ 0 → ⊥) → pick (eqb code 0) x y ≡ y
   kept code x y z = pick_no (eqb code 0) x y (ne_eqb code 0 z)
 
-  pub pick-twice : (b : Bool) (x : A) → pick b x x ≡ x
-  pick-twice true x = refl
-  pick-twice false x = refl
+  pub pick_twice : (b : Bool) (x : A) → pick b x x ≡ x
+  pick_twice true x = refl
+  pick_twice false x = refl
 
 pub and_left : (a b : Bool) → a && b ≡ true → a ≡ true
 and_left true b e = refl
@@ -34,26 +34,26 @@ and_right true b e = e
 and_right false b e = absurd (false≢true e)
 
 -- A flag as a number.
-pub byte-pick : (b : Bool) → bool_byte b ≡ pick b 1 0
-byte-pick true = refl
-byte-pick false = refl
+pub byte_pick : (b : Bool) → bool_byte b ≡ pick b 1 0
+byte_pick true = refl
+byte_pick false = refl
 
 -- A number times a flag's opposite.
 pub times : (d : Bool) (n : ℕ) → n * bool_byte (not d) ≡ pick d 0 n
 times true n = omega arith
 times false n = omega arith
 
-pub or-false : (a b : Bool) → a || b ≡ false → (a ≡ false) × (b ≡ false)
-or-false true b e = absurd (true≢false e)
-or-false false b e = (refl, e)
+pub or_false : (a b : Bool) → a || b ≡ false → (a ≡ false) × (b ≡ false)
+or_false true b e = absurd (true≢false e)
+or_false false b e = (refl, e)
 
 -- A number that a test may drop, and a flag, which counts for one at most.
-pub pick-most : (b : Bool) (n : ℕ) → pick b n 0 ≤ n
-pick-most true n = omega arith
-pick-most false n = omega arith
+pub pick_most : (b : Bool) (n : ℕ) → pick b n 0 ≤ n
+pick_most true n = omega arith
+pick_most false n = omega arith
 
 pub at_most : (b : Bool) → pick b 1 0 ≤ 1
-at_most b = pick-most b 1
+at_most b = pick_most b 1
 
 -- A test that cannot hold is false.
 pub is_false : (b : Bool) → (b ≡ true → ⊥) → b ≡ false
@@ -71,9 +71,9 @@ both true b p q = q
 both false b p q = p
 
 -- A second test matters only where the first holds.
-pub and-under : (a b c : Bool) → (a ≡ true → b ≡ c) → (a && b) ≡ (a && c)
-and-under true b c h = h refl
-and-under false b c h = refl
+pub and_under : (a b c : Bool) → (a ≡ true → b ≡ c) → (a && b) ≡ (a && c)
+and_under true b c h = h refl
+and_under false b c h = refl
 
 -- Four tests in another order.
 pub cross : (a b c d : Bool) → (a && b) && (c && d) ≡ ((a && c) && (b && d))

@@ -10,8 +10,8 @@ module _ {A : Type 0} (n : ℕ) (x y z : A) where
   pub first_code : n ≡ 0 → x ≡ pick (eqb n 0) x (pick (eqb n 1) y z)
   first_code e = sym (pick_yes (eqb n 0) x (pick (eqb n 1) y z) (eq-eqb n 0 e))
 
-  pub second-code : (n ≡ 0 → ⊥) → n ≡ 1 → y ≡ pick (eqb n 0) x (pick (eqb n 1) y z)
-  second-code m e = sym (pick_no (eqb n 0) x (pick (eqb n 1) y z) (ne_eqb n 0 m) ∙ pick_yes (eqb n 1) y z (eq-eqb n 1 e))
+  pub second_code : (n ≡ 0 → ⊥) → n ≡ 1 → y ≡ pick (eqb n 0) x (pick (eqb n 1) y z)
+  second_code m e = sym (pick_no (eqb n 0) x (pick (eqb n 1) y z) (ne_eqb n 0 m) ∙ pick_yes (eqb n 1) y z (eq-eqb n 1 e))
 
-  pub other-code : (n ≡ 0 → ⊥) → (n ≡ 1 → ⊥) → z ≡ pick (eqb n 0) x (pick (eqb n 1) y z)
-  other-code m k = sym (pick_no (eqb n 0) x (pick (eqb n 1) y z) (ne_eqb n 0 m) ∙ pick_no (eqb n 1) y z (ne_eqb n 1 k))
+  pub other_code : (n ≡ 0 → ⊥) → (n ≡ 1 → ⊥) → z ≡ pick (eqb n 0) x (pick (eqb n 1) y z)
+  other_code m k = sym (pick_no (eqb n 0) x (pick (eqb n 1) y z) (ne_eqb n 0 m) ∙ pick_no (eqb n 1) y z (ne_eqb n 1 k))

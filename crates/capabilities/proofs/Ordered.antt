@@ -7,7 +7,7 @@ use mathlib.Core.Path.{◌≡◌, refl, sym, ap, subst, ◌∙◌}
 use lib.Dec.{eqb}
 use borrow.Author.Tests.{eqb-true, eq-eqb, not-true}
 use Rattle.capabilities.specs.Lists.{pick, all}
-use Rattle.capabilities.specs.Refusals.{Reason, reason, first, applied, firstIn}
+use Rattle.capabilities.specs.Refusals.{Reason, reason, first, applied, first_in}
 use Rattle.capabilities.proofs.Choice.{pick_no, and_left, and_right}
 
 -- The numbers of the reasons are some of these, in this order.
@@ -59,49 +59,49 @@ listed (k ∷ ks) n b rest e f =
     listed ks n b rest (sym (pick_no (eqb k n) (ordered ks rest) (ordered ks (reason n b ∷ rest)) apart) ∙ e) (and_right (not (eqb k n)) (absent n ks) f)
 
 -- So an order with one number more will do as well.
-pub ordered-wider : (k : ℕ) (ks : List ℕ) (l : List Reason) → absent k ks ≡ true → ordered ks l ≡ true → ordered (k ∷ ks) l ≡ true
+pub ordered_wider : (k : ℕ) (ks : List ℕ) (l : List Reason) → absent k ks ≡ true → ordered ks l ≡ true → ordered (k ∷ ks) l ≡ true
 unfolding ordered
-ordered-wider k ks [] f e = refl
-ordered-wider k ks (r ∷ rest) f e = go (eqb k r.number) refl
+ordered_wider k ks [] f e = refl
+ordered_wider k ks (r ∷ rest) f e = go (eqb k r.number) refl
   where
     go : (b : Bool) → eqb k r.number ≡ b → pick b (ordered ks rest) (ordered ks (r ∷ rest)) ≡ true
     go true x = absurd (listed ks r.number r.applies rest e (subst (λ i. absent i ks ≡ true) (eqb-true k r.number x) f))
     go false x = e
 
 -- Tests that agree find the same number.
-same-found : (ks : List ℕ) (p q : ℕ → Bool) → ((k : ℕ) → p k ≡ q k) → firstIn ks p ≡ firstIn ks q
-unfolding firstIn
-same-found [] p q e = refl
-same-found (k ∷ ks) p q e = ap (λ b. pick b k (firstIn ks p)) (e k) ∙ ap (λ n. pick (q k) k n) (same-found ks p q e)
+same_found : (ks : List ℕ) (p q : ℕ → Bool) → ((k : ℕ) → p k ≡ q k) → first_in ks p ≡ first_in ks q
+unfolding first_in
+same_found [] p q e = refl
+same_found (k ∷ ks) p q e = ap (λ b. pick b k (first_in ks p)) (e k) ∙ ap (λ n. pick (q k) k n) (same_found ks p q e)
 
 -- The next number of the order has a reason.
-next-in : (k : ℕ) (ks : List ℕ) (b : Bool) (rest : List Reason) → absent k ks ≡ true → ordered ks rest ≡ true → first rest ≡ firstIn ks (λ j. applied j rest)
-    → first (reason k b ∷ rest) ≡ firstIn (k ∷ ks) (λ j. applied j (reason k b ∷ rest))
-unfolding first firstIn applied
-next-in k ks true rest out e ih = rw (eq-eqb k k refl)
-next-in k ks false rest out e ih =
-    ih ∙ same-found ks (λ j. applied j rest) (λ j. (eqb k j && false) || applied j rest) (λ j. sym (skips k j (applied j rest)))
+next_in : (k : ℕ) (ks : List ℕ) (b : Bool) (rest : List Reason) → absent k ks ≡ true → ordered ks rest ≡ true → first rest ≡ first_in ks (λ j. applied j rest)
+    → first (reason k b ∷ rest) ≡ first_in (k ∷ ks) (λ j. applied j (reason k b ∷ rest))
+unfolding first first_in applied
+next_in k ks true rest out e ih = rw (eq-eqb k k refl)
+next_in k ks false rest out e ih =
+    ih ∙ same_found ks (λ j. applied j rest) (λ j. (eqb k j && false) || applied j rest) (λ j. sym (skips k j (applied j rest)))
     ∙ sym (pick_no ((eqb k k && false) || applied k rest) k _ (skips k k (applied k rest) ∙ outside k ks rest e out))
 
-pub first-in : (ks : List ℕ) (l : List Reason) → distinct ks ≡ true → ordered ks l ≡ true → first l ≡ firstIn ks (λ k. applied k l)
-first-in [] [] d e = unfold first in unfold firstIn in refl
-first-in [] (r ∷ rest) d e = absurd (false≢true (unfold ordered in e))
-first-in (k ∷ ks) [] d e =
-    first-in ks [] (and_right (absent k ks) (distinct ks) (unfold distinct in d)) (unfold ordered in refl) ∙ (unfold firstIn in unfold applied in refl)
-first-in (k ∷ ks) (r ∷ rest) d e =
+pub first_in_lem : (ks : List ℕ) (l : List Reason) → distinct ks ≡ true → ordered ks l ≡ true → first l ≡ first_in ks (λ k. applied k l)
+first_in_lem [] [] d e = unfold first in unfold first_in in refl
+first_in_lem [] (r ∷ rest) d e = absurd (false≢true (unfold ordered in e))
+first_in_lem (k ∷ ks) [] d e =
+    first_in_lem ks [] (and_right (absent k ks) (distinct ks) (unfold distinct in d)) (unfold ordered in refl) ∙ (unfold first_in in unfold applied in refl)
+first_in_lem (k ∷ ks) (r ∷ rest) d e =
     go (eqb k r.number) refl (unfold ordered in e)
-    (λ y. next-in k ks r.applies rest (and_left (absent k ks) (distinct ks) (unfold distinct in d)) y (first-in ks rest (and_right (absent k ks) (distinct ks) (unfold distinct in d)) y))
-    (λ y. first-in ks (r ∷ rest) (and_right (absent k ks) (distinct ks) (unfold distinct in d)) y)
+    (λ y. next_in k ks r.applies rest (and_left (absent k ks) (distinct ks) (unfold distinct in d)) y (first_in_lem ks rest (and_right (absent k ks) (distinct ks) (unfold distinct in d)) y))
+    (λ y. first_in_lem ks (r ∷ rest) (and_right (absent k ks) (distinct ks) (unfold distinct in d)) y)
   where
     -- The number itself, or one that stands before it and has none.
     go : (b : Bool) → eqb k r.number ≡ b → pick b (ordered ks rest) (ordered ks (r ∷ rest)) ≡ true
-        → (ordered ks rest ≡ true → first (reason k r.applies ∷ rest) ≡ firstIn (k ∷ ks) (λ j. applied j (reason k r.applies ∷ rest)))
-        → (ordered ks (r ∷ rest) ≡ true → first (r ∷ rest) ≡ firstIn ks (λ j. applied j (r ∷ rest)))
-        → first (r ∷ rest) ≡ firstIn (k ∷ ks) (λ j. applied j (r ∷ rest))
+        → (ordered ks rest ≡ true → first (reason k r.applies ∷ rest) ≡ first_in (k ∷ ks) (λ j. applied j (reason k r.applies ∷ rest)))
+        → (ordered ks (r ∷ rest) ≡ true → first (r ∷ rest) ≡ first_in ks (λ j. applied j (r ∷ rest)))
+        → first (r ∷ rest) ≡ first_in (k ∷ ks) (λ j. applied j (r ∷ rest))
     go true x y here there =
-        subst (λ n. first (reason n r.applies ∷ rest) ≡ firstIn (k ∷ ks) (λ j. applied j (reason n r.applies ∷ rest))) (eqb-true k r.number x) (here y)
+        subst (λ n. first (reason n r.applies ∷ rest) ≡ first_in (k ∷ ks) (λ j. applied j (reason n r.applies ∷ rest))) (eqb-true k r.number x) (here y)
     go false x y here there =
-        there y ∙ sym (unfold firstIn in pick_no (applied k (r ∷ rest)) k (firstIn ks (λ j. applied j (r ∷ rest))) (outside k ks (r ∷ rest) y (and_left (absent k ks) (distinct ks) (unfold distinct in d))))
+        there y ∙ sym (unfold first_in in pick_no (applied k (r ∷ rest)) k (first_in ks (λ j. applied j (r ∷ rest))) (outside k ks (r ∷ rest) y (and_left (absent k ks) (distinct ks) (unfold distinct in d))))
 
 -- What holds of every number of the order holds of the one that is found, if any is.
 pub first_passes : (P : ℕ → Bool) (ks : List ℕ) (l : List Reason) → all P ks ≡ true → ordered ks l ≡ true → (first l ≡ 0) ⊎ (P (first l) ≡ true)

@@ -7,10 +7,10 @@ use Rattle.capabilities.specs.Lists.{pick}
 use Rattle.capabilities.specs.Refusals.{Reason, reason, first}
 
 -- No reason applied: the first one did not, and none of the rest. First of numbers, then of a list.
-pub pick-clear : (k : ℕ) (b : Bool) (rest : ℕ) → (k ≡ 0 → ⊥) → pick b k rest ≡ 0 → (b ≡ false) × (rest ≡ 0)
-pick-clear k true rest h e = absurd (h e)
-pick-clear k false rest h e = (refl, e)
+pub pick_clear : (k : ℕ) (b : Bool) (rest : ℕ) → (k ≡ 0 → ⊥) → pick b k rest ≡ 0 → (b ≡ false) × (rest ≡ 0)
+pick_clear k true rest h e = absurd (h e)
+pick_clear k false rest h e = (refl, e)
 
-pub first-clear : (k : ℕ) (b : Bool) (rest : List Reason) → (k ≡ 0 → ⊥) → first (reason k b ∷ rest) ≡ 0 → (b ≡ false) × (first rest ≡ 0)
+pub first_clear : (k : ℕ) (b : Bool) (rest : List Reason) → (k ≡ 0 → ⊥) → first (reason k b ∷ rest) ≡ 0 → (b ≡ false) × (first rest ≡ 0)
 unfolding first
-first-clear k b rest h e = pick-clear k b (first rest) h e
+first_clear k b rest h e = pick_clear k b (first rest) h e

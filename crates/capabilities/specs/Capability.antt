@@ -9,19 +9,19 @@ base_of c = c % 65536
 abbrev pub length_of : ℕ → ℕ
 length_of c = c / 65536 % 65536
 
-abbrev pub permissionsOf : ℕ → ℕ
-permissionsOf c = c / 4294967296 % 256
+abbrev pub permissions_of : ℕ → ℕ
+permissions_of c = c / 4294967296 % 256
 
 -- "Permission 1 is load, 2 store, 4 load capability, 8 store capability."
 abbrev pub permits : ℕ → ℕ → Bool
-permits c permission = eqb (permissionsOf c / permission % 2) 1
+permits c permission = eqb (permissions_of c / permission % 2) 1
 
 abbrev pub capability : ℕ → ℕ → ℕ → ℕ
 capability base length permissions = base + 65536 * length + 4294967296 * permissions
 
 -- 0D: "base + off, len, and the permissions that are also in mask."
 abbrev pub narrowed : ℕ → ℕ → ℕ → ℕ → ℕ
-narrowed c off len mask = capability ((base_of c + off) % 65536) len (bit_and (permissionsOf c) mask)
+narrowed c off len mask = capability ((base_of c + off) % 65536) len (bit_and (permissions_of c) mask)
 
 -- Document 02, 2026-01, 11: "the permissions in 15 that are also in mask".
 abbrev pub permitted : ℕ → ℕ

@@ -12,9 +12,9 @@ each P n [] = true
 each P n (x ∷ l) = P n x && each P (suc n) l
 
 -- Every entry is replaced by what f makes of its number and itself; the first entry's number is n.
-unfoldable pub mapEach : {A B : Type 0} → (ℕ → A → B) → ℕ → List A → List B
-mapEach f n [] = []
-mapEach f n (x ∷ l) = f n x ∷ mapEach f (suc n) l
+unfoldable pub map_each : {A B : Type 0} → (ℕ → A → B) → ℕ → List A → List B
+map_each f n [] = []
+map_each f n (x ∷ l) = f n x ∷ map_each f (suc n) l
 
 -- Every entry passes the test.
 unfoldable pub all : {A : Type 0} → (A → Bool) → List A → Bool

@@ -7,5 +7,5 @@ unfoldable pub inside : Range → ℕ → Bool
 inside r c = leb r.base c && ltb c (r.base + r.length)
 
 -- A page lies in a range of whole pages if its first cell does.
-abbrev pub pageInside : Range → ℕ → Bool
-pageInside r p = inside r (16 * p)
+abbrev pub page_inside : Range → ℕ → Bool
+page_inside r p = inside r (16 * p)

@@ -21,6 +21,6 @@ applied k [] = false
 applied k (r ∷ rest) = (eqb r.number k && r.applies) || applied k rest
 
 -- The first number of a list that passes a test, or 0 if none does.
-unfoldable pub firstIn : List ℕ → (ℕ → Bool) → ℕ
-firstIn [] passes = 0
-firstIn (k ∷ rest) passes = pick (passes k) k (firstIn rest passes)
+unfoldable pub first_in : List ℕ → (ℕ → Bool) → ℕ
+first_in [] passes = 0
+first_in (k ∷ rest) passes = pick (passes k) k (first_in rest passes)

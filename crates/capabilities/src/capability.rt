@@ -1,6 +1,6 @@
 // A capability is a number: its base in bits 0 to 15, its length in 16 to 31, its permissions in 32 to 39.
 ghost use Rattle.std.specs.Prelude.{◌≡◌};
-ghost use Rattle.capabilities.specs.Capability.{base_of, length_of, permissionsOf, permits, capability, narrowed, permitted};
+ghost use Rattle.capabilities.specs.Capability.{base_of, length_of, permissions_of, permits, capability, narrowed, permitted};
 
 pub fn base_of(cell: u64) -> u16
     ensures { result ≡ base_of cell }
@@ -15,7 +15,7 @@ pub fn length_of(cell: u64) -> u16
 }
 
 pub fn permissions_of(cell: u64) -> u8
-    ensures { result ≡ permissionsOf cell }
+    ensures { result ≡ permissions_of cell }
 {
     (cell / 4294967296 % 256) as u8
 }

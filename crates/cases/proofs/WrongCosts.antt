@@ -4,31 +4,31 @@ use mathlib.Core.Path.{◌≡◌, refl, sym, ◌∙◌}
 use Rattle.capabilities.specs.Lists.{same, all}
 use Rattle.capabilities.proofs.Choice.{and_left}
 use Rattle.capabilities.proofs.Lists.{every}
-use Rattle.claims.specs.Cost.{claimants, costOf}
-use Rattle.machine.specs.Forgetting.{startBare}
-use Rattle.machine.specs.Cost.{costReasons, costBy, pageCost}
+use Rattle.claims.specs.Cost.{claimants, cost_of}
+use Rattle.machine.specs.Forgetting.{start_bare}
+use Rattle.machine.specs.Cost.{cost_reasons, cost_by, page_cost}
 use Rattle.cases.specs.Edges.{apart}
-use Rattle.cases.specs.CostCases.{claimedBy, sharedBy, Query, numbers, meets, cases, askedBy, countsClaims, leavesN, divides15, paysNobody, roundsUp, takesPageV, takesAll, pageFirst, answersAlike, Wrong, queries, Answers, differs, shown, NoneAnswers}
+use Rattle.cases.specs.CostCases.{claimed_by, shared_by, Query, numbers, meets, cases, asked_by, counts_claims, leaves_n, divides15, pays_nobody, rounds_up, takes_page_v, takes_all, page_first, answers_alike, Wrong, queries, Answers, differs, shown, NoneAnswers}
 use Rattle.machine.proofs.Computing.{computing}
-use Rattle.cases.proofs.WrongMachines.{not-apart}
+use Rattle.cases.proofs.WrongMachines.{not_apart}
 
 pub all_meet : all meets cases ≡ true
-unfolding all meets cases numbers same claimedBy sharedBy startBare claimants costOf costReasons costBy pageCost computing
+unfolding all meets cases numbers same claimed_by shared_by start_bare claimants cost_of cost_reasons cost_by page_cost computing
 all_meet = refl
 
 -- The shape with the rule's own parts is the rule.
-pub asked-rule : Answers (askedBy costReasons claimants costOf)
-unfolding askedBy costBy pageCost
-asked-rule s n = refl
+pub asked_rule : Answers (asked_by cost_reasons claimants cost_of)
+unfolding asked_by cost_by page_cost
+asked_rule s n = refl
 
 pub all_shown : all shown queries ≡ true
-unfolding all shown queries differs apart numbers same askedBy countsClaims leavesN divides15 paysNobody roundsUp takesPageV takesAll pageFirst answersAlike claimedBy sharedBy startBare claimants costOf costReasons costBy pageCost computing
+unfolding all shown queries differs apart numbers same asked_by counts_claims leaves_n divides15 pays_nobody rounds_up takes_page_v takes_all page_first answers_alike claimed_by shared_by start_bare claimants cost_of cost_reasons cost_by page_cost computing
 all_shown = refl
 
 -- A query that answers what the rule answers does not differ from it.
 answering : (q : Query) (w : Wrong) → Answers q → differs q w ≡ false
 unfolding differs
-answering q w is = not-apart numbers (q w.state w.page) (pageCost w.state w.page) (is w.state w.page)
+answering q w is = not_apart numbers (q w.state w.page) (page_cost w.state w.page) (is w.state w.page)
 
 misanswers : (w : Wrong) → shown w ≡ true → Answers w.wrong → ⊥
 unfolding shown

@@ -20,17 +20,17 @@ abbrev pub edge : ℕ → ℕ → List Call → List ℕ → Case
 edge v f calls expected = record { v = v; f = f; calls = calls; expected = expected }
 
 -- The code of each call. "Every call .. gets the state that the one before handed back and the lent memory that it left."
-unfoldable pub codesFrom : State → List ℕ → List ℕ → List Call → List ℕ
-codesFrom s cells tags [] = []
-codesFrom s cells tags (c ∷ rest) =
+unfoldable pub codes_from : State → List ℕ → List ℕ → List Call → List ℕ
+codes_from s cells tags [] = []
+codes_from s cells tags (c ∷ rest) =
     let o = step_of s c cells tags in
-    o.answer.code ∷ codesFrom o.answer.state o.cells o.tags rest
+    o.answer.code ∷ codes_from o.answer.state o.cells o.tags rest
 
 -- The codes of a start and of calls over zeroed lent memory of 16 × F cells and tags.
 unfoldable pub codes : ℕ → ℕ → List Call → List ℕ
 codes v f calls =
     let a = start_of v f in
-    a.code ∷ codesFrom a.state (replicate (16 * f) 0) (replicate (16 * f) 0) calls
+    a.code ∷ codes_from a.state (replicate (16 * f) 0) (replicate (16 * f) 0) calls
 
 -- Two things with different numbers.
 unfoldable pub apart : {A : Type 0} → (A → List ℕ) → A → A → Bool

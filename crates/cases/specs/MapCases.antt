@@ -3,24 +3,24 @@ use Rattle.std.specs.Prelude.{ℕ, zero, suc, ◌+◌, ◌-◌, Bool, List, [], 
 use Rattle.capabilities.specs.Lists.{same}
 use Rattle.table.specs.declared.Reservation.{Reservation}
 use Rattle.table.specs.declared.ReservationState.TheVariants.{Open, Taken, Revoking}
-use Rattle.table.specs.Rows.{noTaker, reservation}
+use Rattle.table.specs.Rows.{no_taker, reservation}
 use Rattle.maps.specs.declared.Question.{Question}
 use Rattle.maps.specs.declared.Question.TheVariants.{Sharing, Within, Nearest}
-use Rattle.maps.specs.Questions.{answer, Response, response, askOf}
+use Rattle.maps.specs.Questions.{answer, Response, response, ask_of}
 
--- What answers questions: the type of the rule `askOf`.
+-- What answers questions: the type of the rule `ask_of`.
 abbrev pub Program : Type 0
 Program = List Reservation → Question → List ℕ → Response
 
 -- ---- Records and slices
 abbrev pub open_at : ℕ → ℕ → Reservation
-open_at base length = reservation base length Open 0 noTaker
+open_at base length = reservation base length Open 0 no_taker
 
-abbrev pub takenAt : ℕ → ℕ → Reservation
-takenAt base length = reservation base length Taken 0 1
+abbrev pub taken_at : ℕ → ℕ → Reservation
+taken_at base length = reservation base length Taken 0 1
 
-abbrev pub revokingAt : ℕ → ℕ → Reservation
-revokingAt base length = reservation base length Revoking 0 1
+abbrev pub revoking_at : ℕ → ℕ → Reservation
+revoking_at base length = reservation base length Revoking 0 1
 
 -- So many numbers, each a step above the one before it.
 unfoldable pub stepping : ℕ → ℕ → ℕ → List ℕ
@@ -33,7 +33,7 @@ alike n length = map (λ b. open_at b length) (stepping n 0 length)
 
 -- Six that end at cell 100, no multiple of 16. The Open ones are cells 0 to 9, 20 to 24 and 40 to 59.
 unfoldable pub mixed : List Reservation
-mixed = open_at 0 10 ∷ takenAt 10 10 ∷ open_at 20 5 ∷ revokingAt 25 15 ∷ open_at 40 20 ∷ takenAt 60 40 ∷ []
+mixed = open_at 0 10 ∷ taken_at 10 10 ∷ open_at 20 5 ∷ revoking_at 25 15 ∷ open_at 40 20 ∷ taken_at 60 40 ∷ []
 
 unfoldable pub slice : ℕ → List ℕ
 slice n = replicate n 7
@@ -58,13 +58,13 @@ lists l q count bases = record { records = l; question = q; bases = slice 64; ex
 abbrev pub finds : List Reservation → ℕ → ℕ → ℕ → Case
 finds l cell cells base = record { records = l; question = Nearest cell cells; bases = slice 2; expected = response (answer 0 1 base) (slice 2) }
 
-abbrev pub findsNone : List Reservation → ℕ → ℕ → Case
-findsNone l cell cells = record { records = l; question = Nearest cell cells; bases = slice 2; expected = response (answer 0 0 0) (slice 2) }
+abbrev pub finds_none : List Reservation → ℕ → ℕ → Case
+finds_none l cell cells = record { records = l; question = Nearest cell cells; bases = slice 2; expected = response (answer 0 0 0) (slice 2) }
 
 -- ---- The cases
 -- What 25 names of the records.
-unfoldable pub badRecordCases : List Case
-badRecordCases =
+unfoldable pub bad_record_cases : List Case
+bad_record_cases =
     -- "The records are none or over 64, have a length 0": all else is as it should be.
     refuses [] (Nearest 0 1) (slice 64)
     ∷ refuses (alike 65 1) (Sharing 0 1) (slice 64)
@@ -77,8 +77,8 @@ badRecordCases =
     ∷ refuses (open_at 0 4096 ∷ open_at 4096 1 ∷ []) (Nearest 0 1) (slice 64) ∷ []
 
 -- What 25 names of the question and of the slice.
-unfoldable pub badQuestionCases : List Case
-badQuestionCases =
+unfoldable pub bad_question_cases : List Case
+bad_question_cases =
     -- "The range is empty or runs past the end": there is no cell 100. In 64 bits 2⁶⁴ − 1 and 2 would add up to 1.
     refuses mixed (Sharing 5 0) (slice 64)
     ∷ refuses mixed (Within 5 0) (slice 64)
@@ -89,8 +89,8 @@ badQuestionCases =
     -- "n is 0, or a slice for a list is below 64".
     ∷ refuses mixed (Nearest 5 0) (slice 64) ∷ refuses mixed (Sharing 0 100) (slice 63) ∷ refuses mixed (Within 42 5) (slice 63) ∷ []
 
-unfoldable pub listCases : List Case
-listCases =
+unfoldable pub list_cases : List Case
+list_cases =
     -- Cells 10 to 59 are four records; cells 9 to 60 share a cell with the record before and the one after, cells 9 to 58 don't hold the last.
     lists mixed (Sharing 10 50) 4 (10 ∷ 20 ∷ 25 ∷ 40 ∷ [])
     ∷ lists mixed (Within 10 50) 4 (10 ∷ 20 ∷ 25 ∷ 40 ∷ [])
@@ -114,8 +114,8 @@ listCases =
     ∷ lists (reservation 0 10 Taken 200 77 ∷ []) (Sharing 0 1) 1 (0 ∷ [])
     ∷ record { records = mixed; question = Sharing 20 1; bases = slice 70; expected = response (answer 0 1 0) (20 ∷ slice 69) } ∷ []
 
-unfoldable pub nearestCases : List Case
-nearestCases =
+unfoldable pub nearest_cases : List Case
+nearest_cases =
     -- "0 inside": the first, a middle and the last cell of 40 to 59.
     finds mixed 40 1 40
     ∷ finds mixed 45 1 40
@@ -135,22 +135,22 @@ nearestCases =
     ∷ finds mixed 18446744073709551615 10 40
     -- The longest Open one has 20 cells; a Taken one has 40.
     ∷ finds mixed 0 20 40
-    ∷ findsNone mixed 0 21
-    ∷ findsNone mixed 70 40
-    ∷ findsNone (takenAt 0 10 ∷ revokingAt 10 10 ∷ []) 0 1
+    ∷ finds_none mixed 0 21
+    ∷ finds_none mixed 70 40
+    ∷ finds_none (taken_at 0 10 ∷ revoking_at 10 10 ∷ []) 0 1
     -- Two Open ones that touch; as many records as there may be.
     ∷ finds (alike 2 8) 8 1 8 ∷ finds (alike 64 64) 4095 64 4032 ∷ finds (alike 64 64) 5000 64 4032 ∷ []
 
 unfoldable pub cases : List Case
-cases = badRecordCases ++ (badQuestionCases ++ (listCases ++ nearestCases))
+cases = bad_record_cases ++ (bad_question_cases ++ (list_cases ++ nearest_cases))
 
 -- ---- Meeting them
 unfoldable pub numbers : Response → List ℕ
 numbers o = o.answer.code ∷ o.answer.count ∷ o.answer.base ∷ o.bases
 
 -- A program leaves what the case expects.
-unfoldable pub meetsBy : Program → Case → Bool
-meetsBy program c = same (numbers (program c.records c.question c.bases)) (numbers c.expected)
+unfoldable pub meets_by : Program → Case → Bool
+meets_by program c = same (numbers (program c.records c.question c.bases)) (numbers c.expected)
 
 unfoldable pub meets : Case → Bool
-meets c = meetsBy askOf c
+meets c = meets_by ask_of c

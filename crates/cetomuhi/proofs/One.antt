@@ -10,25 +10,25 @@ use Rattle.calls.proofs.Inputs.{past_the_end}
 use Rattle.words.specs.Words.{empty}
 use Rattle.arrays.specs.declared.Arrays.{Arrays}
 use Rattle.arrays.specs.Steps.{answer, leaving}
-use Rattle.formed.specs.Test.{formedOf}
+use Rattle.formed.specs.Test.{formed_of}
 use Rattle.formed.proofs.Tested.{tested}
-use Rattle.step.specs.Entries.{RanOn, ranOn, commandOn}
-use Rattle.entries.specs.Runs.{Run, answerNumbers, run_of, runOn, runIn}
-use Rattle.step.proofs.Commanding.{fits, command-none, command-unfit, command-unformed, command-formed}
-use Rattle.entries.proofs.Composing.{once, run-one}
-use Rattle.cetomuhi.specs.Exports.{endCode}
+use Rattle.step.specs.Entries.{RanOn, ran_on, command_on}
+use Rattle.entries.specs.Runs.{Run, answer_numbers, run_of, run_on, run_in}
+use Rattle.step.proofs.Commanding.{fits, command_none, command_unfit, command_unformed, command_formed}
+use Rattle.entries.proofs.Composing.{once, run_one}
+use Rattle.cetomuhi.specs.Exports.{end_code}
 
 module _ (a : Arrays) (input : List ℕ) (at : ℕ) (cells tags : List ℕ) where
   abbrev t : RanOn
-  t = commandOn a input at cells tags
+  t = command_on a input at cells tags
 
   -- A run with room for one answer is the command.
-  pub run-of-one : at < length input → (buffer : List ℕ) → length buffer ≡ 4 → runIn a input at cells tags buffer ≡ once at (commandOn a input at cells tags)
-  unfolding runIn
-  run-of-one h buffer e =
-      ap (λ (n : ℕ). laid (runOn (n / 4) a input at cells tags)) e
-      ∙ ap laid (run-one input a at cells tags h)
-      ∙ ap (λ (l : List ℕ). run_of 1 (at + t.used) t.left.arrays t.left.cells t.left.tags (answerNumbers t.left.answer t.used ++ l))
+  pub run_of_one : at < length input → (buffer : List ℕ) → length buffer ≡ 4 → run_in a input at cells tags buffer ≡ once at (command_on a input at cells tags)
+  unfolding run_in
+  run_of_one h buffer e =
+      ap (λ (n : ℕ). laid (run_on (n / 4) a input at cells tags)) e
+      ∙ ap laid (run_one input a at cells tags h)
+      ∙ ap (λ (l : List ℕ). run_of 1 (at + t.used) t.left.arrays t.left.cells t.left.tags (answer_numbers t.left.answer t.used ++ l))
       (drop_of_length-le buffer {i = 4} (omega (arith, e)))
     where
       laid : Run → Run
@@ -36,20 +36,20 @@ module _ (a : Arrays) (input : List ℕ) (at : ℕ) (cells tags : List ℕ) wher
 
   -- A refusal that leaves all as it is.
   abbrev turned : ℕ → RanOn
-  turned code = ranOn (leaving (answer code empty) a cells tags) 0
+  turned code = ran_on (leaving (answer code empty) a cells tags) 0
 
-  code_is : (b d : Bool) → formedOf a ≡ b → fits a cells tags ≡ d → endCode (formedOf a) a.nums.f cells tags ≡ pick (not b) 1 (pick (not d) 2 3)
-  unfolding endCode
+  code_is : (b d : Bool) → formed_of a ≡ b → fits a cells tags ≡ d → end_code (formed_of a) a.nums.f cells tags ≡ pick (not b) 1 (pick (not d) 2 3)
+  unfolding end_code
   code_is b d p q =
       ap (λ (x : Bool). pick (not x) 1 (pick (not (fits a cells tags)) 2 3)) p ∙ ap (λ (x : Bool). pick (not b) 1 (pick (not x) 2 3)) q
 
   -- Where no byte is left, a command is refused.
-  pub command-ended : length input ≤ at → turned (endCode (formedOf a) a.nums.f cells tags) ≡ commandOn a input at cells tags
-  command-ended h = go (formedOf a) (fits a cells tags) refl refl
+  pub command_ended : length input ≤ at → turned (end_code (formed_of a) a.nums.f cells tags) ≡ command_on a input at cells tags
+  command_ended h = go (formed_of a) (fits a cells tags) refl refl
     where
-      go : (b d : Bool) → formedOf a ≡ b → fits a cells tags ≡ d → turned (endCode (formedOf a) a.nums.f cells tags) ≡ t
+      go : (b d : Bool) → formed_of a ≡ b → fits a cells tags ≡ d → turned (end_code (formed_of a) a.nums.f cells tags) ≡ t
       go true true p q =
           ap turned (code_is true true p q)
-          ∙ command-formed a cells tags input at p (turned 3) (command-none a cells tags q input at (tested a p) (sym (past_the_end (drop_of_length-le input h)).is))
-      go true false p q = ap turned (code_is true false p q) ∙ command-formed a cells tags input at p (turned 2) (command-unfit a (tested a p) cells tags q input at)
-      go false d p q = ap turned (code_is false d p q) ∙ command-unformed a cells tags input at p
+          ∙ command_formed a cells tags input at p (turned 3) (command_none a cells tags q input at (tested a p) (sym (past_the_end (drop_of_length-le input h)).is))
+      go true false p q = ap turned (code_is true false p q) ∙ command_formed a cells tags input at p (turned 2) (command_unfit a (tested a p) cells tags q input at)
+      go false d p q = ap turned (code_is false d p q) ∙ command_unformed a cells tags input at p

@@ -14,106 +14,106 @@ use Rattle.words.specs.Words.{empty}
 use Rattle.machine.specs.Formed.{start_of}
 use Rattle.arrays.specs.declared.Arrays.{Arrays}
 use Rattle.arrays.specs.declared.Numbers.{Numbers}
-use Rattle.arrays.specs.Reading.{arrays, arraysOf}
+use Rattle.arrays.specs.Reading.{arrays, arrays_of}
 use Rattle.arrays.specs.Steps.{answer}
-use Rattle.formed.specs.Test.{formedOf, sized}
+use Rattle.formed.specs.Test.{formed_of, sized}
 use Rattle.formed.specs.Fresh.{Start, starting, start_in}
-use Rattle.step.specs.Entries.{RanOn, commandOn}
-use Rattle.entries.specs.Runs.{Run, answerNumbers, run_of, runIn}
-use Rattle.cetomuhi.specs.Lent.{Lent, lent, numbersFrom, numbersOver, arraysIn, arraysOver}
+use Rattle.step.specs.Entries.{RanOn, command_on}
+use Rattle.entries.specs.Runs.{Run, answer_numbers, run_of, run_in}
+use Rattle.cetomuhi.specs.Lent.{Lent, lent, numbers_from, numbers_over, arrays_in, arrays_over}
 use Rattle.cetomuhi.proofs.Writing.{lent_back}
-use Rattle.cetomuhi.proofs.One.{run-of-one, command-ended}
-use Rattle.cetomuhi.specs.Exports.{done, doneOne, endCode, reached, Started, started, startLent, commandLent, commandsLent}
+use Rattle.cetomuhi.proofs.One.{run_of_one, command_ended}
+use Rattle.cetomuhi.specs.Exports.{done, done_one, end_code, reached, Started, started, start_lent, command_lent, commands_lent}
 
 module _ (l : Lent) where
   -- What is lent, with the small numbers that were read from it.
-  abbrev with-numbers : Numbers → Arrays
-  with-numbers n = arrays n l.words l.marks l.mail l.flags l.rows l.pages l.frames l.principals l.counts
+  abbrev with_numbers : Numbers → Arrays
+  with_numbers n = arrays n l.words l.marks l.mail l.flags l.rows l.pages l.frames l.principals l.counts
 
   abbrev over : List ℕ → Arrays → Lent
   over numbers b = lent numbers b.words b.marks b.mail b.flags b.rows b.pages b.frames b.principals b.counts
 
   abbrev fit : Bool
-  fit = eqb (length l.numbers) 6 && sized (arraysIn l)
+  fit = eqb (length l.numbers) 6 && sized (arrays_in l)
 
   module _ (v f : ℕ) where
     abbrev yes : Started
-    yes = started (start_of v f).code (arraysOver (arraysOf (start_of v f).state) l)
+    yes = started (start_of v f).code (arrays_over (arrays_of (start_of v f).state) l)
 
     abbrev start : Start
-    start = starting (start_of v f).code (arraysOf (start_of v f).state)
+    start = starting (start_of v f).code (arrays_of (start_of v f).state)
 
-    kept : fit ≡ false → started 1 l ≡ startLent v f l
-    unfolding startLent
+    kept : fit ≡ false → started 1 l ≡ start_lent v f l
+    unfolding start_lent
     kept e = sym (pick_no fit yes (started 1 l) e)
 
-    pub start-other : length l.numbers ≢ 6 → started 1 l ≡ startLent v f l
-    start-other h = kept (ap (λ (x : Bool). x && sized (arraysIn l)) (ne_eqb (length l.numbers) 6 h))
+    pub start_other : length l.numbers ≢ 6 → started 1 l ≡ start_lent v f l
+    start_other h = kept (ap (λ (x : Bool). x && sized (arrays_in l)) (ne_eqb (length l.numbers) 6 h))
 
-    pub start-six : length l.numbers ≡ 6 → (n : Numbers) → n ≡ numbersFrom l.numbers
-        → (k : ℕ) (b : Arrays) → starting k b ≡ start_in v f (with-numbers n)
-        → (numbers : List ℕ) → numbers ≡ numbersOver b.nums l.numbers → started k (over numbers b) ≡ startLent v f l
-    unfolding startLent start_in
-    start-six h n e k b d numbers q =
+    pub start_six : length l.numbers ≡ 6 → (n : Numbers) → n ≡ numbers_from l.numbers
+        → (k : ℕ) (b : Arrays) → starting k b ≡ start_in v f (with_numbers n)
+        → (numbers : List ℕ) → numbers ≡ numbers_over b.nums l.numbers → started k (over numbers b) ≡ start_lent v f l
+    unfolding start_lent start_in
+    start_six h n e k b d numbers q =
         ap (λ (x : List ℕ). started k (over x b)) q
-        ∙ ap (λ (x : Start). started x.code (arraysOver x.arrays l)) (d ∙ ap (λ (x : Numbers). start_in v f (with-numbers x)) e) ∙ go (sized (arraysIn l)) refl
+        ∙ ap (λ (x : Start). started x.code (arrays_over x.arrays l)) (d ∙ ap (λ (x : Numbers). start_in v f (with_numbers x)) e) ∙ go (sized (arrays_in l)) refl
       where
-        six : (b : Bool) → sized (arraysIn l) ≡ b → fit ≡ b
-        six b z = ap (λ (x : Bool). x && sized (arraysIn l)) (eq-eqb (length l.numbers) 6 h) ∙ z
+        six : (b : Bool) → sized (arrays_in l) ≡ b → fit ≡ b
+        six b z = ap (λ (x : Bool). x && sized (arrays_in l)) (eq-eqb (length l.numbers) 6 h) ∙ z
 
-        go : (b : Bool) → sized (arraysIn l) ≡ b → started (start_in v f (arraysIn l)).code (arraysOver (start_in v f (arraysIn l)).arrays l) ≡ startLent v f l
+        go : (b : Bool) → sized (arrays_in l) ≡ b → started (start_in v f (arrays_in l)).code (arrays_over (start_in v f (arrays_in l)).arrays l) ≡ start_lent v f l
         go true z =
-            ap (λ (x : Start). started x.code (arraysOver x.arrays l)) (pick_yes (sized (arraysIn l)) start (starting 1 (arraysIn l)) z)
+            ap (λ (x : Start). started x.code (arrays_over x.arrays l)) (pick_yes (sized (arrays_in l)) start (starting 1 (arrays_in l)) z)
             ∙ sym (pick_yes fit yes (started 1 l) (six true z))
         go false z =
-            ap (λ (x : Start). started x.code (arraysOver x.arrays l)) (pick_no (sized (arraysIn l)) start (starting 1 (arraysIn l)) z)
+            ap (λ (x : Start). started x.code (arrays_over x.arrays l)) (pick_no (sized (arrays_in l)) start (starting 1 (arrays_in l)) z)
             ∙ ap (started 1) (lent_back l) ∙ kept (six false z)
 
   module _ (input : List ℕ) (at : ℕ) (cells tags answers : List ℕ) where
     abbrev t : RanOn
-    t = commandOn (arraysIn l) input at cells tags
+    t = command_on (arrays_in l) input at cells tags
 
-    pub command-none : length answers < 4 → done 0 l cells tags answers ≡ commandLent l input at cells tags answers
-    unfolding commandLent
-    command-none h = sym (pick_no (leb 4 (length answers)) (doneOne t l answers) (done 0 l cells tags answers) (lt-leb 4 (length answers) h))
+    pub command_none : length answers < 4 → done 0 l cells tags answers ≡ command_lent l input at cells tags answers
+    unfolding command_lent
+    command_none h = sym (pick_no (leb 4 (length answers)) (done_one t l answers) (done 0 l cells tags answers) (lt-leb 4 (length answers) h))
 
-    one : 4 ≤ length answers → doneOne t l answers ≡ commandLent l input at cells tags answers
-    unfolding commandLent
-    one h = sym (pick_yes (leb 4 (length answers)) (doneOne t l answers) (done 0 l cells tags answers) (le-leb 4 (length answers) h))
+    one : 4 ≤ length answers → done_one t l answers ≡ command_lent l input at cells tags answers
+    unfolding command_lent
+    one h = sym (pick_yes (leb 4 (length answers)) (done_one t l answers) (done 0 l cells tags answers) (le-leb 4 (length answers) h))
 
     -- A run of one, whose answer was put into the first four.
-    pub command-ran : 4 ≤ length answers → at < length input → (n : Numbers) → n ≡ numbersFrom l.numbers
-        → (k at' : ℕ) (b : Arrays) (cells' tags' front : List ℕ) → run_of k at' b cells' tags' front ≡ runIn (with-numbers n) input at cells tags (take 4 answers)
-        → (numbers : List ℕ) → numbers ≡ numbersOver b.nums l.numbers
-        → done k (over numbers b) cells' tags' (front ++ drop 4 answers) ≡ commandLent l input at cells tags answers
-    command-ran h m n e k at' b cells' tags' front d numbers q =
+    pub command_ran : 4 ≤ length answers → at < length input → (n : Numbers) → n ≡ numbers_from l.numbers
+        → (k at' : ℕ) (b : Arrays) (cells' tags' front : List ℕ) → run_of k at' b cells' tags' front ≡ run_in (with_numbers n) input at cells tags (take 4 answers)
+        → (numbers : List ℕ) → numbers ≡ numbers_over b.nums l.numbers
+        → done k (over numbers b) cells' tags' (front ++ drop 4 answers) ≡ command_lent l input at cells tags answers
+    command_ran h m n e k at' b cells' tags' front d numbers q =
         ap (λ (x : List ℕ). done k (over x b) cells' tags' (front ++ drop 4 answers)) q
-        ∙ ap (λ (x : Run). done x.done (arraysOver x.arrays l) x.cells x.tags (x.answers ++ drop 4 answers))
-        (d ∙ ap (λ (x : Numbers). runIn (with-numbers x) input at cells tags (take 4 answers)) e ∙ run-of-one (arraysIn l) input at cells tags m (take 4 answers) (length-take-le 4 answers h))
+        ∙ ap (λ (x : Run). done x.done (arrays_over x.arrays l) x.cells x.tags (x.answers ++ drop 4 answers))
+        (d ∙ ap (λ (x : Numbers). run_in (with_numbers x) input at cells tags (take 4 answers)) e ∙ run_of_one (arrays_in l) input at cells tags m (take 4 answers) (length-take-le 4 answers h))
         ∙ one h
 
-    abbrev refused-first : ℕ → List ℕ
-    refused-first code = answerNumbers (answer code empty) 0 ++ drop 4 answers
+    abbrev refused_first : ℕ → List ℕ
+    refused_first code = answer_numbers (answer code empty) 0 ++ drop 4 answers
 
     -- A refusal where no byte is left.
-    pub command-turned : 4 ≤ length answers → length input ≤ at → (n : Numbers) → n ≡ numbersFrom l.numbers
-        → (good : Bool) → good ≡ formedOf (with-numbers n)
-        → (k : ℕ) → k ≡ 1 → (answers' : List ℕ) → answers' ≡ refused-first (endCode good n.f cells tags)
-        → done k l cells tags answers' ≡ commandLent l input at cells tags answers
-    command-turned h m n e good d k q answers' p =
+    pub command_turned : 4 ≤ length answers → length input ≤ at → (n : Numbers) → n ≡ numbers_from l.numbers
+        → (good : Bool) → good ≡ formed_of (with_numbers n)
+        → (k : ℕ) → k ≡ 1 → (answers' : List ℕ) → answers' ≡ refused_first (end_code good n.f cells tags)
+        → done k l cells tags answers' ≡ command_lent l input at cells tags answers
+    command_turned h m n e good d k q answers' p =
         ap (λ (x : ℕ). done x l cells tags answers') q
         ∙ ap (λ (x : List ℕ). done 1 l cells tags x)
-        (p ∙ ap (λ (x : Bool). refused-first (endCode x n.f cells tags)) d
-        ∙ ap (λ (x : Numbers). refused-first (endCode (formedOf (with-numbers x)) x.f cells tags)) e)
-        ∙ ap (λ (x : Lent). done 1 x cells tags (refused-first (endCode (formedOf (arraysIn l)) (arraysIn l).nums.f cells tags))) (sym (lent_back l))
-        ∙ ap (λ (x : RanOn). doneOne x l answers) (command-ended (arraysIn l) input at cells tags m)
+        (p ∙ ap (λ (x : Bool). refused_first (end_code x n.f cells tags)) d
+        ∙ ap (λ (x : Numbers). refused_first (end_code (formed_of (with_numbers x)) x.f cells tags)) e)
+        ∙ ap (λ (x : Lent). done 1 x cells tags (refused_first (end_code (formed_of (arrays_in l)) (arrays_in l).nums.f cells tags))) (sym (lent_back l))
+        ∙ ap (λ (x : RanOn). done_one x l answers) (command_ended (arrays_in l) input at cells tags m)
         ∙ one h
 
-    pub commands-ran : (n : Numbers) → n ≡ numbersFrom l.numbers
-        → (k at' : ℕ) (b : Arrays) (cells' tags' answers' : List ℕ) → run_of k at' b cells' tags' answers' ≡ runIn (with-numbers n) input at cells tags answers
-        → (numbers : List ℕ) → numbers ≡ numbersOver b.nums l.numbers
-        → reached at' (done k (over numbers b) cells' tags' answers') ≡ commandsLent l input at cells tags answers
-    unfolding commandsLent
-    commands-ran n e k at' b cells' tags' answers' d numbers q =
+    pub commands_ran : (n : Numbers) → n ≡ numbers_from l.numbers
+        → (k at' : ℕ) (b : Arrays) (cells' tags' answers' : List ℕ) → run_of k at' b cells' tags' answers' ≡ run_in (with_numbers n) input at cells tags answers
+        → (numbers : List ℕ) → numbers ≡ numbers_over b.nums l.numbers
+        → reached at' (done k (over numbers b) cells' tags' answers') ≡ commands_lent l input at cells tags answers
+    unfolding commands_lent
+    commands_ran n e k at' b cells' tags' answers' d numbers q =
         ap (λ (x : List ℕ). reached at' (done k (over x b) cells' tags' answers')) q
-        ∙ ap (λ (x : Run). reached x.at (done x.done (arraysOver x.arrays l) x.cells x.tags x.answers)) (d ∙ ap (λ (x : Numbers). runIn (with-numbers x) input at cells tags answers) e)
+        ∙ ap (λ (x : Run). reached x.at (done x.done (arrays_over x.arrays l) x.cells x.tags x.answers)) (d ∙ ap (λ (x : Numbers). run_in (with_numbers x) input at cells tags answers) e)

@@ -27,18 +27,18 @@ abbrev pub small : ℕ → ℕ → ℕ → ℕ → ℕ → ℕ → Numbers
 small v f count place base length = record { v = v; f = f; count = count; place = place; base = base; length = length }
 
 -- There are six small numbers. Another count of them reads as all 0, which is no well-formed state.
-unfoldable pub numbersFrom : List ℕ → Numbers
-numbersFrom l =
+unfoldable pub numbers_from : List ℕ → Numbers
+numbers_from l =
     pick (eqb (length l) 6) (small (get_or l 0 0) (get_or l 1 0) (get_or l 2 0) (get_or l 3 0) (get_or l 4 0) (get_or l 5 0)) (small 0 0 0 0 0 0)
 
 -- Small numbers written over a list of six; a list of another length is kept.
-unfoldable pub numbersOver : Numbers → List ℕ → List ℕ
-numbersOver n l =
+unfoldable pub numbers_over : Numbers → List ℕ → List ℕ
+numbers_over n l =
     pick (eqb (length l) 6) (n.v ∷ n.f ∷ n.count ∷ n.place ∷ n.base ∷ n.length ∷ []) l
 
 -- What is lent as arrays, and arrays written over it.
-abbrev pub arraysIn : Lent → Arrays
-arraysIn l = arrays (numbersFrom l.numbers) l.words l.marks l.mail l.flags l.rows l.pages l.frames l.principals l.counts
+abbrev pub arrays_in : Lent → Arrays
+arrays_in l = arrays (numbers_from l.numbers) l.words l.marks l.mail l.flags l.rows l.pages l.frames l.principals l.counts
 
-abbrev pub arraysOver : Arrays → Lent → Lent
-arraysOver a l = lent (numbersOver a.nums l.numbers) a.words a.marks a.mail a.flags a.rows a.pages a.frames a.principals a.counts
+abbrev pub arrays_over : Arrays → Lent → Lent
+arrays_over a l = lent (numbers_over a.nums l.numbers) a.words a.marks a.mail a.flags a.rows a.pages a.frames a.principals a.counts

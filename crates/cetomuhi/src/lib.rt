@@ -6,10 +6,10 @@ ghost use Rattle.arrays.specs.Reading.{arrays};
 ghost use Rattle.claims.specs.Cost.{cost};
 ghost use Rattle.machine.specs.Cost.{costed};
 ghost use Rattle.arrays.specs.Steps.{answer as answering};
-ghost use Rattle.entries.specs.Runs.{answerNumbers};
-ghost use Rattle.operands.specs.Numbers.{answered, writeNumbers, readNumbers};
-ghost use Rattle.cetomuhi.specs.Lent.{lent, numbersOver};
-ghost use Rattle.cetomuhi.specs.Exports.{size_of, started, startLent, formedLent, costLent, done, endCode, commandLent, reached, commandsLent};
+ghost use Rattle.entries.specs.Runs.{answer_numbers};
+ghost use Rattle.operands.specs.Numbers.{answered, write_numbers, read_numbers};
+ghost use Rattle.cetomuhi.specs.Lent.{lent, numbers_over};
+ghost use Rattle.cetomuhi.specs.Exports.{size_of, started, start_lent, formed_lent, cost_lent, done, end_code, command_lent, reached, commands_lent};
 
 use crate::numbers::numbers_from;
 use arrays::{Answer, Numbers};
@@ -27,7 +27,7 @@ pub mod questions;
 // Writes the small numbers over those that are lent.
 fn put_numbers(numbers: &mut [u16], nums: Numbers)
     requires { (nums.count < 65536) × (nums.place < 65536) }
-    ensures { numbers.new ≡ numbersOver nums numbers.old }
+    ensures { numbers.new ≡ numbers_over nums numbers.old }
 {
     if numbers.len() == 6 {
         numbers[0] = nums.v;
@@ -42,7 +42,7 @@ fn put_numbers(numbers: &mut [u16], nums: Numbers)
 // Puts an answer first among the answers.
 fn put_answer(answers: &mut [u64], answer: Answer, used: usize)
     requires { 4 ≤ length answers.old }
-    ensures { answers.new ≡ answerNumbers answer used ++ drop 4 answers.old }
+    ensures { answers.new ≡ answer_numbers answer used ++ drop 4 answers.old }
 {
     answers[0] = answer.code as u64;
     answers[1] = answer.number;
@@ -54,7 +54,7 @@ fn put_answer(answers: &mut [u64], answer: Answer, used: usize)
 fn put_end(answers: &mut [u64], good: bool, f: u16, cells: &[u64], tags: &[u8]) -> usize
     requires { 4 ≤ length answers.old }
     ensures value { result ≡ 1 }
-    ensures answers_after { answers.new ≡ answerNumbers (answering (endCode good f cells.now tags.now) empty) 0 ++ drop 4 answers.old }
+    ensures answers_after { answers.new ≡ answer_numbers (answering (end_code good f cells.now tags.now) empty) 0 ++ drop 4 answers.old }
 {
     let size = 16 * (f as usize);
     let fits = (cells.len() == size) & (tags.len() == size);
@@ -102,7 +102,7 @@ pub extern "C" fn cetomuhi_start(
     principals: &mut [u64],
     counts: &mut [u16],
 ) -> u8
-    ensures { started result (lent numbers.new words.new marks.new mail.new flags.new rows.new pages.new frames.new principals.new counts.new) ≡ startLent v f (lent numbers.old words.old marks.old mail.old flags.old rows.old pages.old frames.old principals.old counts.old) }
+    ensures { started result (lent numbers.new words.new marks.new mail.new flags.new rows.new pages.new frames.new principals.new counts.new) ≡ start_lent v f (lent numbers.old words.old marks.old mail.old flags.old rows.old pages.old frames.old principals.old counts.old) }
 {
     if numbers.len() != 6 {
         return 1;
@@ -130,7 +130,7 @@ pub extern "C" fn cetomuhi_well_formed(
     principals: &[u64],
     counts: &[u16],
 ) -> bool
-    ensures { result ≡ formedLent (lent numbers.now words.now marks.now mail.now flags.now rows.now pages.now frames.now principals.now counts.now) }
+    ensures { result ≡ formed_lent (lent numbers.now words.now marks.now mail.now flags.now rows.now pages.now frames.now principals.now counts.now) }
 {
     let nums = numbers_from(numbers);
     formed(
@@ -155,7 +155,7 @@ pub extern "C" fn cetomuhi_page_cost(
     share: &mut u64,
     remainder: &mut u64,
 ) -> u8
-    ensures { costed result (cost share.new remainder.new) ≡ costLent (lent numbers.now words.now marks.now mail.now flags.now rows.now pages.now frames.now principals.now counts.now) page }
+    ensures { costed result (cost share.new remainder.new) ≡ cost_lent (lent numbers.now words.now marks.now mail.now flags.now rows.now pages.now frames.now principals.now counts.now) page }
 {
     let nums = numbers_from(numbers);
     let asked = page_cost(
@@ -187,7 +187,7 @@ pub extern "C" fn cetomuhi_command(
     at: usize,
     answers: &mut [u64],
 ) -> usize
-    ensures { done result (lent numbers.new words.new marks.new mail.new flags.new rows.new pages.new frames.new principals.new counts.new) cells.new tags.new answers.new ≡ commandLent (lent numbers.old words.old marks.old mail.old flags.old rows.old pages.old frames.old principals.old counts.old) input.now at cells.old tags.old answers.old }
+    ensures { done result (lent numbers.new words.new marks.new mail.new flags.new rows.new pages.new frames.new principals.new counts.new) cells.new tags.new answers.new ≡ command_lent (lent numbers.old words.old marks.old mail.old flags.old rows.old pages.old frames.old principals.old counts.old) input.now at cells.old tags.old answers.old }
 {
     if answers.len() < 4 {
         return 0;
@@ -240,7 +240,7 @@ pub extern "C" fn cetomuhi_commands(
     at: &mut usize,
     answers: &mut [u64],
 ) -> usize
-    ensures { reached at.new (done result (lent numbers.new words.new marks.new mail.new flags.new rows.new pages.new frames.new principals.new counts.new) cells.new tags.new answers.new) ≡ commandsLent (lent numbers.old words.old marks.old mail.old flags.old rows.old pages.old frames.old principals.old counts.old) input.now at.old cells.old tags.old answers.old }
+    ensures { reached at.new (done result (lent numbers.new words.new marks.new mail.new flags.new rows.new pages.new frames.new principals.new counts.new) cells.new tags.new answers.new) ≡ commands_lent (lent numbers.old words.old marks.old mail.old flags.old rows.old pages.old frames.old principals.old counts.old) input.now at.old cells.old tags.old answers.old }
 {
     let nums = numbers_from(numbers);
     let begin = *at;
@@ -258,7 +258,7 @@ pub extern "C" fn cetomuhi_commands(
 // nothing is written and 0 is answered.
 #[unsafe(no_mangle)]
 pub extern "C" fn cetomuhi_write(numbers: &[u64], out: &mut [u8]) -> usize
-    ensures { answered result out.new ≡ writeNumbers numbers.now out.old }
+    ensures { answered result out.new ≡ write_numbers numbers.now out.old }
 {
     write_numbers(numbers, out)
 }
@@ -267,7 +267,7 @@ pub extern "C" fn cetomuhi_write(numbers: &[u64], out: &mut [u8]) -> usize
 // nothing is written and 0 is answered.
 #[unsafe(no_mangle)]
 pub extern "C" fn cetomuhi_read(input: &[u8], at: usize, numbers: &mut [u64]) -> usize
-    ensures { answered result numbers.new ≡ readNumbers input.now at numbers.old }
+    ensures { answered result numbers.new ≡ read_numbers input.now at numbers.old }
 {
     read_numbers(input, at, numbers)
 }

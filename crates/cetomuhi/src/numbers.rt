@@ -1,6 +1,6 @@
 // The small numbers as a list.
 ghost use Rattle.std.specs.Prelude.{◌≡◌, ◌<◌};
-ghost use Rattle.cetomuhi.specs.Lent.{numbersFrom};
+ghost use Rattle.cetomuhi.specs.Lent.{numbers_from};
 
 use arrays::Numbers;
 
@@ -12,7 +12,7 @@ fn wide(number: u16) -> u32
 
 // The small numbers that are lent.
 pub(crate) fn numbers_from(numbers: &[u16]) -> Numbers
-    ensures value { result ≡ numbersFrom numbers.now }
+    ensures value { result ≡ numbers_from numbers.now }
     ensures count_bound { (result.count < 65536) × (result.place < 65536) }
 {
     if numbers.len() != 6 {

@@ -1,14 +1,14 @@
 // Which reservations lie where, asked of records as a state's rows hold them. A refusal writes nothing, not even the numbers.
 ghost use Rattle.std.specs.Prelude.{◌≡◌};
 ghost use Rattle.maps.specs.declared.Question.TheVariants.{Sharing, Within};
-ghost use Rattle.cetomuhi.specs.Maps.{listAnswer, listLent, sited, nearestLent};
+ghost use Rattle.cetomuhi.specs.Maps.{list_answer, list_lent, sited, nearest_lent};
 
 use maps::Question;
 use maps::numbers::ask_numbers;
 
 // A list: its code is answered, and its length is put.
 fn put_list(rows: &[u64], question: Question, bases: &mut [u16], count: &mut u64) -> u8
-    ensures { listAnswer result count.new bases.new ≡ listLent rows.now question count.old bases.old }
+    ensures { list_answer result count.new bases.new ≡ list_lent rows.now question count.old bases.old }
 {
     let answer = ask_numbers(rows, question, bases);
     if answer.code == 0 {
@@ -26,7 +26,7 @@ pub extern "C" fn cetomuhi_sharing(
     bases: &mut [u16],
     count: &mut u64,
 ) -> u8
-    ensures { listAnswer result count.new bases.new ≡ listLent rows.now (Sharing first cells) count.old bases.old }
+    ensures { list_answer result count.new bases.new ≡ list_lent rows.now (Sharing first cells) count.old bases.old }
 {
     put_list(rows, Question::Sharing { first, cells }, bases, count)
 }
@@ -40,7 +40,7 @@ pub extern "C" fn cetomuhi_within(
     bases: &mut [u16],
     count: &mut u64,
 ) -> u8
-    ensures { listAnswer result count.new bases.new ≡ listLent rows.now (Within first cells) count.old bases.old }
+    ensures { list_answer result count.new bases.new ≡ list_lent rows.now (Within first cells) count.old bases.old }
 {
     put_list(rows, Question::Within { first, cells }, bases, count)
 }
@@ -54,7 +54,7 @@ pub extern "C" fn cetomuhi_nearest(
     found: &mut u64,
     base: &mut u64,
 ) -> u8
-    ensures { sited result found.new base.new ≡ nearestLent rows.now cell cells found.old base.old }
+    ensures { sited result found.new base.new ≡ nearest_lent rows.now cell cells found.old base.old }
 {
     let mut none = [0u16; 1];
     let answer = ask_numbers(rows, Question::Nearest { cell, cells }, &mut none);

@@ -21,14 +21,14 @@ module _ (m n : ℕ) (f : ℕ → ℕ) (below : (i : ℕ) → i < suc m → f i 
       go true e = replaced (eqb-true (f i) n e)
       go false e = kept (eqb-false (f i) n e)
 
-  lower-below : (i : ℕ) → i < m → lower i < n
-  lower-below i h =
+  lower_below : (i : ℕ) → i < m → lower i < n
+  lower_below i h =
       lower_by (λ x. x < n) i
       (λ e. let d : f m ≡ n → ⊥ = λ x. differ i m h (omega arith) (e ∙ sym x) in let b = below m (omega arith) in omega (arith, d, b))
       (λ d. let b = below i (omega arith) in omega (arith, d, b))
 
-  lower-differ : (i j : ℕ) → i < j → j < m → lower i ≡ lower j → ⊥
-  lower-differ i j h k =
+  lower_differ : (i j : ℕ) → i < j → j < m → lower i ≡ lower j → ⊥
+  lower_differ i j h k =
       lower_by (λ x. x ≡ lower j → ⊥) i
       (λ e. lower_by (λ x. f m ≡ x → ⊥) j (λ q x. differ i j h (omega arith) (e ∙ sym q)) (λ q x. differ j m k (omega arith) (sym x)))
       (λ e. lower_by (λ x. f i ≡ x → ⊥) j (λ q. differ i m (omega arith) (omega arith)) (λ q. differ i j h (omega arith)))
@@ -38,7 +38,7 @@ pub pigeonhole : (m n : ℕ) (f : ℕ → ℕ) → ((i : ℕ) → i < m → f i 
 pigeonhole zero n f below differ = omega arith
 pigeonhole (suc m) zero f below differ = let z = below 0 (omega arith) in omega (arith, z)
 pigeonhole (suc m) (suc n) f below differ =
-    let l = pigeonhole m n (lower m n f below differ) (lower-below m n f below differ) (lower-differ m n f below differ) in
+    let l = pigeonhole m n (lower m n f below differ) (lower_below m n f below differ) (lower_differ m n f below differ) in
     omega (arith, l)
 
 module _ (up : ℕ → ℕ) where
@@ -46,28 +46,28 @@ module _ (up : ℕ → ℕ) where
   climb zero p = p
   climb (suc n) p = climb n (up p)
 
-  climb-add : (m n p : ℕ) → climb (m + n) p ≡ climb n (climb m p)
+  climb_add : (m n p : ℕ) → climb (m + n) p ≡ climb n (climb m p)
   unfolding climb
-  climb-add zero n p = rw zero-add
-  climb-add (suc m) n p = rw suc-add (climb-add m n (up p))
+  climb_add zero n p = rw zero-add
+  climb_add (suc m) n p = rw suc-add (climb_add m n (up p))
 
   -- What each step keeps.
-  pub climb-keeps : (P : ℕ → Type 0) → ((q : ℕ) → P q → P (up q)) → (n p : ℕ) → P p → P (climb n p)
+  pub climb_keeps : (P : ℕ → Type 0) → ((q : ℕ) → P q → P (up q)) → (n p : ℕ) → P p → P (climb n p)
   unfolding climb
-  climb-keeps P step zero p h = h
-  climb-keeps P step (suc n) p h = climb-keeps P step n (up p) (step p h)
+  climb_keeps P step zero p h = h
+  climb_keeps P step (suc n) p h = climb_keeps P step n (up p) (step p h)
 
   -- 0 is not left.
-  pub climb-zero : up 0 ≡ 0 → (n : ℕ) → climb n 0 ≡ 0
+  pub climb_zero : up 0 ≡ 0 → (n : ℕ) → climb n 0 ≡ 0
   unfolding climb
-  climb-zero top zero = refl
-  climb-zero top (suc n) = rw top (climb-zero top n)
+  climb_zero top zero = refl
+  climb_zero top (suc n) = rw top (climb_zero top n)
 
   -- Steps that were at 0 are at 0 later.
-  pub climb-on : up 0 ≡ 0 → (m n p : ℕ) → m ≤ n → climb m p ≡ 0 → climb n p ≡ 0
-  climb-on top m n p h e =
+  pub climb_on : up 0 ≡ 0 → (m n p : ℕ) → m ≤ n → climb m p ≡ 0 → climb n p ≡ 0
+  climb_on top m n p h e =
       let s : m + (n - m) ≡ n = omega arith in
-      ap (λ k. climb k p) (sym s) ∙ climb-add m (n - m) p ∙ ap (climb (n - m)) e ∙ climb-zero top (n - m)
+      ap (λ k. climb k p) (sym s) ∙ climb_add m (n - m) p ∙ ap (climb (n - m)) e ∙ climb_zero top (n - m)
 
   -- The first time at 0.
   pub record Arrives (p : ℕ) : Type 0 where
@@ -89,11 +89,11 @@ module _ (up : ℕ → ℕ) where
       go false q a = record { steps = suc a.steps; there = a.there; before = later (eqb-false p 0 q) a }
 
   -- Until then no number comes twice: the steps between its two places could be left out.
-  pub never-twice : (p : ℕ) (a : Arrives p) (i j : ℕ) → i < j → j ≤ a.steps → climb i p ≡ climb j p → ⊥
-  never-twice p a i j h k e =
+  pub never_twice : (p : ℕ) (a : Arrives p) (i j : ℕ) → i < j → j ≤ a.steps → climb i p ≡ climb j p → ⊥
+  never_twice p a i j h k e =
       let n : j + (a.steps - j) ≡ a.steps = omega arith in
       a.before (i + (a.steps - j)) (omega arith)
-      (climb-add i (a.steps - j) p ∙ ap (climb (a.steps - j)) e ∙ sym (climb-add j (a.steps - j) p) ∙ ap (λ x. climb x p) n ∙ a.there)
+      (climb_add i (a.steps - j) p ∙ ap (climb (a.steps - j)) e ∙ sym (climb_add j (a.steps - j) p) ∙ ap (λ x. climb x p) n ∙ a.there)
 
   -- Steps from a number above 0, if they reach 0, do not come back to it.
   pub no_return : up 0 ≡ 0 → (n p : ℕ) → climb n p ≡ 0 → (p ≡ 0 → ⊥) → (k : ℕ) → climb (suc k) p ≡ p → ⊥
@@ -101,14 +101,14 @@ module _ (up : ℕ → ℕ) where
   no_return top n p e d k back = let a = arrives n p e in go a (leb (suc k) a.steps) refl
     where
       go : (a : Arrives p) (b : Bool) → leb (suc k) a.steps ≡ b → ⊥
-      go a true q = never-twice p a 0 (suc k) (omega arith) (leb-true (suc k) a.steps q) (sym back)
+      go a true q = never_twice p a 0 (suc k) (omega arith) (leb-true (suc k) a.steps q) (sym back)
       go a false q =
           let l = leb-false (suc k) a.steps q in
-          d (sym back ∙ climb-on top a.steps (suc k) p (omega arith) a.there)
+          d (sym back ∙ climb_on top a.steps (suc k) p (omega arith) a.there)
 
   -- Steps that stay below n + 1 and reach 0 are there within n.
   pub within : (n m p : ℕ) → ((i : ℕ) → climb i p < suc n) → climb m p ≡ 0 → (k : ℕ) × (k ≤ n) × (climb k p ≡ 0)
   within n m p below e =
       let a = arrives m p e in
-      let l = pigeonhole (suc a.steps) (suc n) (λ i. climb i p) (λ i h. below i) (λ i j h k. never-twice p a i j h (omega arith)) in
+      let l = pigeonhole (suc a.steps) (suc n) (λ i. climb i p) (λ i h. below i) (λ i j h k. never_twice p a i j h (omega arith)) in
       (a.steps, omega (arith, l), a.there)

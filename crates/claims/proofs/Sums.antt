@@ -18,9 +18,9 @@ sum_same zero f g e = refl
 sum_same (suc n) f g e = let a = sum_same n f g (λ i h. e i (omega arith)) in let b = e n (omega arith) in omega (arith, a, b)
 
 -- One summand more, as a loop goes.
-pub sum-turn : (f : ℕ → ℕ) (n total x : ℕ) → total ≡ sum n f → x ≡ f n → total + x ≡ sum (n + 1) f
+pub sum_turn : (f : ℕ → ℕ) (n total x : ℕ) → total ≡ sum n f → x ≡ f n → total + x ≡ sum (n + 1) f
 unfolding sum
-sum-turn f n total x t e = (λ i. t i + e i) ∙ ap (λ k. sum k f) (sym (add-one n))
+sum_turn f n total x t e = (λ i. t i + e i) ∙ ap (λ k. sum k f) (sym (add-one n))
 
 -- Where one summand is another, the sum differs by the difference.
 pub sum_one : (n k : ℕ) (f g : ℕ → ℕ) → k < n → ((i : ℕ) → i < n → (i ≡ k → ⊥) → f i ≡ g i) → sum n f + g k ≡ sum n g + f k
@@ -48,17 +48,17 @@ summand n k f h =
     omega (arith, others, pick_yes (eqb k k) 0 (f k) (eq-eqb k k refl))
 
 -- Where no summand is above b.
-pub sum-most : (b : ℕ) (f : ℕ → ℕ) → ((i : ℕ) → f i ≤ b) → (n : ℕ) → sum n f ≤ b * n
+pub sum_most : (b : ℕ) (f : ℕ → ℕ) → ((i : ℕ) → f i ≤ b) → (n : ℕ) → sum n f ≤ b * n
 unfolding sum
-sum-most b f h zero = omega arith
-sum-most b f h (suc n) = rw mul-suc (let a = sum-most b f h n in let m = h n in omega (arith, a, m))
+sum_most b f h zero = omega arith
+sum_most b f h (suc n) = rw mul-suc (let a = sum_most b f h n in let m = h n in omega (arith, a, m))
 
 -- A sum in two parts, by a test.
-pub sum-parts : (n : ℕ) (b : ℕ → Bool) (f : ℕ → ℕ) → sum n (λ i. pick (b i) (f i) 0) + sum n (λ i. pick (b i) 0 (f i)) ≡ sum n f
+pub sum_parts : (n : ℕ) (b : ℕ → Bool) (f : ℕ → ℕ) → sum n (λ i. pick (b i) (f i) 0) + sum n (λ i. pick (b i) 0 (f i)) ≡ sum n f
 unfolding sum
-sum-parts zero b f = refl
-sum-parts (suc n) b f =
-    let a = sum-parts n b f in
+sum_parts zero b f = refl
+sum_parts (suc n) b f =
+    let a = sum_parts n b f in
     let c = one (b n) (f n) in
     omega (arith, a, c)
   where

@@ -9,24 +9,24 @@ use lib.Dec.{eqb, leb}
 use borrow.Author.Tests.{eqb-true, eq-eqb, not-true}
 use Rattle.capabilities.specs.Lists.{pick, each}
 use Rattle.capabilities.proofs.Choice.{both, never}
-use Rattle.capabilities.proofs.Lists.{each_more, each_and, each_map, each-mapEach, length-mapEach}
+use Rattle.capabilities.proofs.Lists.{each_more, each_and, each_map, each_map_each, length_map_each}
 use Rattle.claims.specs.declared.Principal.{Principal}
-use Rattle.claims.specs.Claims.{Claims, principalAt, inBeing, above, limitOf, sum}
-use Rattle.claims.specs.Tree.{leadsUp}
-use Rattle.claims.specs.Sound.{isNobody, principalSound, rootSound, countsSound, total, sizedClaims, claimsSound}
-use Rattle.claims.specs.Numbers.{principalFrom, written, window, countsRead, claimsIn, unusedZero, sizedIn, keptIn, soundIn}
-use Rattle.claims.specs.Lent.{principalIn}
-use Rattle.claims.proofs.Sums.{sum-turn}
-use Rattle.claims.proofs.Counting.{above-past}
-use Rattle.claims.proofs.Principals.{being-test, nobody-test}
-use Rattle.claims.proofs.Laid.{length-window}
-use Rattle.claims.proofs.Reading.{of-numbers, of-counts, principal-read, limit-read}
+use Rattle.claims.specs.Claims.{Claims, principal_at, in_being, above, limit_of, sum}
+use Rattle.claims.specs.Tree.{leads_up}
+use Rattle.claims.specs.Sound.{is_nobody, principal_sound, root_sound, counts_sound, total, sized_claims, claims_sound}
+use Rattle.claims.specs.Numbers.{principal_from, written, window, counts_read, claims_in, unused_zero, sized_in, kept_in, sound_in}
+use Rattle.claims.specs.Lent.{principal_in}
+use Rattle.claims.proofs.Sums.{sum_turn}
+use Rattle.claims.proofs.Counting.{above_past}
+use Rattle.claims.proofs.Principals.{being_test, nobody_test}
+use Rattle.claims.proofs.Laid.{length_window}
+use Rattle.claims.proofs.Reading.{of_numbers, of_counts, principal_read, limit_read}
 
 -- Where the numbers or the counts are not as many.
-pub unsized : (v : ℕ) (numbers counts : List ℕ) → not (sizedIn numbers counts) ≡ true → false ≡ soundIn v numbers counts
-unfolding soundIn
+pub unsized : (v : ℕ) (numbers counts : List ℕ) → not (sized_in numbers counts) ≡ true → false ≡ sound_in v numbers counts
+unfolding sound_in
 unsized v numbers counts e =
-    sym (ap (λ b. b && (keptIn numbers counts && claimsSound v (claimsIn numbers counts))) (not-true (sizedIn numbers counts) e))
+    sym (ap (λ b. b && (kept_in numbers counts && claims_sound v (claims_in numbers counts))) (not-true (sized_in numbers counts) e))
 
 -- Tests in another order.
 regroup : (x r p c t : Bool) → x && ((r && p) && (c && t)) ≡ ((r && (x && (p && c))) && t)
@@ -36,96 +36,96 @@ regroup true true false c t = refl
 regroup true true true c t = refl
 
 -- The two tests of the counts, of a principal in being and of another.
-entry-cases :
+entry_cases :
     (v : ℕ) (w : List ℕ) (a b c s : Bool) → c ≡ b → length w ≡ 256
     → ((a && ((b || eqb (above w) 0) && eqb (above (drop v w)) 0)) && s)
     ≡ ((a && (b || eqb (above w) 0)) && (s && pick c (eqb (length (pick b w [])) 256 && eqb (above (drop v (pick b w []))) 0) (eqb (length (pick b w [])) 0)))
-entry-cases v w false b c s e h = refl
-entry-cases v w true true c s e h = rw (e, eq-eqb (length w) 256 h) (and_comm (eqb (above (drop v w)) 0) s)
-entry-cases v w true false c s e h = rw e (go (eqb (above w) 0) refl)
+entry_cases v w false b c s e h = refl
+entry_cases v w true true c s e h = rw (e, eq-eqb (length w) 256 h) (and_comm (eqb (above (drop v w)) 0) s)
+entry_cases v w true false c s e h = rw e (go (eqb (above w) 0) refl)
   where
     go : (m : Bool) → eqb (above w) 0 ≡ m → ((m && eqb (above (drop v w)) 0) && s) ≡ (m && (s && true))
     go false q = refl
-    go true q = rw (eq-eqb (above (drop v w)) 0 (above-past v w (eqb-true (above w) 0 q))) (sym (and-true s))
+    go true q = rw (eq-eqb (above (drop v w)) 0 (above_past v w (eqb-true (above w) 0 q))) (sym (and-true s))
 
 module _ (v : ℕ) (numbers counts : List ℕ) where
   abbrev all : Claims
-  all = claimsIn numbers counts
+  all = claims_in numbers counts
 
   -- All that is asked of one principal, its number and its counts.
   abbrev pub tested : ℕ → ℕ → Bool
-  tested p n = (written p n && unusedZero counts p n) && (principalSound all p (principalFrom n) && countsSound v all p (countsRead counts p n))
+  tested p n = (written p n && unused_zero counts p n) && (principal_sound all p (principal_from n) && counts_sound v all p (counts_read counts p n))
 
-  each-tested :
-      (keptIn numbers counts && (each (principalSound all) 0 all.principals && each (countsSound v all) 0 all.counts)) ≡ each tested 0 numbers
-  each-tested =
-      ap (λ b. b && (each (principalSound all) 0 all.principals && each (countsSound v all) 0 all.counts)) (each_and written (unusedZero counts) 0 numbers)
-      ∙ ap (λ b. each (λ p n. written p n && unusedZero counts p n) 0 numbers && b)
-      (ap (λ b. b && each (countsSound v all) 0 all.counts) (each_map (principalSound all) principalFrom 0 numbers)
-      ∙ ap (λ b. each (λ p n. principalSound all p (principalFrom n)) 0 numbers && b) (each-mapEach (countsSound v all) (countsRead counts) 0 numbers)
-      ∙ each_and (λ p n. principalSound all p (principalFrom n)) (λ p n. countsSound v all p (countsRead counts p n)) 0 numbers)
-      ∙ each_and (λ p n. written p n && unusedZero counts p n) (λ p n. principalSound all p (principalFrom n) && countsSound v all p (countsRead counts p n)) 0 numbers
+  each_tested :
+      (kept_in numbers counts && (each (principal_sound all) 0 all.principals && each (counts_sound v all) 0 all.counts)) ≡ each tested 0 numbers
+  each_tested =
+      ap (λ b. b && (each (principal_sound all) 0 all.principals && each (counts_sound v all) 0 all.counts)) (each_and written (unused_zero counts) 0 numbers)
+      ∙ ap (λ b. each (λ p n. written p n && unused_zero counts p n) 0 numbers && b)
+      (ap (λ b. b && each (counts_sound v all) 0 all.counts) (each_map (principal_sound all) principal_from 0 numbers)
+      ∙ ap (λ b. each (λ p n. principal_sound all p (principal_from n)) 0 numbers && b) (each_map_each (counts_sound v all) (counts_read counts) 0 numbers)
+      ∙ each_and (λ p n. principal_sound all p (principal_from n)) (λ p n. counts_sound v all p (counts_read counts p n)) 0 numbers)
+      ∙ each_and (λ p n. written p n && unused_zero counts p n) (λ p n. principal_sound all p (principal_from n) && counts_sound v all p (counts_read counts p n)) 0 numbers
 
-  module _ (sized : sizedIn numbers counts ≡ true) where
+  module _ (sized : sized_in numbers counts ≡ true) where
     -- The whole test.
-    pub sound-tested : soundIn v numbers counts ≡ ((rootSound (principalIn numbers 0) && each tested 0 numbers) && eqb (total all) 8192)
-    unfolding soundIn claimsSound
-    sound-tested =
-        let P = each (principalSound all) 0 all.principals in
-        let C = each (countsSound v all) 0 all.counts in
+    pub sound_tested : sound_in v numbers counts ≡ ((root_sound (principal_in numbers 0) && each tested 0 numbers) && eqb (total all) 8192)
+    unfolding sound_in claims_sound
+    sound_tested =
+        let P = each (principal_sound all) 0 all.principals in
+        let C = each (counts_sound v all) 0 all.counts in
         let T = eqb (total all) 8192 in
-        let kept = keptIn numbers counts in
-        let size : sizedClaims all ≡ true =
+        let kept = kept_in numbers counts in
+        let size : sized_claims all ≡ true =
         both (eqb (length all.principals) 32) (eqb (length all.counts) 32)
-        (eq-eqb (length all.principals) 32 (length-map numbers principalFrom ∙ of-numbers numbers counts sized))
-        (eq-eqb (length all.counts) 32 (length-mapEach (countsRead counts) 0 numbers ∙ of-numbers numbers counts sized)) in
-        ap (λ b. b && (kept && (((sizedClaims all && rootSound (principalAt all 0)) && P) && (C && T)))) sized
-        ∙ ap (λ b. kept && (((b && rootSound (principalAt all 0)) && P) && (C && T))) size
-        ∙ ap (λ (q : Principal). kept && ((rootSound q && P) && (C && T))) (principal-read numbers counts 0)
-        ∙ regroup kept (rootSound (principalIn numbers 0)) P C T
-        ∙ ap (λ b. (rootSound (principalIn numbers 0) && b) && T) each-tested
+        (eq-eqb (length all.principals) 32 (length-map numbers principal_from ∙ of_numbers numbers counts sized))
+        (eq-eqb (length all.counts) 32 (length_map_each (counts_read counts) 0 numbers ∙ of_numbers numbers counts sized)) in
+        ap (λ b. b && (kept && (((sized_claims all && root_sound (principal_at all 0)) && P) && (C && T)))) sized
+        ∙ ap (λ b. kept && (((b && root_sound (principal_at all 0)) && P) && (C && T))) size
+        ∙ ap (λ (q : Principal). kept && ((root_sound q && P) && (C && T))) (principal_read numbers counts 0)
+        ∙ regroup kept (root_sound (principal_in numbers 0)) P C T
+        ∙ ap (λ b. (root_sound (principal_in numbers 0) && b) && T) each_tested
 
     -- One turn of the test: one principal's number n, and its counts, which are the list w.
     module _ (p n spent : ℕ) (w : List ℕ) (h : p < 32) (at : n ≡ get_or numbers p 0) (is : w ≡ window counts p) (all_of : spent ≡ above w) where
-      pub sound-turn :
+      pub sound_turn :
           (high : ℕ) (was root entry sound : Bool) → high ≡ above (drop v w)
-          → entry ≡ (written 0 n && (((principalFrom n).being || eqb spent 0) && eqb high 0)) → sound ≡ principalSound all p (principalIn numbers p)
+          → entry ≡ (written 0 n && (((principal_from n).being || eqb spent 0) && eqb high 0)) → sound ≡ principal_sound all p (principal_in numbers p)
           → was ≡ (root && each tested 0 (take p numbers)) → (was && (entry && sound)) ≡ (root && each tested 0 (take (p + 1) numbers))
-      unfolding written unusedZero countsSound countsRead
-      sound-turn high was root entry sound e en so q =
+      unfolding written unused_zero counts_sound counts_read
+      sound_turn high was root entry sound e en so q =
           let a = written p n in
-          let b = (principalFrom n).being in
+          let b = (principal_from n).being in
           let u = window counts p in
-          let S = principalSound all p (principalFrom n) in
-          let long : length u ≡ 256 = length-window counts p (omega (arith, h, of-counts numbers counts sized)) in
-          let read : inBeing all p ≡ b = ap (λ (r : Principal). r.being) (principal-read numbers counts p ∙ ap principalFrom (sym at)) in
+          let S = principal_sound all p (principal_from n) in
+          let long : length u ≡ 256 = length_window counts p (omega (arith, h, of_counts numbers counts sized)) in
+          let read : in_being all p ≡ b = ap (λ (r : Principal). r.being) (principal_read numbers counts p ∙ ap principal_from (sym at)) in
           let here : (entry && sound) ≡ tested p n =
-          ap (λ x. x && sound) en ∙ ap (λ x. (a && ((b || eqb spent 0) && eqb high 0)) && x) (so ∙ ap (λ (k : ℕ). principalSound all p (principalFrom k)) (sym at))
+          ap (λ x. x && sound) en ∙ ap (λ x. (a && ((b || eqb spent 0) && eqb high 0)) && x) (so ∙ ap (λ (k : ℕ). principal_sound all p (principal_from k)) (sym at))
           ∙ ap (λ (k : ℕ). (a && ((b || eqb k 0) && eqb high 0)) && S) (all_of ∙ ap above is)
           ∙ ap (λ (k : ℕ). (a && ((b || eqb (above u) 0) && eqb k 0)) && S) (e ∙ ap (λ (l : List ℕ). above (drop v l)) is)
-          ∙ entry-cases v u a b (inBeing all p) S read long in
+          ∙ entry_cases v u a b (in_being all p) S read long in
           ap (λ x. x && (entry && sound)) q ∙ ap (λ x. (root && each tested 0 (take p numbers)) && x) (here ∙ ap (tested p) at)
           ∙ and_assoc root (each tested 0 (take p numbers)) (tested p (get_or numbers p 0))
-          ∙ ap (λ x. root && x) (sym (each_more tested numbers p 0 (omega (arith, of-numbers numbers counts sized))))
+          ∙ ap (λ x. root && x) (sym (each_more tested numbers p 0 (omega (arith, of_numbers numbers counts sized))))
 
-      pub total-turn : (limit sums : ℕ) → limit ≡ pick (principalFrom n).being spent 0 + (principalFrom n).unspent → sums ≡ sum p (limitOf all) → sums + limit ≡ sum (p + 1) (limitOf all)
-      total-turn limit sums e q =
-          sum-turn (limitOf all) p sums limit q
-          (e ∙ ap (λ (k : ℕ). pick (principalFrom n).being k 0 + (principalFrom n).unspent) (all_of ∙ ap above is)
-          ∙ ap (λ (k : ℕ). pick (principalFrom k).being (above (window counts p)) 0 + (principalFrom k).unspent) at ∙ sym (limit-read numbers counts p))
+      pub total_turn : (limit sums : ℕ) → limit ≡ pick (principal_from n).being spent 0 + (principal_from n).unspent → sums ≡ sum p (limit_of all) → sums + limit ≡ sum (p + 1) (limit_of all)
+      total_turn limit sums e q =
+          sum_turn (limit_of all) p sums limit q
+          (e ∙ ap (λ (k : ℕ). pick (principal_from n).being k 0 + (principal_from n).unspent) (all_of ∙ ap above is)
+          ∙ ap (λ (k : ℕ). pick (principal_from k).being (above (window counts p)) 0 + (principal_from k).unspent) at ∙ sym (limit_read numbers counts p))
 
 -- One principal in the tree: in being, and not.
-module _ (numbers counts : List ℕ) (p : ℕ) (q : Principal) (e : q ≡ principalIn numbers p) where
+module _ (numbers counts : List ℕ) (p : ℕ) (q : Principal) (e : q ≡ principal_in numbers p) where
   abbrev every : Claims
-  every = claimsIn numbers counts
+  every = claims_in numbers counts
 
-  pub being-tested :
-      (parent : Principal) (up : Bool) → q.being ≡ true → parent ≡ principalIn numbers q.parent → up ≡ leadsUp every 0 p
-      → ((leb q.holder 7 && parent.being) && up) ≡ principalSound every p (principalIn numbers p)
-  being-tested parent up b f u =
-      ap (λ (r : Principal). (leb q.holder 7 && r.being) && up) (f ∙ sym (principal-read numbers counts q.parent))
-      ∙ ap (λ x. (leb q.holder 7 && inBeing every q.parent) && x) u
-      ∙ sym (being-test every p q b) ∙ ap (principalSound every p) e
+  pub being_tested :
+      (parent : Principal) (up : Bool) → q.being ≡ true → parent ≡ principal_in numbers q.parent → up ≡ leads_up every 0 p
+      → ((leb q.holder 7 && parent.being) && up) ≡ principal_sound every p (principal_in numbers p)
+  being_tested parent up b f u =
+      ap (λ (r : Principal). (leb q.holder 7 && r.being) && up) (f ∙ sym (principal_read numbers counts q.parent))
+      ∙ ap (λ x. (leb q.holder 7 && in_being every q.parent) && x) u
+      ∙ sym (being_test every p q b) ∙ ap (principal_sound every p) e
 
-  pub nobody-tested : (none : Bool) → q.being ≡ false → none ≡ isNobody q → none ≡ principalSound every p (principalIn numbers p)
-  nobody-tested none b n = n ∙ sym (nobody-test every p q b) ∙ ap (principalSound every p) e
+  pub nobody_tested : (none : Bool) → q.being ≡ false → none ≡ is_nobody q → none ≡ principal_sound every p (principal_in numbers p)
+  nobody_tested none b n = n ∙ sym (nobody_test every p q b) ∙ ap (principal_sound every p) e

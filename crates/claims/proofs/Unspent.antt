@@ -4,56 +4,56 @@ use mathlib.Core.Bool.{Bool, true, false, ◌&&◌}
 use mathlib.Core.List.{List}
 use mathlib.Core.Path.{◌≡◌, refl, sym, ap, subst, ◌∙◌}
 use lib.Dec.{eqb}
-use Rattle.claims.specs.Claims.{Claims, principalAt, inBeing, holds, parent_of, leaving}
-use Rattle.claims.specs.Tree.{leadsUp}
-use Rattle.claims.specs.Sound.{rootSound, principalSound, countsSound, claimsSound}
-use Rattle.claims.proofs.Principals.{counts-alike, being-at, being-sound, nobody-at, nobody-sound, parent-being}
-use Rattle.claims.proofs.Descent.{leads-same}
+use Rattle.claims.specs.Claims.{Claims, principal_at, in_being, holds, parent_of, leaving}
+use Rattle.claims.specs.Tree.{leads_up}
+use Rattle.claims.specs.Sound.{root_sound, principal_sound, counts_sound, claims_sound}
+use Rattle.claims.proofs.Principals.{counts_alike, being_at, being_sound, nobody_at, nobody_sound, parent_being}
+use Rattle.claims.proofs.Descent.{leads_same}
 
 abbrev pub ButUnspent : Claims → Claims → ℕ → Type 0
-ButUnspent c d q = leaving (principalAt d q) 0 ≡ leaving (principalAt c q) 0
+ButUnspent c d q = leaving (principal_at d q) 0 ≡ leaving (principal_at c q) 0
 
 -- All of them are.
 abbrev pub SameTree : Claims → Claims → Type 0
 SameTree c d = (q : ℕ) → ButUnspent c d q
 
 module _ (c d : Claims) (q : ℕ) where
-  pub but-unspent : (n : ℕ) → principalAt d q ≡ leaving (principalAt c q) n → ButUnspent c d q
-  but-unspent n e = ap (λ x. leaving x 0) e
+  pub but_unspent : (n : ℕ) → principal_at d q ≡ leaving (principal_at c q) n → ButUnspent c d q
+  but_unspent n e = ap (λ x. leaving x 0) e
 
   module _ (same : ButUnspent c d q) where
-    pub but-being : inBeing d q ≡ inBeing c q
-    but-being = ap (λ x. x.being) same
+    pub but_being : in_being d q ≡ in_being c q
+    but_being = ap (λ x. x.being) same
 
-    pub but-parent : parent_of d q ≡ parent_of c q
-    but-parent = ap (λ x. x.parent) same
+    pub but_parent : parent_of d q ≡ parent_of c q
+    but_parent = ap (λ x. x.parent) same
 
-    pub but-holds : (party : ℕ) → holds d party q ≡ holds c party q
-    but-holds party = ap (λ x. x.being && eqb x.holder party) same
+    pub but_holds : (party : ℕ) → holds d party q ≡ holds c party q
+    but_holds party = ap (λ x. x.being && eqb x.holder party) same
 
-    pub but-root : rootSound (principalAt d q) ≡ rootSound (principalAt c q)
-    but-root = ap rootSound same
+    pub but_root : root_sound (principal_at d q) ≡ root_sound (principal_at c q)
+    but_root = ap root_sound same
 
-    pub but-counts : (v : ℕ) (l : List ℕ) → countsSound v d q l ≡ countsSound v c q l
-    but-counts v l = counts-alike c d q v v l l but-being refl refl
+    pub but_counts : (v : ℕ) (l : List ℕ) → counts_sound v d q l ≡ counts_sound v c q l
+    but_counts v l = counts_alike c d q v v l l but_being refl refl
 
 -- Some of them are, each with its parent: these stay well formed, unless one that is not in being has something unspent.
-module _ (v : ℕ) (c : Claims) (s : claimsSound v c ≡ true) (d : Claims) (P : ℕ → Type 0)
-    (up : (q : ℕ) → inBeing c q ≡ true → P q → P (parent_of c q)) (same : (q : ℕ) → P q → ButUnspent c d q) where
-  pub still-leads : (q : ℕ) → inBeing c q ≡ true → P q → leadsUp d 0 q ≡ leadsUp c 0 q
-  still-leads q b h =
-      leads-same c d (λ x. (inBeing c x ≡ true) × P x) (λ x k. (parent-being v c s x, up x k.0 k.1)) (λ x k. but-parent c d x (same x k.1)) 31 0 q (b, h)
+module _ (v : ℕ) (c : Claims) (s : claims_sound v c ≡ true) (d : Claims) (P : ℕ → Type 0)
+    (up : (q : ℕ) → in_being c q ≡ true → P q → P (parent_of c q)) (same : (q : ℕ) → P q → ButUnspent c d q) where
+  pub still_leads : (q : ℕ) → in_being c q ≡ true → P q → leads_up d 0 q ≡ leads_up c 0 q
+  still_leads q b h =
+      leads_same c d (λ x. (in_being c x ≡ true) × P x) (λ x k. (parent_being v c s x, up x k.0 k.1)) (λ x k. but_parent c d x (same x k.1)) 31 0 q (b, h)
 
-  pub still-sound : ((q : ℕ) → P q → inBeing c q ≡ false → principalAt d q ≡ principalAt c q) → (q : ℕ) → P q → principalSound d q (principalAt d q) ≡ true
-  still-sound unused q h = go (inBeing c q) refl
+  pub still_sound : ((q : ℕ) → P q → in_being c q ≡ false → principal_at d q ≡ principal_at c q) → (q : ℕ) → P q → principal_sound d q (principal_at d q) ≡ true
+  still_sound unused q h = go (in_being c q) refl
     where
-      go : (b : Bool) → inBeing c q ≡ b → principalSound d q (principalAt d q) ≡ true
+      go : (b : Bool) → in_being c q ≡ b → principal_sound d q (principal_at d q) ≡ true
       go true e =
-          let old = being-at v c s q e in
-          being-sound d q (but-being c d q (same q h) ∙ e)
+          let old = being_at v c s q e in
+          being_sound d q (but_being c d q (same q h) ∙ e)
           (record {
             held = subst (λ x. x.holder ≤ 7) (sym (same q h)) old.held;
-            under = ap (λ x. inBeing d x) (but-parent c d q (same q h)) ∙ but-being c d (parent_of c q) (same (parent_of c q) (up q e h)) ∙ old.under;
-            reaches = still-leads q e h ∙ old.reaches;
+            under = ap (λ x. in_being d x) (but_parent c d q (same q h)) ∙ but_being c d (parent_of c q) (same (parent_of c q) (up q e h)) ∙ old.under;
+            reaches = still_leads q e h ∙ old.reaches;
           })
-      go false e = nobody-sound d q (principalAt d q) (unused q h e ∙ nobody-at v c s q e)
+      go false e = nobody_sound d q (principal_at d q) (unused q h e ∙ nobody_at v c s q e)

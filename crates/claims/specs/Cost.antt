@@ -22,5 +22,5 @@ pub record Shares (n : ℕ) (c : Cost) : Type 0 where
   pub none : n ≡ 0 → (c.share ≡ 0) × (c.remainder ≡ 16)
 
 -- The share and the remainder, computed: they are what that sentence says, and no others are (`claims:Paying.shares`, `claims:Paying.determined`).
-unfoldable pub costOf : ℕ → Cost
-costOf n = pick (eqb n 0) (cost 0 16) (cost (16 / n) (16 % n))
+unfoldable pub cost_of : ℕ → Cost
+cost_of n = pick (eqb n 0) (cost 0 16) (cost (16 / n) (16 % n))

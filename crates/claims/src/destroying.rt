@@ -1,12 +1,12 @@
 // Destroy, in place: a principal and its descendants are dropped, and their limits go to its parent.
 ghost use Rattle.std.specs.Prelude.{ℕ, ◌+◌, ◌/◌, ◌<◌, ◌≤◌, true, false, ◌≡◌, List, eqb, length, get_or, replicate};
-ghost use Rattle.capabilities.specs.Lists.{pick, mapEach};
+ghost use Rattle.capabilities.specs.Lists.{pick, map_each};
 ghost use Rattle.capabilities.specs.Refusals.{first};
-ghost use Rattle.claims.specs.Claims.{above, limitOf, sum};
-ghost use Rattle.claims.specs.Tree.{leadsUp};
-ghost use Rattle.claims.specs.Operations.{destroyReasons};
-ghost use Rattle.claims.specs.Numbers.{principalFrom, claimsIn, sizedIn};
-ghost use Rattle.claims.specs.Lent.{destroyedIn, clearedIn};
+ghost use Rattle.claims.specs.Claims.{above, limit_of, sum};
+ghost use Rattle.claims.specs.Tree.{leads_up};
+ghost use Rattle.claims.specs.Operations.{destroy_reasons};
+ghost use Rattle.claims.specs.Numbers.{principal_from, claims_in, sized_in};
+ghost use Rattle.claims.specs.Lent.{destroyed_in, cleared_in};
 
 use crate::lent::{above, limit_of, principal_in, put_unspent};
 use crate::operations::holds;
@@ -15,7 +15,7 @@ use capabilities::refusal::first;
 
 // Those from whom parents lead up to the principal: it and its descendants.
 fn marks_of(principals: &[u64], principal: usize) -> [bool; 32]
-    ensures { (counts : List ℕ) (q : ℕ) → q < 32 → get_or result q false ≡ leadsUp (claimsIn principals.now counts) principal q }
+    ensures { (counts : List ℕ) (q : ℕ) → q < 32 → get_or result q false ≡ leads_up (claims_in principals.now counts) principal q }
 {
     let mut marks = [false; 32];
     let mut q: usize = 0;
@@ -29,7 +29,7 @@ fn marks_of(principals: &[u64], principal: usize) -> [bool; 32]
 // The limit, if the principal is marked.
 fn share(marked: bool, number: u64, window: &[u16]) -> u32
     requires { length window.now ≤ 256 }
-    ensures { result ≡ pick marked (pick (principalFrom number).being (above window.now) 0 + (principalFrom number).unspent) 0 }
+    ensures { result ≡ pick marked (pick (principal_from number).being (above window.now) 0 + (principal_from number).unspent) 0 }
 {
     if marked {
         return limit_of(number, above(window));
@@ -39,8 +39,8 @@ fn share(marked: bool, number: u64, window: &[u16]) -> u32
 
 // The limits of the marked.
 fn shares(principals: &[u64], counts: &[u16], marks: &[bool; 32]) -> u32
-    requires { sizedIn principals.now counts.now ≡ true }
-    ensures { result ≡ sum 32 (λ q. pick (get_or marks.now q false) (limitOf (claimsIn principals.now counts.now) q) 0) }
+    requires { sized_in principals.now counts.now ≡ true }
+    ensures { result ≡ sum 32 (λ q. pick (get_or marks.now q false) (limit_of (claims_in principals.now counts.now) q) 0) }
 {
     let mut total: u32 = 0;
     let mut q: usize = 0;
@@ -62,7 +62,7 @@ fn unless(marked: bool, number: u64) -> u64
 // The numbers of the marked become 0.
 fn clear_numbers(principals: &mut [u64], marks: &[bool; 32])
     requires { length principals.old ≡ 32 }
-    ensures { principals.new ≡ mapEach (λ q n. pick (get_or marks.now q false) 0 n) 0 principals.old }
+    ensures { principals.new ≡ map_each (λ q n. pick (get_or marks.now q false) 0 n) 0 principals.old }
 {
     let mut q: usize = 0;
     while q < 32 {
@@ -92,7 +92,7 @@ fn clear_if(marked: bool, window: &mut [u16])
 // The counts of the marked become 0.
 fn clear_counts(counts: &mut [u16], marks: &[bool; 32])
     requires { length counts.old ≡ 8192 }
-    ensures { counts.new ≡ mapEach (λ i n. pick (get_or marks.now (i / 256) false) 0 n) 0 counts.old }
+    ensures { counts.new ≡ map_each (λ i n. pick (get_or marks.now (i / 256) false) 0 n) 0 counts.old }
 {
     let mut q: usize = 0;
     while q < 32 {
@@ -104,9 +104,9 @@ fn clear_counts(counts: &mut [u16], marks: &[bool; 32])
 }
 
 fn drop_all(principals: &mut [u64], counts: &mut [u16], principal: u8)
-    requires { sizedIn principals.old counts.old ≡ true }
-    ensures principals_after { principals.new ≡ destroyedIn principals.old counts.old principal }
-    ensures counts_after { counts.new ≡ clearedIn principals.old counts.old principal }
+    requires { sized_in principals.old counts.old ≡ true }
+    ensures principals_after { principals.new ≡ destroyed_in principals.old counts.old principal }
+    ensures counts_after { counts.new ≡ cleared_in principals.old counts.old principal }
 {
     let q = principal_in(&principals[..], principal as usize);
     let parent = q.parent as usize;
@@ -120,7 +120,7 @@ fn drop_all(principals: &mut [u64], counts: &mut [u16], principal: u8)
 }
 
 fn destroy_code(principals: &[u64], party: u8, principal: u8) -> u8
-    ensures { (counts : List ℕ) → result ≡ first (destroyReasons (claimsIn principals.now counts) party principal) }
+    ensures { (counts : List ℕ) → result ≡ first (destroy_reasons (claims_in principals.now counts) party principal) }
 {
     let q = principal_in(principals, principal as usize);
     let parent = principal_in(principals, q.parent as usize);
@@ -130,9 +130,9 @@ fn destroy_code(principals: &[u64], party: u8, principal: u8) -> u8
 
 // 15: the principal and its descendants are gone, or the refusal.
 pub fn destroy(principals: &mut [u64], counts: &mut [u16], party: u8, principal: u8) -> u8
-    ensures value { result ≡ pick (sizedIn principals.old counts.old) (first (destroyReasons (claimsIn principals.old counts.old) party principal)) 1 }
-    ensures principals_after { principals.new ≡ pick (eqb result 0) (destroyedIn principals.old counts.old principal) principals.old }
-    ensures counts_after { counts.new ≡ pick (eqb result 0) (clearedIn principals.old counts.old principal) counts.old }
+    ensures value { result ≡ pick (sized_in principals.old counts.old) (first (destroy_reasons (claims_in principals.old counts.old) party principal)) 1 }
+    ensures principals_after { principals.new ≡ pick (eqb result 0) (destroyed_in principals.old counts.old principal) principals.old }
+    ensures counts_after { counts.new ≡ pick (eqb result 0) (cleared_in principals.old counts.old principal) counts.old }
 {
     if !((principals.len() == 32) & (counts.len() == 8192)) {
         return 1;

@@ -2,15 +2,15 @@
 ghost use Rattle.std.specs.Prelude.{◌+◌, ◌*◌, min, ◌≡◌, set, take};
 ghost use Rattle.capabilities.specs.Lists.{pick};
 ghost use Rattle.claims.specs.Claims.{above};
-ghost use Rattle.claims.specs.Numbers.{principalFrom, principalCode};
-ghost use Rattle.claims.specs.Lent.{principalIn, countIn, unspentPut, anyCounts};
+ghost use Rattle.claims.specs.Numbers.{principal_from, principal_code};
+ghost use Rattle.claims.specs.Lent.{principal_in, count_in, unspent_put, any_counts};
 
 use crate::Principal;
 use crate::number::{number_of, principal_of};
 
 // The principal of this number; past the end none is in being.
 pub fn principal_in(principals: &[u64], p: usize) -> Principal
-    ensures { result ≡ principalIn principals.now p }
+    ensures { result ≡ principal_in principals.now p }
 {
     if p < principals.len() {
         return principal_of(principals[p]);
@@ -20,7 +20,7 @@ pub fn principal_in(principals: &[u64], p: usize) -> Principal
 
 // Past the end nothing is written.
 pub(crate) fn put_principal(principals: &mut [u64], p: usize, q: Principal)
-    ensures { principals.new ≡ set principals.old p (principalCode q) }
+    ensures { principals.new ≡ set principals.old p (principal_code q) }
 {
     let number = number_of(q);
     if p < principals.len() {
@@ -30,7 +30,7 @@ pub(crate) fn put_principal(principals: &mut [u64], p: usize, q: Principal)
 
 // The principal gets another part of its limit unspent.
 pub(crate) fn put_unspent(principals: &mut [u64], p: usize, unspent: u16)
-    ensures { principals.new ≡ unspentPut principals.old p unspent }
+    ensures { principals.new ≡ unspent_put principals.old p unspent }
 {
     let q = principal_in(&principals[..], p);
     put_principal(
@@ -47,7 +47,7 @@ pub(crate) fn put_unspent(principals: &mut [u64], p: usize, unspent: u16)
 
 // How often a principal claims a page; 0 past the end.
 pub fn count_in(counts: &[u16], p: u8, page: u8) -> u16
-    ensures { result ≡ countIn counts.now p page }
+    ensures { result ≡ count_in counts.now p page }
 {
     let at = 256 * (p as usize) + page as usize;
     if at < counts.len() { counts[at] } else { 0 }
@@ -65,7 +65,7 @@ pub(crate) fn put_count(counts: &mut [u16], p: u8, page: u8, n: u16)
 
 // 22: whether one of the 32 principals counts the page above 0.
 pub fn any_counts(counts: &[u16], page: u8) -> bool
-    ensures { result ≡ anyCounts 32 counts.now page }
+    ensures { result ≡ any_counts 32 counts.now page }
 {
     let mut any = false;
     let mut p: u8 = 0;
@@ -98,7 +98,7 @@ pub(crate) fn above(counts: &[u16]) -> u16
 
 // The limit, spent and unspent, of the principal of a number that counts so many pages.
 pub(crate) fn limit_of(number: u64, spent: u16) -> u32
-    ensures { result ≡ pick (principalFrom number).being spent 0 + (principalFrom number).unspent }
+    ensures { result ≡ pick (principal_from number).being spent 0 + (principal_from number).unspent }
 {
     let q = principal_of(number);
     if q.being {

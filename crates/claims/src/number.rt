@@ -1,13 +1,13 @@
 // One principal as a number.
 ghost use Rattle.std.specs.Prelude.{ℕ, ◌≡◌};
 ghost use Rattle.capabilities.specs.Lists.{pick};
-ghost use Rattle.claims.specs.Numbers.{principalFrom, principalCode, written};
+ghost use Rattle.claims.specs.Numbers.{principal_from, principal_code, written};
 
 use crate::Principal;
 
 // The principal that a number reads as.
 pub fn principal_of(number: u64) -> Principal
-    ensures { result ≡ principalFrom number }
+    ensures { result ≡ principal_from number }
 {
     Principal {
         being: 4294967296 <= number,
@@ -26,7 +26,7 @@ fn being_bit(being: bool) -> u64
 
 // The number that a principal is written as.
 pub fn number_of(q: Principal) -> u64
-    ensures { result ≡ principalCode q }
+    ensures { result ≡ principal_code q }
 {
     let tree = q.unspent as u64 + 65536 * (q.parent as u64);
     tree + 16777216 * (q.holder as u64) + being_bit(q.being)

@@ -2,9 +2,9 @@
 ghost use Rattle.std.specs.Prelude.{ℕ, ◌+◌, ◌-◌, ◌*◌, ◌&&◌, ◌≡◌, List, set, eqb};
 ghost use Rattle.capabilities.specs.Lists.{pick};
 ghost use Rattle.capabilities.specs.Refusals.{first};
-ghost use Rattle.claims.specs.Operations.{createReasons, claimReasons, releaseReasons};
-ghost use Rattle.claims.specs.Numbers.{claimsIn};
-ghost use Rattle.claims.specs.Lent.{countIn, createdIn, claimed_in, releasedIn};
+ghost use Rattle.claims.specs.Operations.{create_reasons, claim_reasons, release_reasons};
+ghost use Rattle.claims.specs.Numbers.{claims_in};
+ghost use Rattle.claims.specs.Lent.{count_in, created_in, claimed_in, released_in};
 
 use crate::Principal;
 use crate::lent::{count_in, principal_in, put_count, put_principal, put_unspent};
@@ -24,7 +24,7 @@ fn less(a: u16, b: u16) -> u16
 }
 
 fn create_code(principals: &[u64], party: u8, parent: u8, child: u8, limit: u16) -> u8
-    ensures { (counts : List ℕ) → result ≡ first (createReasons (claimsIn principals.now counts) party parent child limit) }
+    ensures { (counts : List ℕ) → result ≡ first (create_reasons (claims_in principals.now counts) party parent child limit) }
 {
     let from = principal_in(principals, parent as usize);
     let to = principal_in(principals, child as usize);
@@ -42,8 +42,8 @@ pub fn create(
     limit: u16,
     holder: u8,
 ) -> u8
-    ensures by_index { (counts : List ℕ) → result ≡ first (createReasons (claimsIn principals.old counts) party parent child limit) }
-    ensures principals_after { principals.new ≡ pick (eqb result 0) (createdIn principals.old parent child limit holder) principals.old }
+    ensures by_index { (counts : List ℕ) → result ≡ first (create_reasons (claims_in principals.old counts) party parent child limit) }
+    ensures principals_after { principals.new ≡ pick (eqb result 0) (created_in principals.old parent child limit holder) principals.old }
 {
     let code = create_code(&principals[..], party, parent, child, limit);
     if code != 0 {
@@ -65,7 +65,7 @@ pub fn create(
 }
 
 fn claim_code(principals: &[u64], counts: &[u16], party: u8, principal: u8, page: u8) -> u8
-    ensures { result ≡ first (claimReasons (claimsIn principals.now counts.now) party principal page) }
+    ensures { result ≡ first (claim_reasons (claims_in principals.now counts.now) party principal page) }
 {
     let q = principal_in(principals, principal as usize);
     let n = count_in(counts, principal, page);
@@ -86,9 +86,9 @@ fn spend(principals: &mut [u64], principal: u8, n: u16)
 
 // 13: the count is one up, or the refusal.
 pub fn claim(principals: &mut [u64], counts: &mut [u16], party: u8, principal: u8, page: u8) -> u8
-    ensures value { result ≡ first (claimReasons (claimsIn principals.old counts.old) party principal page) }
-    ensures principals_after { principals.new ≡ pick (eqb result 0) (claimed_in principals.old principal (countIn counts.old principal page)) principals.old }
-    ensures counts_after { counts.new ≡ pick (eqb result 0) (set counts.old (256 * principal + page) (countIn counts.old principal page + 1)) counts.old }
+    ensures value { result ≡ first (claim_reasons (claims_in principals.old counts.old) party principal page) }
+    ensures principals_after { principals.new ≡ pick (eqb result 0) (claimed_in principals.old principal (count_in counts.old principal page)) principals.old }
+    ensures counts_after { counts.new ≡ pick (eqb result 0) (set counts.old (256 * principal + page) (count_in counts.old principal page + 1)) counts.old }
 {
     let code = claim_code(&principals[..], &counts[..], party, principal, page);
     if code != 0 {
@@ -101,7 +101,7 @@ pub fn claim(principals: &mut [u64], counts: &mut [u16], party: u8, principal: u
 }
 
 fn release_code(principals: &[u64], counts: &[u16], party: u8, principal: u8, page: u8) -> u8
-    ensures { result ≡ first (releaseReasons (claimsIn principals.now counts.now) party principal page) }
+    ensures { result ≡ first (release_reasons (claims_in principals.now counts.now) party principal page) }
 {
     let q = principal_in(principals, principal as usize);
     let n = count_in(counts, principal, page);
@@ -111,7 +111,7 @@ fn release_code(principals: &[u64], counts: &[u16], party: u8, principal: u8, pa
 
 // The last count of a page gives 1 back.
 fn restore(principals: &mut [u64], principal: u8, n: u16)
-    ensures { principals.new ≡ releasedIn principals.old principal n }
+    ensures { principals.new ≡ released_in principals.old principal n }
 {
     if n == 1 {
         let q = principal_in(&principals[..], principal as usize);
@@ -122,9 +122,9 @@ fn restore(principals: &mut [u64], principal: u8, n: u16)
 
 // 14: the count is one down, or the refusal.
 pub fn release(principals: &mut [u64], counts: &mut [u16], party: u8, principal: u8, page: u8) -> u8
-    ensures value { result ≡ first (releaseReasons (claimsIn principals.old counts.old) party principal page) }
-    ensures principals_after { principals.new ≡ pick (eqb result 0) (releasedIn principals.old principal (countIn counts.old principal page)) principals.old }
-    ensures counts_after { counts.new ≡ pick (eqb result 0) (set counts.old (256 * principal + page) (countIn counts.old principal page - 1)) counts.old }
+    ensures value { result ≡ first (release_reasons (claims_in principals.old counts.old) party principal page) }
+    ensures principals_after { principals.new ≡ pick (eqb result 0) (released_in principals.old principal (count_in counts.old principal page)) principals.old }
+    ensures counts_after { counts.new ≡ pick (eqb result 0) (set counts.old (256 * principal + page) (count_in counts.old principal page - 1)) counts.old }
 {
     let code = release_code(&principals[..], &counts[..], party, principal, page);
     if code != 0 {

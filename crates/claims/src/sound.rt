@@ -1,9 +1,9 @@
 // Whether lent principals and counts are well-formed claims: one pass over the counts.
 ghost use Rattle.std.specs.Prelude.{ℕ, ◌≤◌, ◌&&◌, ◌||◌, ◌≡◌, List, eqb, length, drop};
 ghost use Rattle.claims.specs.Claims.{above};
-ghost use Rattle.claims.specs.Sound.{principalSound, rootSound, isNobody};
-ghost use Rattle.claims.specs.Numbers.{principalFrom, written, claimsIn, soundIn};
-ghost use Rattle.claims.specs.Lent.{principalIn};
+ghost use Rattle.claims.specs.Sound.{principal_sound, root_sound, is_nobody};
+ghost use Rattle.claims.specs.Numbers.{principal_from, written, claims_in, sound_in};
+ghost use Rattle.claims.specs.Lent.{principal_in};
 
 use crate::Principal;
 use crate::lent::{above, lesser, limit_of, principal_in};
@@ -32,26 +32,26 @@ fn spent_of(v: u16, window: &[u16]) -> Spent
 
 // The number is one that a principal is written as, and its counts are 0 where they must be.
 fn entry_sound(number: u64, spent: Spent) -> bool
-    ensures { result ≡ (written 0 number && (((principalFrom number).being || eqb spent.all 0) && eqb spent.high 0)) }
+    ensures { result ≡ (written 0 number && (((principal_from number).being || eqb spent.all 0) && eqb spent.high 0)) }
 {
     let q = principal_of(number);
     is_written(number) & ((q.being | (spent.all == 0)) & (spent.high == 0))
 }
 
 fn is_nobody(q: Principal) -> bool
-    ensures { result ≡ isNobody q }
+    ensures { result ≡ is_nobody q }
 {
     !q.being & ((q.holder == 0) & ((q.parent == 0) & (q.unspent == 0)))
 }
 
 fn is_root(q: Principal) -> bool
-    ensures { result ≡ rootSound q }
+    ensures { result ≡ root_sound q }
 {
     q.being & ((q.holder == 0) & (q.parent == 0))
 }
 
 fn principal_sound(principals: &[u64], p: usize) -> bool
-    ensures { (counts : List ℕ) → result ≡ principalSound (claimsIn principals.now counts) p (principalIn principals.now p) }
+    ensures { (counts : List ℕ) → result ≡ principal_sound (claims_in principals.now counts) p (principal_in principals.now p) }
 {
     let q = principal_in(principals, p);
     if q.being {
@@ -64,7 +64,7 @@ fn principal_sound(principals: &[u64], p: usize) -> bool
 
 // The claims' part of "A state is well formed", on numbers.
 pub fn claims_sound(v: u16, principals: &[u64], counts: &[u16]) -> bool
-    ensures { result ≡ soundIn v principals.now counts.now }
+    ensures { result ≡ sound_in v principals.now counts.now }
 {
     if !((principals.len() == 32) & (counts.len() == 8192)) {
         return false;

@@ -1,11 +1,11 @@
 // The cost of a page, asked of a state in place: a question, no call, and nothing is written.
 ghost use Rattle.std.specs.Prelude.{◌≤◌, ◌≡◌};
 ghost use Rattle.claims.specs.Claims.{one};
-ghost use Rattle.claims.specs.Cost.{cost, costOf};
-ghost use Rattle.claims.specs.Lent.{claimantsIn};
+ghost use Rattle.claims.specs.Cost.{cost, cost_of};
+ghost use Rattle.claims.specs.Lent.{claimants_in};
 ghost use Rattle.machine.specs.Cost.{costed};
 ghost use Rattle.arrays.specs.Reading.{arrays};
-ghost use Rattle.cost.specs.Asked.{costOn};
+ghost use Rattle.cost.specs.Asked.{cost_on};
 
 use arrays::Numbers;
 use capabilities::refusal::first;
@@ -29,7 +29,7 @@ fn claimant(count: u16) -> u8
 
 // How many of the 32 principals count the page above 0.
 pub fn claimants(counts: &[u16], page: u8) -> u8
-    ensures { result ≡ claimantsIn counts.now page }
+    ensures { result ≡ claimants_in counts.now page }
 {
     let mut n: u8 = 0;
     let mut p: u8 = 0;
@@ -42,14 +42,14 @@ pub fn claimants(counts: &[u16], page: u8) -> u8
 
 // What each of n pays for 16 cells; with nobody to pay, 0.
 pub fn share(n: u8) -> u8
-    ensures { result ≡ (costOf n).share }
+    ensures { result ≡ (cost_of n).share }
 {
     if n == 0 { 0 } else { 16 / n }
 }
 
 // What is left over.
 pub fn remainder(n: u8) -> u8
-    ensures { result ≡ (costOf n).remainder }
+    ensures { result ≡ (cost_of n).remainder }
 {
     if n == 0 { 16 } else { 16 % n }
 }
@@ -68,7 +68,7 @@ pub fn page_cost(
     counts: &[u16],
     page: u64,
 ) -> Costed
-    ensures { costed result.code (cost result.share result.remainder) ≡ costOn (arrays nums words.now marks.now mail.now flags.now rows.now pages.now frames.now principals.now counts.now) page }
+    ensures { costed result.code (cost result.share result.remainder) ≡ cost_on (arrays nums words.now marks.now mail.now flags.now rows.now pages.now frames.now principals.now counts.now) page }
 {
     let good = formed(
         nums, words, marks, mail, flags, rows, pages, frames, principals, counts,

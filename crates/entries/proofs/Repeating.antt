@@ -10,44 +10,44 @@ use borrow.Author.Tests.{lt-ltb, le-ltb, ltb-true, ltb-false, leb-true, leb-fals
 use Rattle.capabilities.specs.Lists.{pick}
 use Rattle.capabilities.proofs.Choice.{pick_yes, pick_no, and_left, and_right}
 use Rattle.words.specs.Words.{byte_of}
-use Rattle.machine.specs.Command.{Ran, ran, commandOf}
-use Rattle.machine.proofs.Commands.{command-sized}
+use Rattle.machine.specs.Command.{Ran, ran, command_of}
+use Rattle.machine.proofs.Commands.{command_sized}
 use Rattle.arrays.specs.declared.Arrays.{Arrays}
 use Rattle.arrays.specs.declared.Answer.{Answer}
 use Rattle.arrays.specs.Reading.{state_of, Formed}
 use Rattle.arrays.specs.Steps.{leaving}
 use Rattle.formed.proofs.Tested.{passing}
 use Rattle.lines.specs.Laid.{Laid}
-use Rattle.lines.proofs.Laying.{laid_none, laid_one, laid-three, laid_both}
-use Rattle.session_rules.specs.Session.{endsSession}
-use Rattle.session_rules.proofs.Sessions.{command-used}
-use Rattle.step.specs.Entries.{OnFormed, RanOn, ranOn, commandJudgedOn, commandOn}
-use Rattle.entries.specs.Runs.{answerNumbers, Run, run_of, resting, preceded, runOn, runIn}
-use Rattle.step.proofs.Commanding.{command-formed}
-use Rattle.step.proofs.Running.{Kept, kept, commanded, ran-formed, ran_on, ran-sized}
+use Rattle.lines.proofs.Laying.{laid_none, laid_one, laid_three, laid_both}
+use Rattle.session_rules.specs.Session.{ends_session}
+use Rattle.session_rules.proofs.Sessions.{command_used}
+use Rattle.step.specs.Entries.{OnFormed, RanOn, ran_on, command_judged_on, command_on}
+use Rattle.entries.specs.Runs.{answer_numbers, Run, run_of, resting, preceded, run_on, run_in}
+use Rattle.step.proofs.Commanding.{command_formed}
+use Rattle.step.proofs.Running.{Kept, kept, commanded, ran_formed, ran_on_lem, ran_sized}
 
 -- Four numbers stored.
-pub laid-answer : (r : Answer) (used place tag : ℕ) (buffer : List ℕ) → tag ≡ byte_of r.tag → place + 4 ≤ length buffer
-    → Laid (answerNumbers r used) place buffer (place + 4) (set (set (set (set buffer place r.code) (place + 1) r.number) (place + 2) tag) (place + 3) used)
-laid-answer r used place tag buffer e h =
+pub laid_answer : (r : Answer) (used place tag : ℕ) (buffer : List ℕ) → tag ≡ byte_of r.tag → place + 4 ≤ length buffer
+    → Laid (answer_numbers r used) place buffer (place + 4) (set (set (set (set buffer place r.code) (place + 1) r.number) (place + 2) tag) (place + 3) used)
+laid_answer r used place tag buffer e h =
     let b = set (set (set buffer place r.code) (place + 1) r.number) (place + 2) tag in
-    let three : Laid (r.code ∷ r.number ∷ tag ∷ []) place buffer (place + 3) b = laid-three r.code r.number tag place buffer (omega arith) in
+    let three : Laid (r.code ∷ r.number ∷ tag ∷ []) place buffer (place + 3) b = laid_three r.code r.number tag place buffer (omega arith) in
     subst (λ (k : ℕ). Laid (r.code ∷ r.number ∷ k ∷ used ∷ []) place buffer (place + 4) (set b (place + 3) used)) e
     (laid_both (r.code ∷ r.number ∷ tag ∷ []) (used ∷ []) place (place + 3) (place + 4) buffer b (set b (place + 3) used) three
     (laid_one used (place + 3) (place + 4) b (omega arith) (omega (arith, three.size))))
 
 -- Commands before commands.
-pub preceded-twice : (n m : ℕ) (xs ys : List ℕ) (r : Run) → preceded n xs (preceded m ys r) ≡ preceded (n + m) (xs ++ ys) r
-preceded-twice n m xs ys r =
+pub preceded_twice : (n m : ℕ) (xs ys : List ℕ) (r : Run) → preceded n xs (preceded m ys r) ≡ preceded (n + m) (xs ++ ys) r
+preceded_twice n m xs ys r =
     let sum : n + (m + r.done) ≡ n + m + r.done = omega arith in
     ap (λ (k : ℕ). run_of k r.at r.arrays r.cells r.tags (xs ++ (ys ++ r.answers))) sum
     ∙ ap (λ (l : List ℕ). run_of (n + m + r.done) r.at r.arrays r.cells r.tags l) (sym (append_assoc xs ys r.answers))
 
-pub preceded-none : (r : Run) → preceded 0 [] r ≡ r
-preceded-none r = let sum : 0 + r.done ≡ r.done = omega arith in ap (λ (k : ℕ). run_of k r.at r.arrays r.cells r.tags r.answers) sum
+pub preceded_none : (r : Run) → preceded 0 [] r ≡ r
+preceded_none r = let sum : 0 + r.done ≡ r.done = omega arith in ap (λ (k : ℕ). run_of k r.at r.arrays r.cells r.tags r.answers) sum
 
-pub preceded-rest : (n : ℕ) (xs : List ℕ) (at : ℕ) (a : Arrays) (cells tags : List ℕ) → preceded n xs (resting at a cells tags) ≡ run_of n at a cells tags xs
-preceded-rest n xs at a cells tags =
+pub preceded_rest : (n : ℕ) (xs : List ℕ) (at : ℕ) (a : Arrays) (cells tags : List ℕ) → preceded n xs (resting at a cells tags) ≡ run_of n at a cells tags xs
+preceded_rest n xs at a cells tags =
     let sum : n + 0 ≡ n = omega arith in
     ap (λ (k : ℕ). run_of k at a cells tags (xs ++ [])) sum ∙ ap (λ (l : List ℕ). run_of n at a cells tags l) (append-nil xs)
 
@@ -55,41 +55,41 @@ preceded-rest n xs at a cells tags =
 module _ (input : List ℕ) (at : ℕ) where
   abbrev pub onward : ℕ → RanOn → Run
   onward room t =
-      pick (endsSession t.left.answer.code) (resting (at + t.used) t.left.arrays t.left.cells t.left.tags)
-      (runOn room t.left.arrays input (at + t.used) t.left.cells t.left.tags)
+      pick (ends_session t.left.answer.code) (resting (at + t.used) t.left.arrays t.left.cells t.left.tags)
+      (run_on room t.left.arrays input (at + t.used) t.left.cells t.left.tags)
 
   abbrev pub next : ℕ → RanOn → Run
-  next room t = preceded 1 (answerNumbers t.left.answer t.used) (onward room t)
+  next room t = preceded 1 (answer_numbers t.left.answer t.used) (onward room t)
 
   module _ (room : ℕ) (a : Arrays) (cells tags : List ℕ) where
-    pub run-next : at < length input → runOn (suc room) a input at cells tags ≡ next room (commandOn a input at cells tags)
-    unfolding runOn
-    run-next h = pick_yes (ltb at (length input)) (next room (commandOn a input at cells tags)) (resting at a cells tags) (lt-ltb at (length input) h)
+    pub run_next : at < length input → run_on (suc room) a input at cells tags ≡ next room (command_on a input at cells tags)
+    unfolding run_on
+    run_next h = pick_yes (ltb at (length input)) (next room (command_on a input at cells tags)) (resting at a cells tags) (lt-ltb at (length input) h)
 
   -- No command is done at the input's end, nor where there is no room.
-  pub run_past : (room : ℕ) (a : Arrays) (cells tags : List ℕ) → length input ≤ at → runOn room a input at cells tags ≡ resting at a cells tags
-  unfolding runOn
+  pub run_past : (room : ℕ) (a : Arrays) (cells tags : List ℕ) → length input ≤ at → run_on room a input at cells tags ≡ resting at a cells tags
+  unfolding run_on
   run_past zero a cells tags h = refl
   run_past (suc room) a cells tags h =
-      pick_no (ltb at (length input)) (next room (commandOn a input at cells tags)) (resting at a cells tags) (le-ltb at (length input) h)
+      pick_no (ltb at (length input)) (next room (command_on a input at cells tags)) (resting at a cells tags) (le-ltb at (length input) h)
 
   module _ (a : Arrays) (cells tags : List ℕ) where
-    pub run-full : (room : ℕ) → room ≡ 0 → runOn room a input at cells tags ≡ resting at a cells tags
-    unfolding runOn
-    run-full room e = ap (λ (k : ℕ). runOn k a input at cells tags) e
+    pub run_full : (room : ℕ) → room ≡ 0 → run_on room a input at cells tags ≡ resting at a cells tags
+    unfolding run_on
+    run_full room e = ap (λ (k : ℕ). run_on k a input at cells tags) e
 
-    pub run-over : (done room : ℕ) → ltb at (length input) && ltb done room ≡ false → runOn (room - done) a input at cells tags ≡ resting at a cells tags
-    run-over done room e = go (ltb at (length input)) refl e where
-      go : (b : Bool) → ltb at (length input) ≡ b → b && ltb done room ≡ false → runOn (room - done) a input at cells tags ≡ resting at a cells tags
-      go true p z = let h : room ≤ done = ltb-false done room z in run-full (room - done) (omega arith)
+    pub run_over : (done room : ℕ) → ltb at (length input) && ltb done room ≡ false → run_on (room - done) a input at cells tags ≡ resting at a cells tags
+    run_over done room e = go (ltb at (length input)) refl e where
+      go : (b : Bool) → ltb at (length input) ≡ b → b && ltb done room ≡ false → run_on (room - done) a input at cells tags ≡ resting at a cells tags
+      go true p z = let h : room ≤ done = ltb-false done room z in run_full (room - done) (omega arith)
       go false p z = run_past (room - done) a cells tags (ltb-false at (length input) p)
 
 -- A run whose answers are laid first in the buffer.
 module _ (a₀ : Arrays) (input : List ℕ) (at₀ : ℕ) (cells₀ tags₀ buffer : List ℕ) where
-  pub run-laid : (done at : ℕ) (a : Arrays) (cells tags written : List ℕ) → runOn (length buffer / 4) a₀ input at₀ cells₀ tags₀ ≡ run_of done at a cells tags written
-      → (end : ℕ) (after : List ℕ) → Laid written 0 buffer end after → end ≤ length buffer → run_of done at a cells tags after ≡ runIn a₀ input at₀ cells₀ tags₀ buffer
-  unfolding runIn
-  run-laid done at a cells tags written e end after p h =
+  pub run_laid : (done at : ℕ) (a : Arrays) (cells tags written : List ℕ) → run_on (length buffer / 4) a₀ input at₀ cells₀ tags₀ ≡ run_of done at a cells tags written
+      → (end : ℕ) (after : List ℕ) → Laid written 0 buffer end after → end ≤ length buffer → run_of done at a cells tags after ≡ run_in a₀ input at₀ cells₀ tags₀ buffer
+  unfolding run_in
+  run_laid done at a cells tags written e end after p h =
       let zero_is : 0 + length written ≡ length written = omega arith in
       ap (λ (l : List ℕ). run_of done at a cells tags l)
       (p.fits (omega (arith, p.ends)) ∙ ap (λ (n : ℕ). written ++ drop n buffer) zero_is)
@@ -101,31 +101,31 @@ ready input at buffer = ltb at (length input) && leb 4 (length buffer)
 
 -- A run that does none, and one whose first command is refused before it is read.
 module _ (a : Arrays) (input : List ℕ) (at : ℕ) (cells tags buffer : List ℕ) where
-  pub run-unready : ready input at buffer ≡ false → run_of 0 at a cells tags buffer ≡ runIn a input at cells tags buffer
-  run-unready e =
-      run-laid a input at cells tags buffer 0 at a cells tags [] (go (ltb at (length input)) refl e) 0 buffer (laid_none 0 buffer) (omega arith)
+  pub run_unready : ready input at buffer ≡ false → run_of 0 at a cells tags buffer ≡ run_in a input at cells tags buffer
+  run_unready e =
+      run_laid a input at cells tags buffer 0 at a cells tags [] (go (ltb at (length input)) refl e) 0 buffer (laid_none 0 buffer) (omega arith)
     where
-      go : (b : Bool) → ltb at (length input) ≡ b → b && leb 4 (length buffer) ≡ false → runOn (length buffer / 4) a input at cells tags ≡ resting at a cells tags
-      go true p z = let h : length buffer < 4 = leb-false 4 (length buffer) z in run-full input at a cells tags (length buffer / 4) (omega arith)
+      go : (b : Bool) → ltb at (length input) ≡ b → b && leb 4 (length buffer) ≡ false → run_on (length buffer / 4) a input at cells tags ≡ resting at a cells tags
+      go true p z = let h : length buffer < 4 = leb-false 4 (length buffer) z in run_full input at a cells tags (length buffer / 4) (omega arith)
       go false p z = run_past input at (length buffer / 4) a cells tags (ltb-false at (length input) p)
 
   module _ (e : ready input at buffer ≡ true) where
-    pub ready-room : 4 ≤ length buffer
-    ready-room = leb-true 4 (length buffer) (and_right (ltb at (length input)) (leb 4 (length buffer)) e)
+    pub ready_room : 4 ≤ length buffer
+    ready_room = leb-true 4 (length buffer) (and_right (ltb at (length input)) (leb 4 (length buffer)) e)
 
-    pub run-refused : (r : Answer) → ranOn (leaving r a cells tags) 0 ≡ commandOn a input at cells tags → endsSession r.code ≡ true → (after : List ℕ)
-        → Laid (answerNumbers r 0) 0 buffer 4 after → run_of 1 at a cells tags after ≡ runIn a input at cells tags buffer
-    run-refused r told stop after put =
+    pub run_refused : (r : Answer) → ran_on (leaving r a cells tags) 0 ≡ command_on a input at cells tags → ends_session r.code ≡ true → (after : List ℕ)
+        → Laid (answer_numbers r 0) 0 buffer 4 after → run_of 1 at a cells tags after ≡ run_in a input at cells tags buffer
+    run_refused r told stop after put =
         let k = length buffer / 4 - 1 in
-        let one : length buffer / 4 ≡ suc k = omega (arith, ready-room) in
+        let one : length buffer / 4 ≡ suc k = omega (arith, ready_room) in
         let stays : at + 0 ≡ at = omega arith in
-        run-laid a input at cells tags buffer 1 at a cells tags (answerNumbers r 0)
-        (ap (λ (j : ℕ). runOn j a input at cells tags) one
-        ∙ run-next input at k a cells tags (ltb-true at (length input) (and_left (ltb at (length input)) (leb 4 (length buffer)) e))
+        run_laid a input at cells tags buffer 1 at a cells tags (answer_numbers r 0)
+        (ap (λ (j : ℕ). run_on j a input at cells tags) one
+        ∙ run_next input at k a cells tags (ltb-true at (length input) (and_left (ltb at (length input)) (leb 4 (length buffer)) e))
         ∙ ap (next input at k) (sym told)
-        ∙ ap (preceded 1 (answerNumbers r 0)) (pick_yes (endsSession r.code) (resting (at + 0) a cells tags) (runOn k a input (at + 0) cells tags) stop)
-        ∙ preceded-rest 1 (answerNumbers r 0) (at + 0) a cells tags
-        ∙ ap (λ (j : ℕ). run_of 1 j a cells tags (answerNumbers r 0)) stays) 4 after put ready-room
+        ∙ ap (preceded 1 (answer_numbers r 0)) (pick_yes (ends_session r.code) (resting (at + 0) a cells tags) (run_on k a input (at + 0) cells tags) stop)
+        ∙ preceded_rest 1 (answer_numbers r 0) (at + 0) a cells tags
+        ∙ ap (λ (j : ℕ). run_of 1 j a cells tags (answer_numbers r 0)) stays) 4 after put ready_room
 
 -- How far a run on arrays has come: what is written, and what is left to do.
 pub record Coming (input : List ℕ) (a₀ : Arrays) (at₀ : ℕ) (cells₀ tags₀ buffer : List ℕ) (room : ℕ) (a : Arrays) (cells tags answers : List ℕ) (at done : ℕ) : Type 0 where
@@ -134,10 +134,10 @@ pub record Coming (input : List ℕ) (a₀ : Arrays) (at₀ : ℕ) (cells₀ tag
   pub first : Formed a₀
   pub formed : Formed a
   pub fits : (length cells ≡ 16 * a.nums.f) × (length tags ≡ 16 * a.nums.f)
-  pub of-cells : length cells ≡ length cells₀
-  pub of-tags : length tags ≡ length tags₀
+  pub of_cells : length cells ≡ length cells₀
+  pub of_tags : length tags ≡ length tags₀
   pub written : List ℕ
-  pub is : runOn room a₀ input at₀ cells₀ tags₀ ≡ preceded done written (runOn (room - done) a input at cells tags)
+  pub is : run_on room a₀ input at₀ cells₀ tags₀ ≡ preceded done written (run_on (room - done) a input at cells tags)
   pub laid : Laid written 0 buffer (4 * done) answers
 
 pub coming : (input : List ℕ) (a : Arrays) (at : ℕ) (cells tags buffer : List ℕ) → Formed a → (length cells ≡ 16 * a.nums.f) × (length tags ≡ 16 * a.nums.f)
@@ -148,22 +148,22 @@ coming input a at cells tags buffer f m = record {
   first = f;
   formed = f;
   fits = m;
-  of-cells = refl;
-  of-tags = refl;
+  of_cells = refl;
+  of_tags = refl;
   written = [];
   is =
       let all : length buffer / 4 ≡ length buffer / 4 - 0 = omega arith in
-      ap (λ (k : ℕ). runOn k a input at cells tags) all ∙ sym (preceded-none (runOn (length buffer / 4 - 0) a input at cells tags));
+      ap (λ (k : ℕ). run_on k a input at cells tags) all ∙ sym (preceded_none (run_on (length buffer / 4 - 0) a input at cells tags));
   laid = laid_none 0 buffer;
 }
 
 module _ {input : List ℕ} {a₀ : Arrays} {at₀ : ℕ} {cells₀ tags₀ buffer : List ℕ} {room : ℕ} {a : Arrays} {cells tags answers : List ℕ} {at done : ℕ}
     (g : Coming input a₀ at₀ cells₀ tags₀ buffer room a cells tags answers at done) where
-  pub came : ltb at (length input) && ltb done room ≡ false → run_of done at a cells tags answers ≡ runIn a₀ input at₀ cells₀ tags₀ buffer
+  pub came : ltb at (length input) && ltb done room ≡ false → run_of done at a cells tags answers ≡ run_in a₀ input at₀ cells₀ tags₀ buffer
   came e =
-      run-laid a₀ input at₀ cells₀ tags₀ buffer done at a cells tags g.written
-      (ap (λ (k : ℕ). runOn k a₀ input at₀ cells₀ tags₀) (sym g.spaces) ∙ g.is ∙ ap (preceded done g.written) (run-over input at a cells tags done room e)
-      ∙ preceded-rest done g.written at a cells tags) (4 * done) answers g.laid (omega (arith, g.spaces, g.few))
+      run_laid a₀ input at₀ cells₀ tags₀ buffer done at a cells tags g.written
+      (ap (λ (k : ℕ). run_on k a₀ input at₀ cells₀ tags₀) (sym g.spaces) ∙ g.is ∙ ap (preceded done g.written) (run_over input at a cells tags done room e)
+      ∙ preceded_rest done g.written at a cells tags) (4 * done) answers g.laid (omega (arith, g.spaces, g.few))
 
   -- The next answer's place.
   module _ (test : ltb at (length input) && ltb done room ≡ true) where
@@ -178,83 +178,83 @@ module _ {input : List ℕ} {a₀ : Arrays} {at₀ : ℕ} {cells₀ tags₀ buff
 
     -- One turn of the loop.
     module _ {r : Answer} {a' : Arrays} {cells' tags' : List ℕ} {n : ℕ}
-        (promise : OnFormed a cells tags (ranOn (leaving r a' cells' tags') n ≡ commandJudgedOn a input at cells tags)) where
-      abbrev e : ranOn (leaving r a' cells' tags') n ≡ commandJudgedOn a input at cells tags
+        (promise : OnFormed a cells tags (ran_on (leaving r a' cells' tags') n ≡ command_judged_on a input at cells tags)) where
+      abbrev e : ran_on (leaving r a' cells' tags') n ≡ command_judged_on a input at cells tags
       e = promise g.formed g.fits
 
-      on : ran (commanded r a' n) cells' tags' ≡ commandOf (state_of a) input at cells tags
-      on = ran_on a g.formed input at cells tags r a' cells' tags' n e
+      on : ran (commanded r a' n) cells' tags' ≡ command_of (state_of a) input at cells tags
+      on = ran_on_lem a g.formed input at cells tags r a' cells' tags' n e
 
-      told : ranOn (leaving r a' cells' tags') n ≡ commandOn a input at cells tags
-      told = command-formed a cells tags input at (passing a g.formed) (ranOn (leaving r a' cells' tags') n) e
+      told : ran_on (leaving r a' cells' tags') n ≡ command_on a input at cells tags
+      told = command_formed a cells tags input at (passing a g.formed) (ran_on (leaving r a' cells' tags') n) e
 
-      pub formed-on : Formed a'
-      formed-on = ran-formed a g.formed input at cells tags r a' cells' tags' n e
+      pub formed_on : Formed a'
+      formed_on = ran_formed a g.formed input at cells tags r a' cells' tags' n e
 
       pub kept_on : Kept a₀ a'
-      kept_on = kept g.first formed-on
+      kept_on = kept g.first formed_on
 
       pub within_on : at + n ≤ length input
       within_on =
           let h : at ≤ length input = omega (arith, more) in
-          subst (λ (x : Ran). at + x.command.used ≤ length input) (sym on) (command-used (state_of a) input at cells tags h).within
+          subst (λ (x : Ran). at + x.command.used ≤ length input) (sym on) (command_used (state_of a) input at cells tags h).within
 
       cells_same : length cells' ≡ length cells
-      cells_same = subst (λ (x : Ran). length x.cells ≡ length cells) (sym on) (command-sized (state_of a) input at cells tags).of-cells
+      cells_same = subst (λ (x : Ran). length x.cells ≡ length cells) (sym on) (command_sized (state_of a) input at cells tags).of_cells
 
-      tags-same : length tags' ≡ length tags
-      tags-same = subst (λ (x : Ran). length x.tags ≡ length tags) (sym on) (command-sized (state_of a) input at cells tags).of-tags
+      tags_same : length tags' ≡ length tags
+      tags_same = subst (λ (x : Ran). length x.tags ≡ length tags) (sym on) (command_sized (state_of a) input at cells tags).of_tags
 
-      pub cells-on : length cells' ≡ length cells₀
-      cells-on = cells_same ∙ g.of-cells
+      pub cells_on : length cells' ≡ length cells₀
+      cells_on = cells_same ∙ g.of_cells
 
-      pub tags-on : length tags' ≡ length tags₀
-      tags-on = tags-same ∙ g.of-tags
+      pub tags_on : length tags' ≡ length tags₀
+      tags_on = tags_same ∙ g.of_tags
 
-      split : runOn room a₀ input at₀ cells₀ tags₀
-          ≡ preceded (done + 1) (g.written ++ answerNumbers r n) (onward input at (room - (done + 1)) (ranOn (leaving r a' cells' tags') n))
+      split : run_on room a₀ input at₀ cells₀ tags₀
+          ≡ preceded (done + 1) (g.written ++ answer_numbers r n) (onward input at (room - (done + 1)) (ran_on (leaving r a' cells' tags') n))
       split =
           let k = room - (done + 1) in
           let one : room - done ≡ suc k = omega (arith, roomy) in
           g.is
           ∙ ap (preceded done g.written)
-          (ap (λ (j : ℕ). runOn j a input at cells tags) one ∙ run-next input at k a cells tags more ∙ ap (next input at k) (sym told))
-          ∙ preceded-twice done 1 g.written (answerNumbers r n) (onward input at k (ranOn (leaving r a' cells' tags') n))
+          (ap (λ (j : ℕ). run_on j a input at cells tags) one ∙ run_next input at k a cells tags more ∙ ap (next input at k) (sym told))
+          ∙ preceded_twice done 1 g.written (answer_numbers r n) (onward input at k (ran_on (leaving r a' cells' tags') n))
 
-      module _ {answers' : List ℕ} (put : Laid (answerNumbers r n) (4 * done) answers (4 * done + 4) answers') where
-        pub size-on : length answers' ≡ length buffer
-        size-on = put.size ∙ g.laid.size
+      module _ {answers' : List ℕ} (put : Laid (answer_numbers r n) (4 * done) answers (4 * done + 4) answers') where
+        pub size_on : length answers' ≡ length buffer
+        size_on = put.size ∙ g.laid.size
 
-        laid : Laid (g.written ++ answerNumbers r n) 0 buffer (4 * (done + 1)) answers'
+        laid : Laid (g.written ++ answer_numbers r n) 0 buffer (4 * (done + 1)) answers'
         laid =
             let four : 4 * done + 4 ≡ 4 * (done + 1) = omega arith in
-            subst (λ (k : ℕ). Laid (g.written ++ answerNumbers r n) 0 buffer k answers') four
-            (laid_both g.written (answerNumbers r n) 0 (4 * done) (4 * done + 4) buffer answers answers' g.laid put)
+            subst (λ (k : ℕ). Laid (g.written ++ answer_numbers r n) 0 buffer k answers') four
+            (laid_both g.written (answer_numbers r n) 0 (4 * done) (4 * done + 4) buffer answers answers' g.laid put)
 
-        pub stops : endsSession r.code ≡ true → run_of (done + 1) (at + n) a' cells' tags' answers' ≡ runIn a₀ input at₀ cells₀ tags₀ buffer
+        pub stops : ends_session r.code ≡ true → run_of (done + 1) (at + n) a' cells' tags' answers' ≡ run_in a₀ input at₀ cells₀ tags₀ buffer
         stops z =
-            run-laid a₀ input at₀ cells₀ tags₀ buffer (done + 1) (at + n) a' cells' tags' (g.written ++ answerNumbers r n)
-            (ap (λ (k : ℕ). runOn k a₀ input at₀ cells₀ tags₀) (sym g.spaces) ∙ split
-            ∙ ap (preceded (done + 1) (g.written ++ answerNumbers r n))
-            (pick_yes (endsSession r.code) (resting (at + n) a' cells' tags') (runOn (room - (done + 1)) a' input (at + n) cells' tags') z)
-            ∙ preceded-rest (done + 1) (g.written ++ answerNumbers r n) (at + n) a' cells' tags')
+            run_laid a₀ input at₀ cells₀ tags₀ buffer (done + 1) (at + n) a' cells' tags' (g.written ++ answer_numbers r n)
+            (ap (λ (k : ℕ). run_on k a₀ input at₀ cells₀ tags₀) (sym g.spaces) ∙ split
+            ∙ ap (preceded (done + 1) (g.written ++ answer_numbers r n))
+            (pick_yes (ends_session r.code) (resting (at + n) a' cells' tags') (run_on (room - (done + 1)) a' input (at + n) cells' tags') z)
+            ∙ preceded_rest (done + 1) (g.written ++ answer_numbers r n) (at + n) a' cells' tags')
             (4 * (done + 1)) answers' laid (omega (arith, roomy, g.spaces))
 
-        pub comes-on : endsSession r.code ≡ false → Coming input a₀ at₀ cells₀ tags₀ buffer room a' cells' tags' answers' (at + n) (done + 1)
-        comes-on z =
-            let f-same : a'.nums.f ≡ a.nums.f = ran-sized a g.formed input at cells tags r a' cells' tags' n e in
+        pub comes_on : ends_session r.code ≡ false → Coming input a₀ at₀ cells₀ tags₀ buffer room a' cells' tags' answers' (at + n) (done + 1)
+        comes_on z =
+            let f_same : a'.nums.f ≡ a.nums.f = ran_sized a g.formed input at cells tags r a' cells' tags' n e in
             record {
               spaces = g.spaces;
               few = omega (arith, roomy);
               first = g.first;
-              formed = formed-on;
-              fits = (cells_same ∙ g.fits.0 ∙ ap (λ (x : ℕ). 16 * x) (sym f-same), tags-same ∙ g.fits.1 ∙ ap (λ (x : ℕ). 16 * x) (sym f-same));
-              of-cells = cells-on;
-              of-tags = tags-on;
-              written = g.written ++ answerNumbers r n;
+              formed = formed_on;
+              fits = (cells_same ∙ g.fits.0 ∙ ap (λ (x : ℕ). 16 * x) (sym f_same), tags_same ∙ g.fits.1 ∙ ap (λ (x : ℕ). 16 * x) (sym f_same));
+              of_cells = cells_on;
+              of_tags = tags_on;
+              written = g.written ++ answer_numbers r n;
               is =
                   split
-                  ∙ ap (preceded (done + 1) (g.written ++ answerNumbers r n))
-                  (pick_no (endsSession r.code) (resting (at + n) a' cells' tags') (runOn (room - (done + 1)) a' input (at + n) cells' tags') z);
+                  ∙ ap (preceded (done + 1) (g.written ++ answer_numbers r n))
+                  (pick_no (ends_session r.code) (resting (at + n) a' cells' tags') (run_on (room - (done + 1)) a' input (at + n) cells' tags') z);
               laid = laid;
             }

@@ -10,17 +10,17 @@ use Rattle.words.specs.Words.{empty}
 use Rattle.machine.specs.Formed.{start_of}
 use Rattle.arrays.specs.declared.Arrays.{Arrays}
 use Rattle.arrays.specs.Steps.{answer}
-use Rattle.entries.specs.ByValue.{beginning, startOn}
-use Rattle.arrays.proofs.Starting.{begun, firstNumber, rootNumber, fresh_in, fresh-out}
+use Rattle.entries.specs.ByValue.{beginning, start_on}
+use Rattle.arrays.proofs.Starting.{begun, first_number, root_number, fresh_in, fresh_out}
 
-pub start-in : (v f : ℕ) → in_range v f ≡ true → beginning (answer 0 empty) (begun v f 1 (set (replicate 64 0) 0 (firstNumber v)) (set (replicate 32 0) 0 rootNumber)) ≡ startOn v f
-unfolding startOn start_of
-start-in v f e =
-    ap (λ (n : ℕ). beginning (answer n empty) (begun v f 1 (set (replicate 64 0) 0 (firstNumber v)) (set (replicate 32 0) 0 rootNumber))) (sym (pick_yes (in_range v f) 0 1 e))
+pub start_in : (v f : ℕ) → in_range v f ≡ true → beginning (answer 0 empty) (begun v f 1 (set (replicate 64 0) 0 (first_number v)) (set (replicate 32 0) 0 root_number)) ≡ start_on v f
+unfolding start_on start_of
+start_in v f e =
+    ap (λ (n : ℕ). beginning (answer n empty) (begun v f 1 (set (replicate 64 0) 0 (first_number v)) (set (replicate 32 0) 0 root_number))) (sym (pick_yes (in_range v f) 0 1 e))
     ∙ ap (λ (a : Arrays). beginning (answer (pick (in_range v f) 0 1) empty) a) (sym (fresh_in v f e))
 
-pub start-out : (v f : ℕ) → in_range v f ≡ false → beginning (answer 1 empty) (begun 0 0 0 (replicate 64 0) (replicate 32 0)) ≡ startOn v f
-unfolding startOn start_of
-start-out v f e =
+pub start_out : (v f : ℕ) → in_range v f ≡ false → beginning (answer 1 empty) (begun 0 0 0 (replicate 64 0) (replicate 32 0)) ≡ start_on v f
+unfolding start_on start_of
+start_out v f e =
     ap (λ (n : ℕ). beginning (answer n empty) (begun 0 0 0 (replicate 64 0) (replicate 32 0))) (sym (pick_no (in_range v f) 0 1 e))
-    ∙ ap (λ (a : Arrays). beginning (answer (pick (in_range v f) 0 1) empty) a) (sym (fresh-out v f e))
+    ∙ ap (λ (a : Arrays). beginning (answer (pick (in_range v f) 0 1) empty) a) (sym (fresh_out v f e))

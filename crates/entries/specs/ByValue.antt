@@ -4,7 +4,7 @@ use Rattle.words.specs.Words.{empty}
 use Rattle.machine.specs.Formed.{start_of}
 use Rattle.arrays.specs.declared.Arrays.{Arrays}
 use Rattle.arrays.specs.declared.Answer.{Answer}
-use Rattle.arrays.specs.Reading.{arraysOf}
+use Rattle.arrays.specs.Reading.{arrays_of}
 use Rattle.arrays.specs.Steps.{answer}
 use Rattle.entries.specs.declared.State.{State}
 use Rattle.entries.specs.declared.Commanded.{Commanded}
@@ -21,5 +21,5 @@ pub record Begun : Type 0 where
 abbrev pub beginning : Answer → Arrays → Begun
 beginning r a = record { answer = r; arrays = a }
 
-unfoldable pub startOn : ℕ → ℕ → Begun
-startOn v f = beginning (answer (start_of v f).code empty) (arraysOf (start_of v f).state)
+unfoldable pub start_on : ℕ → ℕ → Begun
+start_on v f = beginning (answer (start_of v f).code empty) (arrays_of (start_of v f).state)

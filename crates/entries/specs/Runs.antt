@@ -5,13 +5,13 @@ use Rattle.words.specs.Words.{byte_of}
 use Rattle.arrays.specs.declared.Answer.{Answer}
 use Rattle.arrays.specs.declared.Arrays.{Arrays}
 use Rattle.arrays.specs.declared.Numbers.{Numbers}
-use Rattle.session_rules.specs.Session.{endsSession}
+use Rattle.session_rules.specs.Session.{ends_session}
 use Rattle.entries.specs.declared.runs.Ran.{Ran}
-use Rattle.step.specs.Entries.{commandOn}
+use Rattle.step.specs.Entries.{command_on}
 
 -- A command's answer as four numbers: code, number, tag as 0 or 1, bytes used.
-abbrev pub answerNumbers : Answer → ℕ → List ℕ
-answerNumbers r used = r.code ∷ r.number ∷ byte_of r.tag ∷ used ∷ []
+abbrev pub answer_numbers : Answer → ℕ → List ℕ
+answer_numbers r used = r.code ∷ r.number ∷ byte_of r.tag ∷ used ∷ []
 
 -- What a run leaves: how many commands it did, the place in the input that it reached, the arrays, the lent memory, and the
 -- numbers of its answers in order.
@@ -36,31 +36,31 @@ preceded n answers r = run_of (n + r.done) r.at r.arrays r.cells r.tags (answers
 
 -- The commands from a place on, for as many answers as there is room. A run ends at the input's end, after a refusal 1 to 3, or
 -- where there is no more room.
-unfoldable pub runOn : ℕ → Arrays → List ℕ → ℕ → List ℕ → List ℕ → Run
-runOn zero a input at cells tags = resting at a cells tags
-runOn (suc room) a input at cells tags =
-    let t = commandOn a input at cells tags in
+unfoldable pub run_on : ℕ → Arrays → List ℕ → ℕ → List ℕ → List ℕ → Run
+run_on zero a input at cells tags = resting at a cells tags
+run_on (suc room) a input at cells tags =
+    let t = command_on a input at cells tags in
     let l = t.left in
     pick (ltb at (length input))
-    (preceded 1 (answerNumbers l.answer t.used)
-    (pick (endsSession l.answer.code) (resting (at + t.used) l.arrays l.cells l.tags) (runOn room l.arrays input (at + t.used) l.cells l.tags)))
+    (preceded 1 (answer_numbers l.answer t.used)
+    (pick (ends_session l.answer.code) (resting (at + t.used) l.arrays l.cells l.tags) (run_on room l.arrays input (at + t.used) l.cells l.tags)))
     (resting at a cells tags)
 
 -- The same with the answers first in a lent buffer, which has room for one in every four numbers; its rest is kept.
-unfoldable pub runIn : Arrays → List ℕ → ℕ → List ℕ → List ℕ → List ℕ → Run
-runIn a input at cells tags buffer =
-    let r = runOn (length buffer / 4) a input at cells tags in
+unfoldable pub run_in : Arrays → List ℕ → ℕ → List ℕ → List ℕ → List ℕ → Run
+run_in a input at cells tags buffer =
+    let r = run_on (length buffer / 4) a input at cells tags in
     run_of r.done r.at r.arrays r.cells r.tags (r.answers ++ drop (length r.answers) buffer)
 
 -- The code of the last answer; 0 where there is none.
-unfoldable pub lastCode : List ℕ → ℕ
-lastCode answers = get_or answers (length answers - 4) 0
+unfoldable pub last_code : List ℕ → ℕ
+last_code answers = get_or answers (length answers - 4) 0
 
 -- A run with room for m, given room for n more: if it was full and its last answer ends no run, it goes on from the place reached.
-unfoldable pub goneOn : List ℕ → ℕ → ℕ → Run → Run
-goneOn input m n r =
-    pick (eqb r.done m && not (endsSession (lastCode r.answers))) (preceded r.done r.answers (runOn n r.arrays input r.at r.cells r.tags)) r
+unfoldable pub gone_on : List ℕ → ℕ → ℕ → Run → Run
+gone_on input m n r =
+    pick (eqb r.done m && not (ends_session (last_code r.answers))) (preceded r.done r.answers (run_on n r.arrays input r.at r.cells r.tags)) r
 
 -- What a run hands back: the small numbers, how many commands it did, and the place reached.
-abbrev pub ranTo : Numbers → ℕ → ℕ → Ran
-ranTo nums done at = record { nums = nums; done = done; at = at }
+abbrev pub ran_to : Numbers → ℕ → ℕ → Ran
+ran_to nums done at = record { nums = nums; done = done; at = at }

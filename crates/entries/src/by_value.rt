@@ -4,10 +4,10 @@ ghost use Rattle.arrays.specs.Reading.{arrays};
 ghost use Rattle.arrays.specs.Steps.{leaving};
 ghost use Rattle.claims.specs.Cost.{cost};
 ghost use Rattle.machine.specs.Cost.{costed};
-ghost use Rattle.formed.specs.Test.{formedOf};
-ghost use Rattle.cost.specs.Asked.{costOn};
-ghost use Rattle.step.specs.Entries.{stepOn, ranOn, commandOn};
-ghost use Rattle.entries.specs.ByValue.{beginning, commanding, startOn};
+ghost use Rattle.formed.specs.Test.{formed_of};
+ghost use Rattle.cost.specs.Asked.{cost_on};
+ghost use Rattle.step.specs.Entries.{step_on, ran_on, command_on};
+ghost use Rattle.entries.specs.ByValue.{beginning, commanding, start_on};
 
 use crate::{Answered, Commanded, State, call_in, command_in};
 use arrays::{Answer, Arrays, Numbers};
@@ -58,7 +58,7 @@ fn commanded(answer: Answer, used: usize, arrays: Arrays) -> Commanded
 impl State {
     // A fresh state for V and F, or refusal 1 with the all-zero state.
     pub fn start(v: u16, f: u16) -> Answered
-        ensures { beginning result.answer result.state.arrays ≡ startOn v f }
+        ensures { beginning result.answer result.state.arrays ≡ start_on v f }
     {
         let mut rows = [0u64; 64];
         let mut principals = [0u64; 32];
@@ -91,7 +91,7 @@ impl State {
     }
 
     pub fn well_formed(self) -> bool
-        ensures { result ≡ formedOf self.arrays }
+        ensures { result ≡ formed_of self.arrays }
     {
         let a = self.arrays;
         let nums = a.nums;
@@ -120,7 +120,7 @@ impl State {
 
     // What those who claim a page pay for it.
     pub fn page_cost(self, page: u64) -> Costed
-        ensures { costed result.code (cost result.share result.remainder) ≡ costOn self.arrays page }
+        ensures { costed result.code (cost result.share result.remainder) ≡ cost_on self.arrays page }
     {
         let a = self.arrays;
         let nums = a.nums;
@@ -150,7 +150,7 @@ impl State {
 
     // One call.
     pub fn call(self, call: Call, cells: &mut [u64], tags: &mut [u8]) -> Answered
-        ensures { leaving result.answer result.state.arrays cells.new tags.new ≡ stepOn self.arrays call cells.old tags.old }
+        ensures { leaving result.answer result.state.arrays cells.new tags.new ≡ step_on self.arrays call cells.old tags.old }
     {
         let mut a = self.arrays;
         let mut words = a.words;
@@ -193,7 +193,7 @@ impl State {
 
     // One command of bytes.
     pub fn command(self, input: &[u8], at: usize, cells: &mut [u64], tags: &mut [u8]) -> Commanded
-        ensures { ranOn (leaving result.answer result.state.arrays cells.new tags.new) result.used ≡ commandOn self.arrays input.now at cells.old tags.old }
+        ensures { ran_on (leaving result.answer result.state.arrays cells.new tags.new) result.used ≡ command_on self.arrays input.now at cells.old tags.old }
     {
         let mut a = self.arrays;
         let mut words = a.words;

@@ -3,7 +3,7 @@
 ghost use Rattle.std.specs.Prelude.{◌≡◌};
 ghost use Rattle.arrays.specs.Reading.{arrays};
 ghost use Rattle.arrays.specs.Steps.{leaving};
-ghost use Rattle.step.specs.Entries.{stepOn, ranOn, commandOn};
+ghost use Rattle.step.specs.Entries.{step_on, ran_on, command_on};
 
 use arrays::{Answer, Arrays, Numbers};
 use calls::Call;
@@ -52,7 +52,7 @@ pub fn call_in(
     cells: &mut [u64],
     tags: &mut [u8],
 ) -> Stepped
-    ensures { leaving result.answer (arrays result.nums words.new marks.new mail.new flags.new rows.new pages.new frames.new principals.new counts.new) cells.new tags.new ≡ stepOn (arrays nums words.old marks.old mail.old flags.old rows.old pages.old frames.old principals.old counts.old) call cells.old tags.old }
+    ensures { leaving result.answer (arrays result.nums words.new marks.new mail.new flags.new rows.new pages.new frames.new principals.new counts.new) cells.new tags.new ≡ step_on (arrays nums words.old marks.old mail.old flags.old rows.old pages.old frames.old principals.old counts.old) call cells.old tags.old }
 {
     if !formed(
         nums, words, marks, mail, flags, rows, pages, frames, principals, counts,
@@ -87,7 +87,7 @@ pub fn command_in(
     cells: &mut [u64],
     tags: &mut [u8],
 ) -> Ended
-    ensures { ranOn (leaving result.answer (arrays result.nums words.new marks.new mail.new flags.new rows.new pages.new frames.new principals.new counts.new) cells.new tags.new) result.used ≡ commandOn (arrays nums words.old marks.old mail.old flags.old rows.old pages.old frames.old principals.old counts.old) input.now at cells.old tags.old }
+    ensures { ran_on (leaving result.answer (arrays result.nums words.new marks.new mail.new flags.new rows.new pages.new frames.new principals.new counts.new) cells.new tags.new) result.used ≡ command_on (arrays nums words.old marks.old mail.old flags.old rows.old pages.old frames.old principals.old counts.old) input.now at cells.old tags.old }
 {
     if !formed(
         nums, words, marks, mail, flags, rows, pages, frames, principals, counts,

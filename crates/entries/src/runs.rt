@@ -4,7 +4,7 @@ ghost use Rattle.words.specs.Words.{empty};
 ghost use Rattle.arrays.specs.Reading.{arrays, Formed};
 ghost use Rattle.arrays.specs.Steps.{answer as answering};
 ghost use Rattle.lines.specs.Laid.{Laid};
-ghost use Rattle.entries.specs.Runs.{answerNumbers, run_of, runIn, ranTo};
+ghost use Rattle.entries.specs.Runs.{answer_numbers, run_of, run_in, ran_to};
 
 use arrays::{Answer, Numbers};
 use calls_in_place::word_calls::coded;
@@ -24,7 +24,7 @@ pub struct Ran {
 // An answer's four numbers, put at a place that has room for them.
 fn put_answer(answers: &mut [u64], place: usize, answer: Answer, used: usize)
     requires { place + 4 ≤ length answers.old }
-    ensures { Laid (answerNumbers answer used) place answers.old (place + 4) answers.new }
+    ensures { Laid (answer_numbers answer used) place answers.old (place + 4) answers.new }
 {
     answers[place] = answer.code as u64;
     answers[place + 1] = answer.number;
@@ -35,8 +35,8 @@ fn put_answer(answers: &mut [u64], place: usize, answer: Answer, used: usize)
 // A run that is one refused command, which uses no byte.
 fn refuse(nums: Numbers, at: usize, code: u8, answers: &mut [u64]) -> Ran
     requires { 4 ≤ length answers.old }
-    ensures value { result ≡ ranTo nums 1 at }
-    ensures laid { Laid (answerNumbers (answering code empty) 0) 0 answers.old 4 answers.new }
+    ensures value { result ≡ ran_to nums 1 at }
+    ensures laid { Laid (answer_numbers (answering code empty) 0) 0 answers.old 4 answers.new }
 {
     put_answer(answers, 0, coded(code), 0);
     Ran { nums, done: 1, at }
@@ -62,7 +62,7 @@ fn run(
 ) -> Ran
     requires formed { Formed (arrays start words.old marks.old mail.old flags.old rows.old pages.old frames.old principals.old counts.old) }
     requires cells_len { (length cells.old ≡ 16 * start.f) × (length tags.old ≡ 16 * start.f) }
-    ensures { run_of result.done result.at (arrays result.nums words.new marks.new mail.new flags.new rows.new pages.new frames.new principals.new counts.new) cells.new tags.new answers.new ≡ runIn (arrays start words.old marks.old mail.old flags.old rows.old pages.old frames.old principals.old counts.old) input.now begin cells.old tags.old answers.old }
+    ensures { run_of result.done result.at (arrays result.nums words.new marks.new mail.new flags.new rows.new pages.new frames.new principals.new counts.new) cells.new tags.new answers.new ≡ run_in (arrays start words.old marks.old mail.old flags.old rows.old pages.old frames.old principals.old counts.old) input.now begin cells.old tags.old answers.old }
 {
     let room = answers.len() / 4;
     let mut nums = start;
@@ -105,7 +105,7 @@ pub fn commands_in(
     tags: &mut [u8],
     answers: &mut [u64],
 ) -> Ran
-    ensures { run_of result.done result.at (arrays result.nums words.new marks.new mail.new flags.new rows.new pages.new frames.new principals.new counts.new) cells.new tags.new answers.new ≡ runIn (arrays nums words.old marks.old mail.old flags.old rows.old pages.old frames.old principals.old counts.old) input.now at cells.old tags.old answers.old }
+    ensures { run_of result.done result.at (arrays result.nums words.new marks.new mail.new flags.new rows.new pages.new frames.new principals.new counts.new) cells.new tags.new answers.new ≡ run_in (arrays nums words.old marks.old mail.old flags.old rows.old pages.old frames.old principals.old counts.old) input.now at cells.old tags.old answers.old }
 {
     if !((at < input.len()) & (4 <= answers.len())) {
         return Ran { nums, done: 0, at };

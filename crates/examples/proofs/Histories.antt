@@ -8,7 +8,7 @@ use lib.ListN.{length, replicate}
 use Rattle.capabilities.specs.Lists.{same, all}
 use Rattle.capabilities.specs.declared.Range.{Range}
 use Rattle.pages.specs.Pages.{Pages}
-use Rattle.sweep.specs.Sweep.{Passed, passing, sweepOf}
+use Rattle.sweep.specs.Sweep.{Passed, passing, sweep_of}
 use Rattle.table.specs.Rows.{live}
 use Rattle.reservations.specs.Revocation.{dying}
 use Rattle.calls.specs.declared.Call.{Call}
@@ -18,8 +18,8 @@ use Rattle.words.specs.declared.Slot.{Slot}
 use Rattle.words.specs.Words.{byte_of}
 use Rattle.machine.specs.Formed.{start_of}
 use Rattle.machine.specs.Step.{step_of}
-use Rattle.cases.specs.Variants.{Rule, instead, sweepBy, loadBy, storeBy}
-use Rattle.cases.specs.WrongMachines.{untouched, loadsDying, keptByte}
+use Rattle.cases.specs.Variants.{Rule, instead, sweep_by, load_by, store_by}
+use Rattle.cases.specs.WrongMachines.{untouched, loads_dying, kept_byte}
 use Rattle.machine.proofs.Computing.{computing}
 use Rattle.histories.specs.Runs.{Machine, machine, begun, Begins}
 use Rattle.histories.specs.Live.{Spot, register, virtual, word_in}
@@ -31,7 +31,7 @@ start = begun 2 1 (replicate 16 7) (replicate 16 1)
 -- The start is granted, over memory of the right size.
 pub begins : Begins 2 1 (replicate 16 7) (replicate 16 1)
 unfolding start_of
-begins = record { granted = refl; of-cells = refl; of-tags = refl }
+begins = record { granted = refl; of_cells = refl; of_tags = refl }
 
 -- A call, with its code and what is then seen: how many reservations there are, and which of some spots hold a capability.
 pub record Noted : Type 0 where
@@ -119,12 +119,12 @@ taken =
     ∷ [])
 
 -- A sweep that clears nothing, and answers as the rule does: the tag of cell 19 survives the collect.
-unfoldable pub clearsNothing : Pages → Range → ℕ → ℕ → List ℕ → List ℕ → Passed
-clearsNothing s r place n cells tags = passing (sweepOf s r place n cells tags).answer tags
+unfoldable pub clears_nothing : Pages → Range → ℕ → ℕ → List ℕ → List ℕ → Passed
+clears_nothing s r place n cells tags = passing (sweep_of s r place n cells tags).answer tags
 
 abbrev pub unswept : History
 unswept =
-    revoking (sweepBy clearsNothing)
+    revoking (sweep_by clears_nothing)
     (note (Sweep 0 8) (0 ∷ 2 ∷ 0 ∷ 1 ∷ 1 ∷ [])
     ∷ note (Store 0 1 2 0) (0 ∷ 2 ∷ 0 ∷ 1 ∷ 1 ∷ [])
     ∷ note (Sweep 0 8) (0 ∷ 2 ∷ 0 ∷ 1 ∷ 1 ∷ [])
@@ -134,7 +134,7 @@ unswept =
 -- A store without the filter: the tag of cell 18 survives the collect.
 abbrev pub unfiltered : History
 unfiltered =
-    revoking (storeBy untouched)
+    revoking (store_by untouched)
     (note (Sweep 0 8) (0 ∷ 2 ∷ 0 ∷ 0 ∷ 1 ∷ [])
     ∷ note (Store 0 1 2 0) (0 ∷ 2 ∷ 1 ∷ 0 ∷ 1 ∷ [])
     ∷ note (Sweep 0 8) (0 ∷ 2 ∷ 1 ∷ 0 ∷ 1 ∷ [])
@@ -142,20 +142,20 @@ unfiltered =
     ∷ [])
 
 -- How many registers and mailboxes hold a dying capability, and the tag of virtual cell 19, in memory.
-unfoldable pub dyingAmong : Machine → List Slot → ℕ
-dyingAmong m [] = 0
-dyingAmong m (w ∷ l) = byte_of (w.tag && dying m.state.core w.cell) + dyingAmong m l
+unfoldable pub dying_among : Machine → List Slot → ℕ
+dying_among m [] = 0
+dying_among m (w ∷ l) = byte_of (w.tag && dying m.state.core w.cell) + dying_among m l
 
-abbrev pub dyingHeld : Machine → List ℕ
-dyingHeld m = dyingAmong m (m.state.registers ++ m.state.mailboxes) ∷ byte_of (word_in m (virtual 19)).tag ∷ []
+abbrev pub dying_held : Machine → List ℕ
+dying_held m = dying_among m (m.state.registers ++ m.state.mailboxes) ∷ byte_of (word_in m (virtual 19)).tag ∷ []
 
 -- Party 0 stores its capability to cells 0 to 15 at virtual cell 19, as above, and forgets it. When these cells are revoked, no register and
 -- no mailbox holds a dying capability; memory does.
-abbrev pub keptInMemory : Rule → List Noted → History
-keptInMemory step rest =
+abbrev pub kept_in_memory : Rule → List Noted → History
+kept_in_memory step rest =
     record {
       step = step;
-      look = dyingHeld;
+      look = dying_held;
       calls =
           note (Zero 0 (frame 0)) (0 ∷ 0 ∷ 0 ∷ [])
           ∷ note (Map 0 (page 1) (frame 0)) (0 ∷ 0 ∷ 0 ∷ [])
@@ -169,9 +169,9 @@ keptInMemory step rest =
     }
 
 -- A load takes its tag, and leaves that in memory; so it cannot be narrowed or granted.
-abbrev pub deadAtOnce : History
-deadAtOnce =
-    keptInMemory step_of
+abbrev pub dead_at_once : History
+dead_at_once =
+    kept_in_memory step_of
     (note (Load 0 1 3 2) (0 ∷ 0 ∷ 1 ∷ [])
     ∷ note (Narrow 0 2 0 1 3 4) (15 ∷ 0 ∷ 1 ∷ [])
     ∷ note (Grant 0 2 1) (15 ∷ 0 ∷ 1 ∷ [])
@@ -180,9 +180,9 @@ deadAtOnce =
     ∷ [])
 
 -- Without the filter on loads it is in a register again, and goes on to others, until the collect.
-abbrev pub loadedBack : History
-loadedBack =
-    keptInMemory (loadBy loadsDying loadsDying keptByte)
+abbrev pub loaded_back : History
+loaded_back =
+    kept_in_memory (load_by loads_dying loads_dying kept_byte)
     (note (Load 0 1 3 2) (0 ∷ 1 ∷ 1 ∷ [])
     ∷ note (Narrow 0 2 0 1 3 4) (0 ∷ 2 ∷ 1 ∷ [])
     ∷ note (Grant 0 2 1) (0 ∷ 3 ∷ 1 ∷ [])
@@ -190,6 +190,6 @@ loadedBack =
     ∷ note (Collect 0) (0 ∷ 0 ∷ 0 ∷ [])
     ∷ [])
 
-pub all-happen : all happens (again ∷ merged ∷ taken ∷ unswept ∷ unfiltered ∷ deadAtOnce ∷ loadedBack ∷ []) ≡ true
-unfolding all happens follows dyingAmong same start begun instead sweepBy storeBy loadBy clearsNothing computing
-all-happen = refl
+pub all_happen : all happens (again ∷ merged ∷ taken ∷ unswept ∷ unfiltered ∷ dead_at_once ∷ loaded_back ∷ []) ≡ true
+unfolding all happens follows dying_among same start begun instead sweep_by store_by load_by clears_nothing computing
+all_happen = refl

@@ -9,7 +9,7 @@ use Rattle.capabilities.specs.Lists.{all}
 use Rattle.calls.specs.Commands.{page, frame}
 use Rattle.calls.specs.declared.Call.{Call}
 use Rattle.calls.specs.declared.Call.TheVariants.{Split, Give, Revoke, Sweep, Collect, Map, Unmap, Zero, Load, Store, Number, Grant, Receive, TakeMasked}
-use Rattle.examples.proofs.Pairs.{Entry, inBoth, inOne, inTwo, same, says, fine, Pair, unguarded, unequal, differing, comparing}
+use Rattle.examples.proofs.Pairs.{Entry, in_both, in_one, in_two, same, says, fine, Pair, unguarded, unequal, differing, comparing}
 
 -- House 3 has page 0, and party 5 has page 1 and granted house 3 its capability, which is in register 5.
 abbrev before : List Call
@@ -32,7 +32,7 @@ kept after =
       reg = 0;
       permissions = 15;
       takes = refl;
-      after = inOne (Number 3 1 42) fine ∷ inTwo (Number 3 1 7) fine ∷ same (Store 3 0 5 1) fine ∷ after;
+      after = in_one (Number 3 1 42) fine ∷ in_two (Number 3 1 7) fine ∷ same (Store 3 0 5 1) fine ∷ after;
     }
 
 -- The house grants its capability to party 5, which loads by it.
@@ -41,7 +41,7 @@ granting =
     kept
     (same (Grant 3 0 5) fine
     ∷ same (Receive 5 1) (says 0 64425558016 true)
-    ∷ inBoth (Load 5 1 5 2) (says 0 42 false) (says 0 7 false)
+    ∷ in_both (Load 5 1 5 2) (says 0 42 false) (says 0 7 false)
     ∷ [])
 
 -- The house stores its capability to a cell outside, where party 5 finds it and loads by it.
@@ -50,7 +50,7 @@ storing =
     kept
     (same (Store 3 5 0 0) fine
     ∷ same (Load 5 0 0 1) (says 0 64425558016 true)
-    ∷ inBoth (Load 5 1 5 2) (says 0 42 false) (says 0 7 false)
+    ∷ in_both (Load 5 1 5 2) (says 0 42 false) (says 0 7 false)
     ∷ [])
 
 -- The house stores the number itself to a cell outside: a store that is left, and reads unequal registers.
@@ -58,13 +58,13 @@ abbrev pub reading : Pair
 reading =
     kept
     (same (Store 3 5 0 1) fine
-    ∷ inBoth (Load 5 0 0 1) (says 0 42 false) (says 0 7 false)
+    ∷ in_both (Load 5 0 0 1) (says 0 42 false) (says 0 7 false)
     ∷ [])
 
 -- Another range is collected in the house's time: after it virtual cell 5 shows 42 or 7, and the house's register 1 holds it.
 abbrev pub elsewhere : Pair
 elsewhere = kept (same (Unmap 0 (page 1)) fine ∷ same (Revoke 0 16) fine ∷ same (Sweep 0 32) fine ∷ same (Collect 0) fine ∷ [])
 
-pub all-needed : (all unguarded (granting ∷ storing ∷ []) && all unequal (reading ∷ [])) && all (differing 5 1) (elsewhere ∷ []) ≡ true
+pub all_needed : (all unguarded (granting ∷ storing ∷ []) && all unequal (reading ∷ [])) && all (differing 5 1) (elsewhere ∷ []) ≡ true
 unfolding comparing
-all-needed = refl
+all_needed = refl

@@ -6,8 +6,8 @@ use lib.ListN.{replicate}
 use Rattle.capabilities.specs.Lists.{all}
 use Rattle.calls.specs.Commands.{page, frame}
 use Rattle.calls.specs.declared.Call.TheVariants.{Take, Split, Merge, Give, Revoke, Sweep, Collect, Map, Unmap, Zero, Load, Store, Narrow, Number, Grant, Receive, TakeMasked, Create, Claim, Release}
-use Rattle.machine.specs.Roles.{plainPermissions}
-use Rattle.examples.proofs.Pairs.{Pair, inBoth, inOne, inTwo, same, says, fine, unnoticed, comparing, EachWithin, each_within}
+use Rattle.machine.specs.Roles.{plain_permissions}
+use Rattle.examples.proofs.Pairs.{Pair, in_both, in_one, in_two, same, says, fine, unnoticed, comparing, EachWithin, each_within}
 
 -- House 3 keeps 42, or 7 and its own capability, in its page; then the page is unmapped, the range revoked and collected,
 -- and party 5 takes it and looks.
@@ -26,11 +26,11 @@ retaken =
       permissions = 15;
       takes = refl;
       after =
-          inOne (Number 3 1 42) fine
-          ∷ inTwo (Number 3 1 7) fine
+          in_one (Number 3 1 42) fine
+          ∷ in_two (Number 3 1 7) fine
           ∷ same (Store 3 0 5 1) fine
-          ∷ inTwo (Store 3 0 6 0) fine
-          ∷ inBoth (Load 3 0 5 2) (says 0 42 false) (says 0 7 false)
+          ∷ in_two (Store 3 0 6 0) fine
+          ∷ in_both (Load 3 0 5 2) (says 0 42 false) (says 0 7 false)
           ∷ same (Unmap 0 (page 0)) fine
           ∷ same (Revoke 0 0) fine
           ∷ same (Sweep 0 16) fine
@@ -59,12 +59,12 @@ shared =
       permissions = 15;
       takes = refl;
       after =
-          inOne (Number 3 1 42) fine
-          ∷ inTwo (Number 3 1 7) fine
+          in_one (Number 3 1 42) fine
+          ∷ in_two (Number 3 1 7) fine
           ∷ same (Store 3 0 7 1) fine
-          ∷ inTwo (Narrow 3 0 2 3 7 2) fine
-          ∷ inTwo (Store 3 0 0 2) fine
-          ∷ inBoth (Load 3 0 7 3) (says 0 42 false) (says 0 7 false)
+          ∷ in_two (Narrow 3 0 2 3 7 2) fine
+          ∷ in_two (Store 3 0 0 2) fine
+          ∷ in_both (Load 3 0 7 3) (says 0 42 false) (says 0 7 false)
           ∷ same (Load 4 0 0 1) fine
           ∷ same (Load 4 0 7 1) fine
           ∷ same (Store 4 0 1 0) fine
@@ -93,11 +93,11 @@ managed =
       permissions = 15;
       takes = refl;
       after =
-          inOne (Number 0 1 42) fine
-          ∷ inTwo (Number 0 1 7) fine
+          in_one (Number 0 1 42) fine
+          ∷ in_two (Number 0 1 7) fine
           ∷ same (Store 0 2 7 1) fine
-          ∷ inTwo (Store 0 2 8 2) fine
-          ∷ inBoth (Load 0 2 7 3) (says 0 42 false) (says 0 7 false)
+          ∷ in_two (Store 0 2 8 2) fine
+          ∷ in_both (Load 0 2 7 3) (says 0 42 false) (says 0 7 false)
           ∷ same (Load 5 0 0 1) fine
           ∷ same (Load 5 0 15 1) fine
           ∷ same (Unmap 0 (page 0)) fine
@@ -120,13 +120,13 @@ merged =
       house = 3;
       base = 0;
       reg = 0;
-      permissions = plainPermissions;
+      permissions = plain_permissions;
       takes = refl;
       after =
-          inOne (Number 3 1 42) fine
-          ∷ inTwo (Number 3 1 7) fine
+          in_one (Number 3 1 42) fine
+          ∷ in_two (Number 3 1 7) fine
           ∷ same (Store 3 0 5 1) fine
-          ∷ inBoth (Load 3 0 5 2) (says 0 42 false) (says 0 7 false)
+          ∷ in_both (Load 3 0 5 2) (says 0 42 false) (says 0 7 false)
           ∷ same (Number 3 3 9) fine
           ∷ same (Store 3 5 2 3) fine
           ∷ same (Grant 3 5 4) fine
@@ -149,10 +149,10 @@ merged =
 abbrev pub pairs : List Pair
 pairs = retaken ∷ shared ∷ managed ∷ merged ∷ []
 
-pub all-unnoticed : all unnoticed pairs ≡ true
+pub all_unnoticed : all unnoticed pairs ≡ true
 unfolding comparing
-all-unnoticed = refl
+all_unnoticed = refl
 
 -- So each is within the claim.
-pub all-within : EachWithin pairs
-all-within = each_within pairs all-unnoticed
+pub all_within : EachWithin pairs
+all_within = each_within pairs all_unnoticed

@@ -12,31 +12,31 @@ use Rattle.pages.specs.Layer.{in_range}
 use Rattle.machine.specs.Formed.{fresh, start_of}
 use Rattle.arrays.specs.declared.Arrays.{Arrays}
 use Rattle.arrays.specs.declared.Numbers.{Numbers}
-use Rattle.arrays.specs.Reading.{arrays, arraysOf}
-use Rattle.claims.specs.Numbers.{sizedIn}
-use Rattle.arrays.proofs.Starting.{begun, fresh_in, fresh-out, firstNumber, rootNumber}
+use Rattle.arrays.specs.Reading.{arrays, arrays_of}
+use Rattle.claims.specs.Numbers.{sized_in}
+use Rattle.arrays.proofs.Starting.{begun, fresh_in, fresh_out, first_number, root_number}
 use Rattle.formed.specs.Test.{sized}
 use Rattle.formed.specs.Fresh.{zeros, starting, start_in}
 
 -- V and F in range are small.
-pub small-v : (v f : ℕ) → in_range v f ≡ true → v ≤ 256
-small-v v f e = leb-true v 256 (and_right (ltb 0 v) (leb v 256) (and_left (ltb 0 v && leb v 256) (ltb 0 f && leb f 128) e))
+pub small_v : (v f : ℕ) → in_range v f ≡ true → v ≤ 256
+small_v v f e = leb-true v 256 (and_right (ltb 0 v) (leb v 256) (and_left (ltb 0 v && leb v 256) (ltb 0 f && leb f 128) e))
 
-pub small-f : (v f : ℕ) → in_range v f ≡ true → f ≤ 128
-small-f v f e = leb-true f 128 (and_right (ltb 0 f) (leb f 128) (and_right (ltb 0 v && leb v 256) (ltb 0 f && leb f 128) e))
+pub small_f : (v f : ℕ) → in_range v f ≡ true → f ≤ 128
+small_f v f e = leb-true f 128 (and_right (ltb 0 f) (leb f 128) (and_right (ltb 0 v && leb v 256) (ltb 0 f && leb f 128) e))
 
 module _ (v f : ℕ) (a : Arrays) where
-  pub start-unfit : sized a ≡ false → starting 1 a ≡ start_in v f a
+  pub start_unfit : sized a ≡ false → starting 1 a ≡ start_in v f a
   unfolding start_in
-  start-unfit e = sym (pick_no (sized a) (starting (start_of v f).code (arraysOf (start_of v f).state)) (starting 1 a) e)
+  start_unfit e = sym (pick_no (sized a) (starting (start_of v f).code (arrays_of (start_of v f).state)) (starting 1 a) e)
 
-  abbrev with-numbers : Numbers → Arrays
-  with-numbers n = arrays n a.words a.marks a.mail a.flags a.rows a.pages a.frames a.principals a.counts
+  abbrev with_numbers : Numbers → Arrays
+  with_numbers n = arrays n a.words a.marks a.mail a.flags a.rows a.pages a.frames a.principals a.counts
 
   -- The first row is that of all cells, and the first principal the root.
   abbrev with_first : Arrays → Arrays
   with_first b =
-      arrays b.nums b.words b.marks b.mail b.flags (set b.rows 0 (firstNumber v)) b.pages b.frames (set b.principals 0 rootNumber) b.counts
+      arrays b.nums b.words b.marks b.mail b.flags (set b.rows 0 (first_number v)) b.pages b.frames (set b.principals 0 root_number) b.counts
 
   module _ (e : sized a ≡ true) where
     abbrev slots : Bool
@@ -46,20 +46,20 @@ module _ (v f : ℕ) (a : Arrays) where
     entries = eqb (length a.rows) 64 && (eqb (length a.pages) 256 && eqb (length a.frames) 128)
 
     abbrev claims : Bool
-    claims = sizedIn a.principals a.counts
+    claims = sized_in a.principals a.counts
 
-    pub of-rows : length a.rows ≡ 64
-    of-rows = eqb-true (length a.rows) 64 (and_left (eqb (length a.rows) 64) _ (and_left entries claims (and_right slots (entries && claims) e)))
+    pub of_rows : length a.rows ≡ 64
+    of_rows = eqb-true (length a.rows) 64 (and_left (eqb (length a.rows) 64) _ (and_left entries claims (and_right slots (entries && claims) e)))
 
-    pub of-principals : length a.principals ≡ 32
-    of-principals =
+    pub of_principals : length a.principals ≡ 32
+    of_principals =
         eqb-true (length a.principals) 32 (and_left (eqb (length a.principals) 32) _ (and_right entries claims (and_right slots (entries && claims) e)))
 
     -- Cleared arrays of the right lengths, with these small numbers, rows and principals.
-    zeros-are : (n : Numbers) (rows principals : List ℕ)
+    zeros_are : (n : Numbers) (rows principals : List ℕ)
         → arrays n (zeros a).words (zeros a).marks (zeros a).mail (zeros a).flags rows (zeros a).pages (zeros a).frames principals (zeros a).counts
         ≡ arrays n (replicate 64 0) (replicate 64 0) (replicate 8 0) (replicate 8 0) rows (replicate 256 0) (replicate 128 0) principals (replicate 8192 0)
-    zeros-are n rows principals =
+    zeros_are n rows principals =
         let one = and_left (eqb (length a.words) 64 && eqb (length a.marks) 64) _ (and_left slots (entries && claims) e) in
         let two = and_right (eqb (length a.words) 64 && eqb (length a.marks) 64) _ (and_left slots (entries && claims) e) in
         let rest = and_right slots (entries && claims) e in
@@ -74,23 +74,23 @@ module _ (v f : ℕ) (a : Arrays) where
           eqb-true (length a.counts) 8192 (and_right (eqb (length a.principals) 32) _ (and_right entries claims rest)),
         )
 
-    started : starting (pick (in_range v f) 0 1) (arraysOf (fresh v f)) ≡ start_in v f a
+    started : starting (pick (in_range v f) 0 1) (arrays_of (fresh v f)) ≡ start_in v f a
     unfolding start_in start_of
-    started = sym (pick_yes (sized a) (starting (start_of v f).code (arraysOf (start_of v f).state)) (starting 1 a) e)
+    started = sym (pick_yes (sized a) (starting (start_of v f).code (arrays_of (start_of v f).state)) (starting 1 a) e)
 
-    pub start-refused : in_range v f ≡ false → (k : ℕ) → k ≡ 1 → (n : Numbers) → n ≡ record { v = 0; f = 0; count = 0; place = 0; base = 0; length = 0 }
-        → (b : Arrays) → b ≡ zeros (with-numbers n) → starting k b ≡ start_in v f a
-    start-refused r k kk n nn b d =
+    pub start_refused : in_range v f ≡ false → (k : ℕ) → k ≡ 1 → (n : Numbers) → n ≡ record { v = 0; f = 0; count = 0; place = 0; base = 0; length = 0 }
+        → (b : Arrays) → b ≡ zeros (with_numbers n) → starting k b ≡ start_in v f a
+    start_refused r k kk n nn b d =
         ap (λ (x : ℕ). starting x b) kk
-        ∙ ap (starting 1) (d ∙ ap (λ (x : Numbers). zeros (with-numbers x)) nn ∙ zeros-are _ _ _ ∙ ap (λ (x : ℕ). begun 0 0 0 (replicate x 0) (replicate (length a.principals) 0)) of-rows
-        ∙ ap (λ (x : ℕ). begun 0 0 0 (replicate 64 0) (replicate x 0)) of-principals ∙ sym (fresh-out v f r))
-        ∙ ap (λ (x : ℕ). starting x (arraysOf (fresh v f))) (sym (pick_no (in_range v f) 0 1 r)) ∙ started
+        ∙ ap (starting 1) (d ∙ ap (λ (x : Numbers). zeros (with_numbers x)) nn ∙ zeros_are _ _ _ ∙ ap (λ (x : ℕ). begun 0 0 0 (replicate x 0) (replicate (length a.principals) 0)) of_rows
+        ∙ ap (λ (x : ℕ). begun 0 0 0 (replicate 64 0) (replicate x 0)) of_principals ∙ sym (fresh_out v f r))
+        ∙ ap (λ (x : ℕ). starting x (arrays_of (fresh v f))) (sym (pick_no (in_range v f) 0 1 r)) ∙ started
 
-    pub start-granted : in_range v f ≡ true → (k : ℕ) → k ≡ 0 → (n : Numbers) → n ≡ record { v = v; f = f; count = 1; place = 0; base = 0; length = 0 }
-        → (b : Arrays) → b ≡ zeros (with-numbers n) → starting k (with_first b) ≡ start_in v f a
-    start-granted r k kk n nn b d =
+    pub start_granted : in_range v f ≡ true → (k : ℕ) → k ≡ 0 → (n : Numbers) → n ≡ record { v = v; f = f; count = 1; place = 0; base = 0; length = 0 }
+        → (b : Arrays) → b ≡ zeros (with_numbers n) → starting k (with_first b) ≡ start_in v f a
+    start_granted r k kk n nn b d =
         ap (λ (x : ℕ). starting x (with_first b)) kk
-        ∙ ap (λ (x : Arrays). starting 0 (with_first x)) (d ∙ ap (λ (x : Numbers). zeros (with-numbers x)) nn)
-        ∙ ap (starting 0) (zeros-are _ _ _ ∙ ap (λ (x : ℕ). begun v f 1 (set (replicate x 0) 0 (firstNumber v)) (set (replicate (length a.principals) 0) 0 rootNumber)) of-rows
-        ∙ ap (λ (x : ℕ). begun v f 1 (set (replicate 64 0) 0 (firstNumber v)) (set (replicate x 0) 0 rootNumber)) of-principals ∙ sym (fresh_in v f r))
-        ∙ ap (λ (x : ℕ). starting x (arraysOf (fresh v f))) (sym (pick_yes (in_range v f) 0 1 r)) ∙ started
+        ∙ ap (λ (x : Arrays). starting 0 (with_first x)) (d ∙ ap (λ (x : Numbers). zeros (with_numbers x)) nn)
+        ∙ ap (starting 0) (zeros_are _ _ _ ∙ ap (λ (x : ℕ). begun v f 1 (set (replicate x 0) 0 (first_number v)) (set (replicate (length a.principals) 0) 0 root_number)) of_rows
+        ∙ ap (λ (x : ℕ). begun v f 1 (set (replicate 64 0) 0 (first_number v)) (set (replicate x 0) 0 root_number)) of_principals ∙ sym (fresh_in v f r))
+        ∙ ap (λ (x : ℕ). starting x (arrays_of (fresh v f))) (sym (pick_yes (in_range v f) 0 1 r)) ∙ started

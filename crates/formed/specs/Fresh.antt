@@ -3,7 +3,7 @@ use Rattle.std.specs.Prelude.{ℕ, length, replicate}
 use Rattle.capabilities.specs.Lists.{pick}
 use Rattle.machine.specs.Formed.{start_of}
 use Rattle.arrays.specs.declared.Arrays.{Arrays}
-use Rattle.arrays.specs.Reading.{arrays, arraysOf}
+use Rattle.arrays.specs.Reading.{arrays, arrays_of}
 use Rattle.formed.specs.Test.{sized}
 
 -- Every number 0, but for the small ones.
@@ -23,4 +23,4 @@ starting code a = record { code = code; arrays = a }
 -- A start for V and F, over arrays of the machine's lengths whatever stands in them: its state is written there, which is the all-zero
 -- one if V or F is out of range. Arrays of other lengths get refusal 1 and are kept, every number.
 unfoldable pub start_in : ℕ → ℕ → Arrays → Start
-start_in v f a = pick (sized a) (starting (start_of v f).code (arraysOf (start_of v f).state)) (starting 1 a)
+start_in v f a = pick (sized a) (starting (start_of v f).code (arrays_of (start_of v f).state)) (starting 1 a)

@@ -1,7 +1,7 @@
 // Whether lent arrays are a well-formed state, each number as the state is written.
 ghost use Rattle.std.specs.Prelude.{◌≡◌};
 ghost use Rattle.arrays.specs.Reading.{arrays};
-ghost use Rattle.formed.specs.Test.{RevocationKept, formedOf};
+ghost use Rattle.formed.specs.Test.{RevocationKept, formed_of};
 
 use arrays::Numbers;
 use claims::sound::claims_sound;
@@ -43,7 +43,7 @@ pub fn formed(
     principals: &[u64],
     counts: &[u16],
 ) -> bool
-    ensures { result ≡ formedOf (arrays nums words.now marks.now mail.now flags.now rows.now pages.now frames.now principals.now counts.now) }
+    ensures { result ≡ formed_of (arrays nums words.now marks.now mail.now flags.now rows.now pages.now frames.now principals.now counts.now) }
 {
     let sized = ((words.len() == 64) & (marks.len() == 64))
         & ((mail.len() == 8) & (flags.len() == 8));

@@ -3,51 +3,51 @@
 use mathlib.Core.List.{List, [], ◌∷◌, map}
 use mathlib.Core.Path.{◌≡◌, refl, ap, ◌∙◌}
 use Rattle.calls.specs.declared.Call.{Call}
-use Rattle.machine.specs.Forgetting.{forget, forgetAnswer, forgetOutcome, startBare}
-use Rattle.machine.proofs.Forgetting.{Agree, agree-start, agree-step, step-forgets}
+use Rattle.machine.specs.Forgetting.{forget, forget_answer, forget_outcome, start_bare}
+use Rattle.machine.proofs.Forgetting.{Agree, agree_start, agree_step, step_forgets}
 use Rattle.histories.specs.Runs.{Machine, machine, outcome, next, run, answers, begun}
-use Rattle.histories.specs.Forgetting.{outcomeBare, nextBare, runBare, answersBare, begunBare, NoAnswerChanges}
+use Rattle.histories.specs.Forgetting.{outcome_bare, next_bare, run_bare, answers_bare, begun_bare, NoAnswerChanges}
 
 -- A machine without takers.
 abbrev bare : Machine → Machine
 bare m = machine (forget m.state) m.cells m.tags
 
 module _ (m : Machine) (c : Call) (a : Agree m.state) where
-  outcome-forgets : forgetOutcome (outcome m c) ≡ outcomeBare (bare m) c
-  unfolding outcome outcomeBare
-  outcome-forgets = step-forgets m.state c m.cells m.tags a
+  outcome_forgets : forget_outcome (outcome m c) ≡ outcome_bare (bare m) c
+  unfolding outcome outcome_bare
+  outcome_forgets = step_forgets m.state c m.cells m.tags a
 
-  next-forgets : bare (next m c) ≡ nextBare (bare m) c
-  unfolding next nextBare
-  next-forgets = ap (λ o. machine o.answer.state o.cells o.tags) outcome-forgets
+  next_forgets : bare (next m c) ≡ next_bare (bare m) c
+  unfolding next next_bare
+  next_forgets = ap (λ o. machine o.answer.state o.cells o.tags) outcome_forgets
 
-  agree-next : Agree (next m c).state
+  agree_next : Agree (next m c).state
   unfolding next outcome
-  agree-next = agree-step m.state c m.cells m.tags a
+  agree_next = agree_step m.state c m.cells m.tags a
 
-run-forgets : (calls : List Call) (m : Machine) → Agree m.state → bare (run m calls) ≡ runBare (bare m) calls
-unfolding run runBare
-run-forgets [] m a = refl
-run-forgets (c ∷ calls) m a = run-forgets calls (next m c) (agree-next m c a) ∙ ap (λ n. runBare n calls) (next-forgets m c a)
+run_forgets : (calls : List Call) (m : Machine) → Agree m.state → bare (run m calls) ≡ run_bare (bare m) calls
+unfolding run run_bare
+run_forgets [] m a = refl
+run_forgets (c ∷ calls) m a = run_forgets calls (next m c) (agree_next m c a) ∙ ap (λ n. run_bare n calls) (next_forgets m c a)
 
-answers-forget : (calls : List Call) (m : Machine) → Agree m.state → map forgetAnswer (answers m calls) ≡ answersBare (bare m) calls
-unfolding answers answersBare
-answers-forget [] m a = refl
-answers-forget (c ∷ calls) m a =
-    ap (λ l. forgetAnswer (outcome m c).answer ∷ l) (answers-forget calls (next m c) (agree-next m c a) ∙ ap (λ n. answersBare n calls) (next-forgets m c a))
-    ∙ ap (λ o. o.answer ∷ answersBare (nextBare (bare m) c) calls) (outcome-forgets m c a)
+answers_forget : (calls : List Call) (m : Machine) → Agree m.state → map forget_answer (answers m calls) ≡ answers_bare (bare m) calls
+unfolding answers answers_bare
+answers_forget [] m a = refl
+answers_forget (c ∷ calls) m a =
+    ap (λ l. forget_answer (outcome m c).answer ∷ l) (answers_forget calls (next m c) (agree_next m c a) ∙ ap (λ n. answers_bare n calls) (next_forgets m c a))
+    ∙ ap (λ o. o.answer ∷ answers_bare (next_bare (bare m) c) calls) (outcome_forgets m c a)
 
-pub no-answer-changes : NoAnswerChanges
-unfolding begun begunBare startBare
-no-answer-changes v f cells tags calls =
+pub no_answer_changes : NoAnswerChanges
+unfolding begun begun_bare start_bare
+no_answer_changes v f cells tags calls =
     let m = begun v f cells tags in
-    let ends = run-forgets calls m (agree-start v f) in
+    let ends = run_forgets calls m (agree_start v f) in
     record {
       start = refl;
-      same = answers-forget calls m (agree-start v f);
+      same = answers_forget calls m (agree_start v f);
       registers = ap (λ n. n.state.registers) ends;
       mailboxes = ap (λ n. n.state.mailboxes) ends;
-      of-cells = ap (λ n. n.cells) ends;
-      of-tags = ap (λ n. n.tags) ends;
+      of_cells = ap (λ n. n.cells) ends;
+      of_tags = ap (λ n. n.tags) ends;
       core = ap (λ n. n.state.core) ends;
     }

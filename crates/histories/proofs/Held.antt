@@ -12,14 +12,14 @@ use Rattle.table.specs.Operations.{take_of}
 use Rattle.reservations.specs.Core.{Core}
 use Rattle.reservations.specs.Revocation.{dying}
 use Rattle.words.specs.declared.Slot.{Slot}
-use Rattle.words.specs.Words.{slot, empty, named, registerOf, mailboxOf, keepTag, collectedMailbox}
+use Rattle.words.specs.Words.{slot, empty, named, register_of, mailbox_of, keep_tag, collected_mailbox}
 use Rattle.machine.specs.State.{State}
 use Rattle.machine.specs.Roles.{Sources, takes, Asked, asked}
-use Rattle.machine.specs.Effects.{RegisterChange, keepRegisters, putRegister, collectRegisters, MailboxChange, keepMailboxes, putMailbox, collectMailboxes, Effect}
-use Rattle.machine.specs.Step.{done, registersAfter, mailboxesAfter}
-use Rattle.machine.proofs.Deeds.{loadedBy, Filling, loads, narrows, numbers, Deed, took, recored, swept, collectedAll, zeroed, filled, wrote, mailed, received}
+use Rattle.machine.specs.Effects.{RegisterChange, keep_registers, put_register, collect_registers, MailboxChange, keep_mailboxes, put_mailbox, collect_mailboxes, Effect}
+use Rattle.machine.specs.Step.{done, registers_after, mailboxes_after}
+use Rattle.machine.proofs.Deeds.{loaded_by, Filling, loads, narrows, numbers, Deed, took, recored, swept, collected_all, zeroed, filled, wrote, mailed, received}
 use Rattle.machine.proofs.Found.{Addressing}
-use Rattle.histories.proofs.View.{put-each, collected-registers, collected-mailboxes}
+use Rattle.histories.proofs.View.{put_each, collected_registers, collected_mailboxes}
 
 -- A word, if it is a capability, has a property.
 abbrev pub Tagged : (ℕ → Type 0) → Slot → Type 0
@@ -40,17 +40,17 @@ OfTake Q s a = (p base reg permissions : ℕ) → a ≡ asked p (takes base reg 
 
 abbrev pub OfLoad : (ℕ → Type 0) → State → List ℕ → List ℕ → Type 0
 OfLoad Q s cells tags =
-    (p a off : ℕ) → Addressing s.core (registerOf s.registers p a) off
-    → Tagged Q (loadedBy s cells tags p a off)
+    (p a off : ℕ) → Addressing s.core (register_of s.registers p a) off
+    → Tagged Q (loaded_by s cells tags p a off)
 
 module _ (Q : ℕ → Type 0) where
   pub none : (w : Slot) → w.tag ≡ false → Tagged Q w
   none w e t = absurd (false≢true (sym e ∙ t))
 
-  pub kept : (w : Slot) (b : Bool) → Tagged Q w → Tagged Q (keepTag w b)
+  pub kept : (w : Slot) (b : Bool) → Tagged Q w → Tagged Q (keep_tag w b)
   kept w b k e = k (and_left w.tag b e)
 
-  gone : (c : Core) (w : Slot) → Tagged Q w → Tagged Q (collectedMailbox c w)
+  gone : (c : Core) (w : Slot) → Tagged Q w → Tagged Q (collected_mailbox c w)
   gone c w k = go (w.tag && dying c w.cell)
     where
       go : (b : Bool) → Tagged Q (pick b empty w)
@@ -58,64 +58,64 @@ module _ (Q : ℕ → Type 0) where
       go false = k
 
   module _ (s : State) (old : Holds Q s) where
-    pub of-register : (p r : ℕ) → Tagged Q (registerOf s.registers p r)
-    unfolding registerOf
-    of-register p r = go (named p && named r)
+    pub of_register : (p r : ℕ) → Tagged Q (register_of s.registers p r)
+    unfolding register_of
+    of_register p r = go (named p && named r)
       where
         go : (b : Bool) → Tagged Q (pick b (get_or s.registers (8 * p + r) empty) empty)
         go true = old.registers (8 * p + r)
         go false = none empty refl
 
-    pub of-mailbox : (p : ℕ) → Tagged Q (mailboxOf s.mailboxes p)
-    unfolding mailboxOf
-    of-mailbox p = old.mailboxes p
+    pub of_mailbox : (p : ℕ) → Tagged Q (mailbox_of s.mailboxes p)
+    unfolding mailbox_of
+    of_mailbox p = old.mailboxes p
 
     -- What is put into a register, and into a mailbox, has it.
     abbrev pub InRegister : RegisterChange → Type 0
-    InRegister keepRegisters = Unit {0}
-    InRegister (putRegister p r w) = Tagged Q w
-    InRegister collectRegisters = Unit {0}
+    InRegister keep_registers = Unit {0}
+    InRegister (put_register p r w) = Tagged Q w
+    InRegister collect_registers = Unit {0}
 
     abbrev pub InMailbox : MailboxChange → Type 0
-    InMailbox keepMailboxes = Unit {0}
-    InMailbox (putMailbox p w) = Tagged Q w
-    InMailbox collectMailboxes = Unit {0}
+    InMailbox keep_mailboxes = Unit {0}
+    InMailbox (put_mailbox p w) = Tagged Q w
+    InMailbox collect_mailboxes = Unit {0}
 
-    pub registers-hold : (x : RegisterChange) → InRegister x → (i : ℕ) → Tagged Q (get_or (registersAfter x s) i empty)
-    unfolding registersAfter
-    registers-hold keepRegisters new i = old.registers i
-    registers-hold (putRegister p r w) new i = put-each (Tagged Q) s.registers (8 * p + r) w new old.registers i
-    registers-hold collectRegisters new i =
-        subst (Tagged Q) (sym (collected-registers s.core s.registers i)) (kept (get_or s.registers i empty) _ (old.registers i))
+    pub registers_hold : (x : RegisterChange) → InRegister x → (i : ℕ) → Tagged Q (get_or (registers_after x s) i empty)
+    unfolding registers_after
+    registers_hold keep_registers new i = old.registers i
+    registers_hold (put_register p r w) new i = put_each (Tagged Q) s.registers (8 * p + r) w new old.registers i
+    registers_hold collect_registers new i =
+        subst (Tagged Q) (sym (collected_registers s.core s.registers i)) (kept (get_or s.registers i empty) _ (old.registers i))
 
-    pub mailboxes-hold : (x : MailboxChange) → InMailbox x → (p : ℕ) → Tagged Q (get_or (mailboxesAfter x s) p empty)
-    unfolding mailboxesAfter
-    mailboxes-hold keepMailboxes new p = old.mailboxes p
-    mailboxes-hold (putMailbox q w) new p = put-each (Tagged Q) s.mailboxes q w new old.mailboxes p
-    mailboxes-hold collectMailboxes new p =
-        subst (Tagged Q) (sym (collected-mailboxes s.core s.mailboxes p)) (gone s.core (get_or s.mailboxes p empty) (old.mailboxes p))
+    pub mailboxes_hold : (x : MailboxChange) → InMailbox x → (p : ℕ) → Tagged Q (get_or (mailboxes_after x s) p empty)
+    unfolding mailboxes_after
+    mailboxes_hold keep_mailboxes new p = old.mailboxes p
+    mailboxes_hold (put_mailbox q w) new p = put_each (Tagged Q) s.mailboxes q w new old.mailboxes p
+    mailboxes_hold collect_mailboxes new p =
+        subst (Tagged Q) (sym (collected_mailboxes s.core s.mailboxes p)) (gone s.core (get_or s.mailboxes p empty) (old.mailboxes p))
 
     module _ (cells tags : List ℕ) where
-      pub filling-holds : Narrows Q → OfLoad Q s cells tags → (p : ℕ) {from : Sources} {w answer : Slot} → Filling s cells tags p from w answer → Tagged Q w
-      filling-holds narrower load p (loads a off g) = load p a off g
-      filling-holds narrower load p (narrows x off len mask g) =
-          λ e. narrower (registerOf s.registers p x).cell off len mask g.some g.ends g.starts (of-register p x g.tagged)
-      filling-holds narrower load p (numbers value) = none (slot value false) refl
+      pub filling_holds : Narrows Q → OfLoad Q s cells tags → (p : ℕ) {from : Sources} {w answer : Slot} → Filling s cells tags p from w answer → Tagged Q w
+      filling_holds narrower load p (loads a off g) = load p a off g
+      filling_holds narrower load p (narrows x off len mask g) =
+          λ e. narrower (register_of s.registers p x).cell off len mask g.some g.ends g.starts (of_register p x g.tagged)
+      filling_holds narrower load p (numbers value) = none (slot value false) refl
 
-      puts-held : Narrows Q → {a : Asked} {e : Effect} → Deed s cells tags a e → OfTake Q s a → OfLoad Q s cells tags → InRegister e.registers × InMailbox e.mailboxes
-      puts-held narrower (took p base reg permissions low-p low-reg few z) new load = (λ x. new p base reg permissions refl, tt)
-      puts-held narrower (recored p k r) new load = (tt, tt)
-      puts-held narrower (swept p n runs) new load = (tt, tt)
-      puts-held narrower (collectedAll p z) new load = (tt, tt)
-      puts-held narrower (zeroed p frame z) new load = (tt, tt)
-      puts-held narrower (filled p d from w answer low g) new load = (filling-holds narrower load p g, tt)
-      puts-held narrower (wrote p a off x low-p low-a g) new load = (tt, tt)
-      puts-held narrower (mailed p x to t) new load = (tt, of-register p x)
-      puts-held narrower (received p d low) new load = (of-mailbox p, none empty refl)
+      puts_held : Narrows Q → {a : Asked} {e : Effect} → Deed s cells tags a e → OfTake Q s a → OfLoad Q s cells tags → InRegister e.registers × InMailbox e.mailboxes
+      puts_held narrower (took p base reg permissions low-p low-reg few z) new load = (λ x. new p base reg permissions refl, tt)
+      puts_held narrower (recored p k r) new load = (tt, tt)
+      puts_held narrower (swept p n runs) new load = (tt, tt)
+      puts_held narrower (collected_all p z) new load = (tt, tt)
+      puts_held narrower (zeroed p frame z) new load = (tt, tt)
+      puts_held narrower (filled p d from w answer low g) new load = (filling_holds narrower load p g, tt)
+      puts_held narrower (wrote p a off x low-p low-a g) new load = (tt, tt)
+      puts_held narrower (mailed p x to t) new load = (tt, of_register p x)
+      puts_held narrower (received p d low) new load = (of_mailbox p, none empty refl)
 
       -- Whatever a granted call does.
-      pub deed-holds : Narrows Q → {a : Asked} {e : Effect} → Deed s cells tags a e → OfTake Q s a → OfLoad Q s cells tags → Holds Q (done s e cells tags).answer.state
+      pub deed_holds : Narrows Q → {a : Asked} {e : Effect} → Deed s cells tags a e → OfTake Q s a → OfLoad Q s cells tags → Holds Q (done s e cells tags).answer.state
       unfolding done
-      deed-holds narrower {a} {e} d new load =
-          let (r, b) = puts-held narrower d new load in
-          record { registers = registers-hold e.registers r; mailboxes = mailboxes-hold e.mailboxes b }
+      deed_holds narrower {a} {e} d new load =
+          let (r, b) = puts_held narrower d new load in
+          record { registers = registers_hold e.registers r; mailboxes = mailboxes_hold e.mailboxes b }

@@ -13,13 +13,13 @@ use Rattle.table.specs.declared.Found.{Found}
 use Rattle.table.specs.declared.Found.TheVariants.{At, Nowhere}
 use Rattle.table.specs.declared.Reservation.{Reservation}
 use Rattle.table.specs.Table.{Table}
-use Rattle.table.specs.Find.{seek, findOf, begins, missing}
+use Rattle.table.specs.Find.{seek, find_of, begins, missing}
 use Rattle.table.specs.Rows.{held, blank, live, range_of}
-use Rattle.table.specs.Tiling.{rowSound, tableSound}
-use Rattle.table.proofs.Cells.{inside-made, no-shared-cell}
+use Rattle.table.specs.Tiling.{row_sound, table_sound}
+use Rattle.table.proofs.Cells.{inside_made, no_shared_cell}
 use Rattle.table.proofs.Finding.{found_at}
 use Rattle.table.proofs.Sound.{sound}
-use Rattle.table.proofs.Tiled.{tiled-row, row-some, row-holder}
+use Rattle.table.proofs.Tiled.{tiled_row, row_some, row_holder}
 use Rattle.table.proofs.Truth.{both}
 use Rattle.words.specs.WordReasons.{unnamed}
 use Rattle.histories.specs.Inv.{row_at}
@@ -34,16 +34,16 @@ seek_finds P k (r ∷ l) (suc i) h e = go (P r) refl (seek_finds P (suc k) l i (
     go true p f = rw p refl
     go false p f = rw p f
 
-pub sound-row : (cells : ℕ) (t : Table) → tableSound cells t ≡ true → (i : ℕ) → i < length (live t) → rowSound (row_at t i) ≡ true
-sound-row cells t ok i h = tiled-row cells (live t) 0 i (sound cells t ok).tiled h
+pub sound_row : (cells : ℕ) (t : Table) → table_sound cells t ≡ true → (i : ℕ) → i < length (live t) → row_sound (row_at t i) ≡ true
+sound_row cells t ok i h = tiled_row cells (live t) 0 i (sound cells t ok).tiled h
 
-module _ (cells : ℕ) (t : Table) (ok : tableSound cells t ≡ true) (i : ℕ) (h : i < length (live t)) where
+module _ (cells : ℕ) (t : Table) (ok : table_sound cells t ≡ true) (i : ℕ) (h : i < length (live t)) where
   abbrev test : Reservation → Bool
   test = begins (row_at t i).holder (row_at t i).base
 
-  pub find-row : findOf t (row_at t i).holder (row_at t i).base ≡ At i
-  unfolding findOf
-  find-row = go (seek test 0 (live t)) refl
+  pub find_row : find_of t (row_at t i).holder (row_at t i).base ≡ At i
+  unfolding find_of
+  find_row = go (seek test 0 (live t)) refl
     where
       own : test (row_at t i) ≡ true
       own = both (eqb (row_at t i).base (row_at t i).base) (held (row_at t i) (row_at t i).holder) (eq-eqb (row_at t i).base (row_at t i).base refl) (eq-eqb (row_at t i).holder (row_at t i).holder refl)
@@ -52,15 +52,15 @@ module _ (cells : ℕ) (t : Table) (ok : tableSound cells t ≡ true) (i : ℕ) 
       go (At j) e =
           let here = found_at test (live t) j blank e in
           let base : (row_at t j).base ≡ (row_at t i).base = eqb-true (row_at t j).base (row_at t i).base (and_left (eqb (row_at t j).base (row_at t i).base) (held (row_at t j) (row_at t i).holder) here.1) in
-          let some = row-some (row_at t i) (sound-row cells t ok i h) in
-          let more = row-some (row_at t j) (sound-row cells t ok j here.0) in
+          let some = row_some (row_at t i) (sound_row cells t ok i h) in
+          let more = row_some (row_at t j) (sound_row cells t ok j here.0) in
           ap At
-          (no-shared-cell cells t j i (row_at t i).base ok here.0 h (inside-made (range_of (row_at t j)) (row_at t i).base (omega arith) (omega arith))
-          (inside-made (range_of (row_at t i)) (row_at t i).base (omega arith) (omega arith)))
+          (no_shared_cell cells t j i (row_at t i).base ok here.0 h (inside_made (range_of (row_at t j)) (row_at t i).base (omega arith) (omega arith))
+          (inside_made (range_of (row_at t i)) (row_at t i).base (omega arith) (omega arith)))
       go Nowhere e = absurd (true≢false (sym (ap missing e) ∙ seek_finds test 0 (live t) i h own))
 
   -- Its holder is a party.
-  pub holder-named : unnamed (row_at t i).holder ≡ false
-  holder-named =
-      let b : (row_at t i).holder ≤ 7 = leb-true (row_at t i).holder 7 (row-holder (row_at t i) (sound-row cells t ok i h)) in
+  pub holder_named : unnamed (row_at t i).holder ≡ false
+  holder_named =
+      let b : (row_at t i).holder ≤ 7 = leb-true (row_at t i).holder 7 (row_holder (row_at t i) (sound_row cells t ok i h)) in
       ap not (lt-ltb (row_at t i).holder 8 (omega arith))

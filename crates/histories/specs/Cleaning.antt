@@ -10,13 +10,13 @@ use Rattle.histories.specs.Runs.{Machine, Granted, next, run, Reached, Always}
 use Rattle.histories.specs.Lending.{Ended}
 
 -- The cells of a page.
-abbrev pub pageRange : VirtualPage → Range
-pageRange page = record { base = 16 * page.0; length = 16 }
+abbrev pub page_range : VirtualPage → Range
+page_range page = record { base = 16 * page.0; length = 16 }
 
 abbrev pub CleanedBetweenAt : (m : Machine) → Reached m → Type 0
 CleanedBetweenAt m r =
     (p : ℕ) (page : VirtualPage) → Granted m (Unmap p page) → (calls : List Call) → (q : ℕ) (frame : Frame)
-    → Granted (run (next m (Unmap p page)) calls) (Map q page frame) → Ended (next m (Unmap p page)) calls (pageRange page)
+    → Granted (run (next m (Unmap p page)) calls) (Map q page frame) → Ended (next m (Unmap p page)) calls (page_range page)
 
 abbrev pub CleanedBetween : Type 0
 CleanedBetween = Always CleanedBetweenAt

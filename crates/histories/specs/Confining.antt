@@ -6,8 +6,8 @@ use Rattle.capabilities.specs.Range.{inside}
 use Rattle.pages.specs.declared.Place.TheVariants.{At}
 use Rattle.pages.specs.declared.FrameState.TheVariants.{Mapped as Shown}
 use Rattle.pages.specs.Layer.{frame_at}
-use Rattle.pages.specs.Mapping.{lookupOf}
-use Rattle.table.specs.Rows.{isOpen, live, range_of}
+use Rattle.pages.specs.Mapping.{lookup_of}
+use Rattle.table.specs.Rows.{is_open, live, range_of}
 use Rattle.histories.specs.Runs.{Machine, Reached}
 use Rattle.histories.specs.Live.{Spot, Live, word_in}
 use Rattle.histories.specs.Inv.{row_at, Confined}
@@ -18,11 +18,11 @@ LiveIsConfined = (m : Machine) → Reached m → (x : Spot) → Live m x → Con
 
 abbrev pub OpenIsZero : Type 0
 OpenIsZero =
-    (m : Machine) → Reached m → (i v at : ℕ) → i < length (live m.state.core.table) → isOpen (row_at m.state.core.table i).state ≡ true
-    → inside (range_of (row_at m.state.core.table i)) v ≡ true → lookupOf m.state.core.pages v ≡ At at → Zeros m at
+    (m : Machine) → Reached m → (i v at : ℕ) → i < length (live m.state.core.table) → is_open (row_at m.state.core.table i).state ≡ true
+    → inside (range_of (row_at m.state.core.table i)) v ≡ true → lookup_of m.state.core.pages v ≡ At at → Zeros m at
 
 abbrev pub TagsAreBits : Type 0
-TagsAreBits = (m : Machine) → Reached m → (v at : ℕ) → lookupOf m.state.core.pages v ≡ At at → get_or m.tags at 0 ≤ 1
+TagsAreBits = (m : Machine) → Reached m → (v at : ℕ) → lookup_of m.state.core.pages v ≡ At at → get_or m.tags at 0 ≤ 1
 
 -- The same said of frames.
 abbrev pub FrameTagsAreBits : Type 0

@@ -6,7 +6,7 @@ use Rattle.pages.specs.declared.FrameState.TheVariants.{Free}
 use Rattle.pages.specs.declared.Place.TheVariants.{At}
 use Rattle.pages.specs.declared.VirtualPage.{VirtualPage}
 use Rattle.pages.specs.Layer.{frame_at}
-use Rattle.pages.specs.Mapping.{lookupOf}
+use Rattle.pages.specs.Mapping.{lookup_of}
 use Rattle.calls.specs.declared.Call.TheVariants.{Map}
 use Rattle.histories.specs.Runs.{Machine, Granted, next, Reached, Always}
 
@@ -18,7 +18,7 @@ pub record Zeros (m : Machine) (at : ℕ) : Type 0 where
 -- A virtual cell is Mapped, and its place holds 0, untagged.
 pub record ShowsZero (m : Machine) (v : ℕ) : Type 0 where
   pub at : ℕ
-  pub mapped : lookupOf m.state.core.pages v ≡ At at
+  pub mapped : lookup_of m.state.core.pages v ≡ At at
   pub zeros : Zeros m at
 
 abbrev pub MappedIsZeroAt : (m : Machine) → Reached m → Type 0

@@ -8,7 +8,7 @@ use Rattle.calls.specs.declared.Call.{Call}
 use Rattle.calls.specs.declared.Call.TheVariants.{Revoke}
 use Rattle.histories.specs.Runs.{Machine, Granted, next, run, Reached}
 use Rattle.histories.specs.Live.{Spot, register, mailbox, virtual, word_in, Live, Into}
-use Rattle.histories.specs.Lending.{namedRange, Ended}
+use Rattle.histories.specs.Lending.{named_range, Ended}
 
 -- A spot is a register or a mailbox.
 abbrev pub OfParty : Spot → Type 0
@@ -30,4 +30,4 @@ pub record Dead (m : Machine) (r : Range) : Type 0 where
 abbrev pub DeadAtOnce : Type 0
 DeadAtOnce =
     (m : Machine) → Reached m → (p base : ℕ) → Granted m (Revoke p base) → NoneDying (next m (Revoke p base))
-    → (calls : List Call) → Dead (run (next m (Revoke p base)) calls) (namedRange m p base) ⊎ Ended (next m (Revoke p base)) calls (namedRange m p base)
+    → (calls : List Call) → Dead (run (next m (Revoke p base)) calls) (named_range m p base) ⊎ Ended (next m (Revoke p base)) calls (named_range m p base)

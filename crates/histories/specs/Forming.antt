@@ -2,16 +2,16 @@
 -- and tags; so refusals 1 and 2 never come up: every answer's code is 0 or above 3. Assumes nothing.
 use Rattle.std.specs.Prelude.{ℕ, ◌*◌, ◌<◌, true, ◌⊎◌, ◌≡◌, length}
 use Rattle.calls.specs.declared.Call.{Call}
-use Rattle.machine.specs.Formed.{wellFormed}
+use Rattle.machine.specs.Formed.{well_formed}
 use Rattle.histories.specs.Runs.{Machine, outcome, Reached}
 
 -- What a start with V and F leads to.
 pub record Standing (m : Machine) (v f : ℕ) : Type 0 where
-  pub formed : wellFormed m.state ≡ true
-  pub of-v : m.state.core.pages.v ≡ v
-  pub of-f : m.state.core.pages.f ≡ f
-  pub of-cells : length m.cells ≡ 16 * f
-  pub of-tags : length m.tags ≡ 16 * f
+  pub formed : well_formed m.state ≡ true
+  pub of_v : m.state.core.pages.v ≡ v
+  pub of_f : m.state.core.pages.f ≡ f
+  pub of_cells : length m.cells ≡ 16 * f
+  pub of_tags : length m.tags ≡ 16 * f
 
 abbrev pub AlwaysFormed : Type 0
 AlwaysFormed = (m : Machine) (r : Reached m) → Standing m r.v r.f

@@ -6,7 +6,7 @@ use Rattle.std.specs.Prelude.{ℕ, ◌+◌, ◌*◌, ◌≤◌, true, List, ◌�
 use Rattle.capabilities.specs.declared.Range.{Range}
 use Rattle.capabilities.specs.Capability.{capability}
 use Rattle.capabilities.specs.Range.{inside}
-use Rattle.table.specs.Find.{findOf, rowOf}
+use Rattle.table.specs.Find.{find_of, row_of}
 use Rattle.table.specs.Rows.{range_of}
 use Rattle.reservations.specs.Revocation.{revoked}
 use Rattle.calls.specs.declared.Call.{Call}
@@ -16,26 +16,26 @@ use Rattle.words.specs.Words.{slot}
 use Rattle.histories.specs.Live.{Spot, register, Live, word_in, Into, NoneInto}
 
 -- The range that a granted take lends: from base on, as many cells as it answers.
-abbrev pub lentRange : Machine → Call → ℕ → Range
-lentRange m take base = record { base = base; length = (outcome m take).answer.number }
+abbrev pub lent_range : Machine → Call → ℕ → Range
+lent_range m take base = record { base = base; length = (outcome m take).answer.number }
 
 abbrev pub LentOnceAt : (m : Machine) → Reached m → Type 0
 LentOnceAt m r =
-    (take : Call) (p base reg permissions : ℕ) → IsTake take p base reg permissions → Granted m take → NoneInto m (lentRange m take base)
+    (take : Call) (p base reg permissions : ℕ) → IsTake take p base reg permissions → Granted m take → NoneInto m (lent_range m take base)
 
 abbrev pub LentOnce : Type 0
 LentOnce = Always LentOnceAt
 
 -- The range of the reservation that begins at base and is the party's, said of the table and not of an answer.
-abbrev pub namedRange : Machine → ℕ → ℕ → Range
-namedRange m p base = range_of (rowOf m.state.core.table (findOf m.state.core.table p base))
+abbrev pub named_range : Machine → ℕ → ℕ → Range
+named_range m p base = range_of (row_of m.state.core.table (find_of m.state.core.table p base))
 
 -- What a granted take leaves: its register holds the capability of the named range with the take's permissions, and no other live
 -- capability has a cell in that range.
 pub record LentBy (m : Machine) (take : Call) (p base reg permissions : ℕ) : Type 0 where
-  pub begins : (namedRange m p base).base ≡ base
-  pub holds : word_in (next m take) (register (8 * p + reg)) ≡ slot (capability base (namedRange m p base).length permissions) true
-  pub only : (x : Spot) → Live (next m take) x → Into (namedRange m p base) (word_in (next m take) x).cell → x ≡ register (8 * p + reg)
+  pub begins : (named_range m p base).base ≡ base
+  pub holds : word_in (next m take) (register (8 * p + reg)) ≡ slot (capability base (named_range m p base).length permissions) true
+  pub only : (x : Spot) → Live (next m take) x → Into (named_range m p base) (word_in (next m take) x).cell → x ≡ register (8 * p + reg)
 
 abbrev pub LentByCapabilityAt : (m : Machine) → Reached m → Type 0
 LentByCapabilityAt m r =
@@ -60,5 +60,5 @@ abbrev pub EndedBetween : Type 0
 EndedBetween =
     (m : Machine) → Reached m → (take : Call) (p base reg permissions : ℕ) → IsTake take p base reg permissions → Granted m take
     → (calls : List Call) → (take' : Call) (q base' reg' permissions' : ℕ) → IsTake take' q base' reg' permissions'
-    → Granted (run (next m take) calls) take' → (v : ℕ) → inside (lentRange m take base) v ≡ true
-    → inside (lentRange (run (next m take) calls) take' base') v ≡ true → Ended (next m take) calls (lentRange m take base)
+    → Granted (run (next m take) calls) take' → (v : ℕ) → inside (lent_range m take base) v ≡ true
+    → inside (lent_range (run (next m take) calls) take' base') v ≡ true → Ended (next m take) calls (lent_range m take base)

@@ -7,7 +7,7 @@ use Rattle.capabilities.specs.Range.{inside}
 use Rattle.pages.specs.declared.Place.{Place}
 use Rattle.pages.specs.declared.Place.TheVariants.{At, Nowhere}
 use Rattle.pages.specs.Pages.{Pages}
-use Rattle.pages.specs.Mapping.{lookupOf}
+use Rattle.pages.specs.Mapping.{lookup_of}
 use Rattle.words.specs.declared.Slot.{Slot}
 use Rattle.words.specs.Words.{empty, word_at}
 use Rattle.histories.specs.Runs.{Machine}
@@ -25,7 +25,7 @@ word_of cells tags Nowhere = empty
 
 -- The word that a virtual cell shows; an empty one where its page is not Mapped.
 abbrev pub shown : Pages → List ℕ → List ℕ → ℕ → Slot
-shown pages cells tags v = word_of cells tags (lookupOf pages v)
+shown pages cells tags v = word_of cells tags (lookup_of pages v)
 
 abbrev pub word_in : Machine → Spot → Slot
 word_in m (register i) = get_or m.state.registers i empty

@@ -2,7 +2,7 @@
 -- merges alone, each of them granted, lead back to one reservation of all cells. Assumes nothing.
 use Rattle.std.specs.Prelude.{ℕ, ◌*◌, ◌<◌, true, List, [], ◌∷◌, ◌≡◌, length, replicate}
 use Rattle.table.specs.declared.ReservationState.TheVariants.{Open}
-use Rattle.table.specs.Rows.{isOpen, live, reservation, noTaker}
+use Rattle.table.specs.Rows.{is_open, live, reservation, no_taker}
 use Rattle.table.specs.Tiling.{tiles}
 use Rattle.calls.specs.declared.Call.{Call}
 use Rattle.calls.specs.declared.Call.TheVariants.{Merge}
@@ -17,7 +17,7 @@ AlwaysTiled = Always TiledAt
 
 -- All reservations are Open, and a party holds them.
 pub record Alone (m : Machine) (p : ℕ) : Type 0 where
-  pub isopen : (i : ℕ) → i < length (live m.state.core.table) → isOpen (row_at m.state.core.table i).state ≡ true
+  pub isopen : (i : ℕ) → i < length (live m.state.core.table) → is_open (row_at m.state.core.table i).state ≡ true
   pub holds : (i : ℕ) → i < length (live m.state.core.table) → (row_at m.state.core.table i).holder ≡ p
 
 -- Each call of a list is granted, one after the other.
@@ -29,7 +29,7 @@ pub data AllGranted : Machine → List Call → Type 0 where
 pub record Back (m : Machine) (p v : ℕ) : Type 0 where
   pub times : ℕ
   pub granted : AllGranted m (replicate times (Merge p 0))
-  pub one : live (run m (replicate times (Merge p 0))).state.core.table ≡ reservation 0 (16 * v) Open p noTaker ∷ []
+  pub one : live (run m (replicate times (Merge p 0))).state.core.table ≡ reservation 0 (16 * v) Open p no_taker ∷ []
 
 abbrev pub MergesLeadBack : Type 0
 MergesLeadBack = (m : Machine) (r : Reached m) (p : ℕ) → Alone m p → Back m p r.v

@@ -6,9 +6,9 @@ use Rattle.capabilities.specs.Lists.{pick}
 use Rattle.table.specs.Operations.{take_of}
 use Rattle.calls.specs.declared.Call.{Call}
 use Rattle.words.specs.declared.Slot.{Slot}
-use Rattle.words.specs.Words.{registerOf}
+use Rattle.words.specs.Words.{register_of}
 use Rattle.machine.specs.State.{State}
-use Rattle.machine.specs.Roles.{Sources, fromNone, fromOne, fromTwo, fromCell, Role, takes, collects, fills, stores, grants, receives, plain, Asked, asked, roleOf, callerOf}
+use Rattle.machine.specs.Roles.{Sources, from_none, from_one, from_two, from_cell, Role, takes, collects, fills, stores, grants, receives, plain, Asked, asked, role_of, caller_of}
 use Rattle.histories.specs.Runs.{Machine, Granted, next, Reached}
 use Rattle.histories.specs.Live.{Spot, register, mailbox, virtual, word_in}
 
@@ -16,45 +16,45 @@ pub data Origin : Type 0 where
   from : Spot → Origin
   made : Origin
 
-unfoldable pub sameSpot : Spot → Spot → Bool
-sameSpot (register i) (register j) = eqb i j
-sameSpot (register i) (mailbox j) = false
-sameSpot (register i) (virtual j) = false
-sameSpot (mailbox i) (register j) = false
-sameSpot (mailbox i) (mailbox j) = eqb i j
-sameSpot (mailbox i) (virtual j) = false
-sameSpot (virtual i) (register j) = false
-sameSpot (virtual i) (mailbox j) = false
-sameSpot (virtual i) (virtual j) = eqb i j
+unfoldable pub same_spot : Spot → Spot → Bool
+same_spot (register i) (register j) = eqb i j
+same_spot (register i) (mailbox j) = false
+same_spot (register i) (virtual j) = false
+same_spot (mailbox i) (register j) = false
+same_spot (mailbox i) (mailbox j) = eqb i j
+same_spot (mailbox i) (virtual j) = false
+same_spot (virtual i) (register j) = false
+same_spot (virtual i) (mailbox j) = false
+same_spot (virtual i) (virtual j) = eqb i j
 
 -- Register r of party p.
-abbrev pub registerAt : ℕ → ℕ → Spot
-registerAt p r = register (8 * p + r)
+abbrev pub register_at : ℕ → ℕ → Spot
+register_at p r = register (8 * p + r)
 
 -- The cell at base + off of the capability in register a of party p.
 abbrev pub cell_at : Machine → ℕ → ℕ → ℕ → Spot
-cell_at m p a off = virtual (base_of (registerOf m.state.registers p a).cell + off)
+cell_at m p a off = virtual (base_of (register_of m.state.registers p a).cell + off)
 
 -- Of all spots only one gets a word from elsewhere; every other word stays where it was.
 abbrev pub only : Spot → Origin → Spot → Origin
-only to o x = pick (sameSpot to x) o (from x)
+only to o x = pick (same_spot to x) o (from x)
 
 -- What fills a register: the word that is loaded, or what is made of the first register that is read; a number is none of these.
-abbrev pub filledFrom : Machine → ℕ → Sources → Origin
-filledFrom m p fromNone = made
-filledFrom m p (fromOne s) = from (registerAt p s)
-filledFrom m p (fromTwo s t) = from (registerAt p s)
-filledFrom m p (fromCell a off) = from (cell_at m p a off)
+abbrev pub filled_from : Machine → ℕ → Sources → Origin
+filled_from m p from_none = made
+filled_from m p (from_one s) = from (register_at p s)
+filled_from m p (from_two s t) = from (register_at p s)
+filled_from m p (from_cell a off) = from (cell_at m p a off)
 
 -- Where the word at a spot comes from, once party p has been granted a call of this role.
-abbrev pub originBy : Machine → ℕ → Role → Spot → Origin
-originBy m p (takes base reg permissions) = only (registerAt p reg) made
-originBy m p collects = from
-originBy m p (fills source d) = only (registerAt p d) (filledFrom m p source)
-originBy m p (stores a off s) = only (cell_at m p a off) (from (registerAt p s))
-originBy m p (grants s to) = only (mailbox to) (from (registerAt p s))
-originBy m p (receives d) = only (registerAt p d) (from (mailbox p))
-originBy m p plain = from
+abbrev pub origin_by : Machine → ℕ → Role → Spot → Origin
+origin_by m p (takes base reg permissions) = only (register_at p reg) made
+origin_by m p collects = from
+origin_by m p (fills source d) = only (register_at p d) (filled_from m p source)
+origin_by m p (stores a off s) = only (cell_at m p a off) (from (register_at p s))
+origin_by m p (grants s to) = only (mailbox to) (from (register_at p s))
+origin_by m p (receives d) = only (register_at p d) (from (mailbox p))
+origin_by m p plain = from
 
 -- A capability, or one narrowed from it as 0D narrows.
 pub data Narrower (c : ℕ) : ℕ → Type 0 where
@@ -82,4 +82,4 @@ ComesBy m a made w = w.tag ≡ true → Made m.state a w.cell
 abbrev pub EachComes : Type 0
 EachComes =
     (m : Machine) → Reached m → (c : Call) → Granted m c → (x : Spot)
-    → ComesBy m (roleOf c) (originBy m (callerOf c) (roleOf c).role x) (word_in (next m c) x)
+    → ComesBy m (role_of c) (origin_by m (caller_of c) (role_of c).role x) (word_in (next m c) x)

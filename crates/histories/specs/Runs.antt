@@ -5,7 +5,7 @@ use Rattle.calls.specs.declared.Call.{Call}
 use Rattle.machine.specs.State.{State}
 use Rattle.machine.specs.State.{Answered}
 use Rattle.machine.specs.Formed.{start_of}
-use Rattle.machine.specs.Step.{Outcome, isGranted, step_of}
+use Rattle.machine.specs.Step.{Outcome, is_granted, step_of}
 
 -- A state and the memory that it is lent.
 pub record Machine : Type 0 where
@@ -25,7 +25,7 @@ next m c = machine (outcome m c).answer.state (outcome m c).cells (outcome m c).
 
 -- A call is granted: as a test, and as a statement.
 abbrev pub granted : Machine → Call → Bool
-granted m c = isGranted (outcome m c)
+granted m c = is_granted (outcome m c)
 
 abbrev pub Granted : Machine → Call → Type 0
 Granted m c = (outcome m c).answer.code ≡ 0
@@ -45,8 +45,8 @@ begun v f cells tags = machine (start_of v f).state cells tags
 
 pub record Begins (v f : ℕ) (cells tags : List ℕ) : Type 0 where
   pub granted : (start_of v f).code ≡ 0
-  pub of-cells : length cells ≡ 16 * f
-  pub of-tags : length tags ≡ 16 * f
+  pub of_cells : length cells ≡ 16 * f
+  pub of_tags : length tags ≡ 16 * f
 
 -- A state and memory that some history leaves: some V, F and lent memory, and some list of calls from the granted start on.
 pub record Reached (m : Machine) : Type 0 where

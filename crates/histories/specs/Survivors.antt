@@ -10,7 +10,7 @@ use Rattle.calls.specs.declared.Call.TheVariants.{Collect}
 use Rattle.machine.specs.Roles.{IsTake}
 use Rattle.histories.specs.Runs.{Machine, Granted, next, run, Reached, Always}
 use Rattle.histories.specs.Live.{NoneInto}
-use Rattle.histories.specs.Lending.{namedRange}
+use Rattle.histories.specs.Lending.{named_range}
 
 abbrev pub NoSurvivorAt : (m : Machine) → Reached m → Type 0
 NoSurvivorAt m r = (p : ℕ) → Granted m (Collect p) → NoneInto (next m (Collect p)) (revoked m.state.core)
@@ -22,7 +22,7 @@ NoSurvivor = Always NoSurvivorAt
 abbrev pub Untaken : Machine → List Call → Range → Type 0
 Untaken m calls r =
     (before : List Call) (take : Call) (after : List Call) → calls ≡ before ++ take ∷ after → (q base reg permissions : ℕ)
-    → IsTake take q base reg permissions → Granted (run m before) take → (v : ℕ) → inside (namedRange (run m before) q base) v ≡ true → inside r v ≡ true → ⊥
+    → IsTake take q base reg permissions → Granted (run m before) take → (v : ℕ) → inside (named_range (run m before) q base) v ≡ true → inside r v ≡ true → ⊥
 
 abbrev pub NoSurvivorUntilTakenAt : (m : Machine) → Reached m → Type 0
 NoSurvivorUntilTakenAt m r =

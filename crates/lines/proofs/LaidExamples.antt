@@ -1,5 +1,5 @@
 -- A line that is cut off at the buffer's end, by computing: `lines:Laid.Laid`, which speaks of what fits, holds of it, and
--- `lines:Laid.laidIn` keeps the buffer. Assumes nothing.
+-- `lines:Laid.laid_in` keeps the buffer. Assumes nothing.
 use Prim.Native.Nat.{ℕ}
 use native.Mathlib.Omega.{arith}
 use mathlib.Core.Bool.{false}
@@ -7,7 +7,7 @@ use mathlib.Core.List.{List, [], ◌∷◌}
 use mathlib.Core.Path.{◌≡◌, refl}
 use lib.ListN.{length}
 use Rattle.lines.specs.Lines.{digits, decimal, line_of}
-use Rattle.lines.specs.Laid.{Laid, laidIn}
+use Rattle.lines.specs.Laid.{Laid, laid_in}
 
 abbrev short : List ℕ
 short = 7 ∷ 7 ∷ 7 ∷ []
@@ -19,9 +19,9 @@ six : length (line_of 0 0 false) ≡ 6
 unfolding line_of decimal digits
 six = refl
 
-pub cut-laid : Laid (line_of 0 0 false) 0 short 6 cut
-cut-laid = record { ends = omega (arith, six); size = refl; fits = λ h. let z : ⊥ = omega (arith, six) in absurd z }
+pub cut_laid : Laid (line_of 0 0 false) 0 short 6 cut
+cut_laid = record { ends = omega (arith, six); size = refl; fits = λ h. let z : ⊥ = omega (arith, six) in absurd z }
 
-pub cut-kept : laidIn (line_of 0 0 false) 0 short ≡ short
-unfolding line_of decimal digits laidIn
-cut-kept = refl
+pub cut_kept : laid_in (line_of 0 0 false) 0 short ≡ short
+unfolding line_of decimal digits laid_in
+cut_kept = refl

@@ -3,8 +3,8 @@ use Rattle.std.specs.Prelude.{ℕ, ◌+◌, ◌≤◌, List, ◌++◌, ◌≡◌
 use Rattle.capabilities.specs.Lists.{pick}
 
 -- The buffer with `new` put at `at`, if it fits; else it is kept as it was.
-unfoldable pub laidIn : List ℕ → ℕ → List ℕ → List ℕ
-laidIn new at before = pick (leb (at + length new) (length before)) (take at before ++ (new ++ drop (at + length new) before)) before
+unfoldable pub laid_in : List ℕ → ℕ → List ℕ → List ℕ
+laid_in new at before = pick (leb (at + length new) (length before)) (take at before ++ (new ++ drop (at + length new) before)) before
 
 -- `new` was put at `at`, in one piece or in several, and ends at `end`: if it fits, the buffer holds it there and is kept elsewhere. Of
 -- several pieces the first may fit and be put where the last does not.

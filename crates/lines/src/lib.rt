@@ -2,7 +2,7 @@
 ghost use Rattle.std.specs.Prelude.{ℕ, ◌+◌, ◌/◌, ◌%◌, ◌<◌, ◌≤◌, [], ◌∷◌, ◌++◌, ◌≡◌, length, set};
 ghost use Rattle.words.specs.Words.{byte_of};
 ghost use Rattle.lines.specs.Lines.{decimal, line_of};
-ghost use Rattle.lines.specs.Laid.{Laid, laidIn};
+ghost use Rattle.lines.specs.Laid.{Laid, laid_in};
 
 // How many digits a number has.
 fn width(n: u64) -> usize
@@ -77,7 +77,7 @@ fn put_short(code: u8, number: u8, tag: bool, at: usize, out: &mut [u8]) -> usiz
     requires number_bound { number < 10 }
     requires at_bound { at < 4294967296 }
     ensures value { result ≡ at + length (line_of code number tag) }
-    ensures out_after { out.new ≡ laidIn (line_of code number tag) at out.old }
+    ensures out_after { out.new ≡ laid_in (line_of code number tag) at out.old }
 {
     let end = at + 6;
     if out.len() < end {
@@ -93,7 +93,7 @@ fn put_short(code: u8, number: u8, tag: bool, at: usize, out: &mut [u8]) -> usiz
 fn put_long(code: u8, number: u64, tag: bool, at: usize, out: &mut [u8]) -> usize
     requires { at < 4294967296 }
     ensures value { result ≡ at + length (line_of code number tag) }
-    ensures out_after { out.new ≡ laidIn (line_of code number tag) at out.old }
+    ensures out_after { out.new ≡ laid_in (line_of code number tag) at out.old }
 {
     let first = at + width(code as u64);
     let second = first + 1 + width(number);
@@ -112,7 +112,7 @@ fn put_long(code: u8, number: u64, tag: bool, at: usize, out: &mut [u8]) -> usiz
 // place is a u32, so that no end passes what a usize holds.
 pub fn put_line(code: u8, number: u64, tag: bool, at: u32, out: &mut [u8]) -> usize
     ensures value { result ≡ at + length (line_of code number tag) }
-    ensures out_after { out.new ≡ laidIn (line_of code number tag) at out.old }
+    ensures out_after { out.new ≡ laid_in (line_of code number tag) at out.old }
     ensures upper_bound { code < 100 → result ≤ at + 26 }
 {
     if (code < 10) & (number < 10) {

@@ -11,29 +11,29 @@ use Rattle.capabilities.specs.Refusals.{first, reason}
 use Rattle.pages.specs.Layer.{serves}
 use Rattle.pages.proofs.Memory.{served}
 use Rattle.table.specs.Rows.{live}
-use Rattle.table.specs.Tiling.{takersSound}
-use Rattle.claims.specs.Sound.{claimsSound}
+use Rattle.table.specs.Tiling.{takers_sound}
+use Rattle.claims.specs.Sound.{claims_sound}
 use Rattle.reservations.specs.Core.{Core}
-use Rattle.reservations.specs.Revocation.{coreSound}
+use Rattle.reservations.specs.Revocation.{core_sound}
 use Rattle.calls.specs.declared.Call.{Call}
 use Rattle.words.specs.declared.Slot.{Slot}
 use Rattle.machine.specs.State.{State}
-use Rattle.words.specs.Words.{mailboxSound}
-use Rattle.machine.specs.Formed.{mailboxesSound, formedBare, wellFormed}
+use Rattle.words.specs.Words.{mailbox_sound}
+use Rattle.machine.specs.Formed.{mailboxes_sound, formed_bare, well_formed}
 use Rattle.machine.specs.Reasons.{reads, reasons}
 use Rattle.machine.specs.Effects.{effect}
-use Rattle.machine.specs.Step.{reasonsOn, effectOn, step_of}
-use Rattle.machine.proofs.Order.{step-code}
+use Rattle.machine.specs.Step.{reasons_on, effect_on, step_of}
+use Rattle.machine.proofs.Order.{step_code}
 
 -- Whether a state is well formed depends on the core, the mailboxes and how many registers there are.
-unfoldable pub formedBy : Core → List Slot → ℕ → Bool
-formedBy k mail registers =
-    (((coreSound k && each mailboxSound 0 mail) && (eqb registers 64 && eqb (length mail) 8)) && claimsSound k.pages.v k.claims)
-    && takersSound (live k.table)
+unfoldable pub formed_by : Core → List Slot → ℕ → Bool
+formed_by k mail registers =
+    (((core_sound k && each mailbox_sound 0 mail) && (eqb registers 64 && eqb (length mail) 8)) && claims_sound k.pages.v k.claims)
+    && takers_sound (live k.table)
 
-pub formed-by : (s : State) → wellFormed s ≡ formedBy s.core s.mailboxes (length s.registers)
-unfolding formedBy wellFormed formedBare mailboxesSound
-formed-by s = refl
+pub formed_by_lem : (s : State) → well_formed s ≡ formed_by s.core s.mailboxes (length s.registers)
+unfolding formed_by well_formed formed_bare mailboxes_sound
+formed_by_lem s = refl
 
 -- Two states with lent memory that agree in the core, the mailboxes and what the call reads.
 pub record Alike (c : Call) (s : State) (cells tags : List ℕ) (t : State) (others marks : List ℕ) : Type 0 where
@@ -43,14 +43,14 @@ pub record Alike (c : Call) (s : State) (cells tags : List ℕ) (t : State) (oth
 
 module _ (c : Call) (s : State) (cells tags : List ℕ) (t : State) (others marks : List ℕ) (a : Alike c s cells tags t others marks) where
   -- The same reasons speak against the call.
-  pub same-reasons : reasonsOn s c cells tags ≡ reasonsOn t c others marks
-  same-reasons =
+  pub same_reasons : reasons_on s c cells tags ≡ reasons_on t c others marks
+  same_reasons =
       ap (λ r. reasons s.core s.mailboxes r c) a.read
       ∙ ap (λ k. reasons k s.mailboxes (reads t.core t.registers others marks c) c) a.core
       ∙ ap (λ m. reasons t.core m (reads t.core t.registers others marks c) c) a.mailboxes
 
   -- The call has the same effect.
-  pub same_effect : effectOn s c cells tags ≡ effectOn t c others marks
+  pub same_effect : effect_on s c cells tags ≡ effect_on t c others marks
   same_effect =
       ap (λ r. effect s.core s.mailboxes r c) a.read
       ∙ ap (λ k. effect k s.mailboxes (reads t.core t.registers others marks c) c) a.core
@@ -58,23 +58,23 @@ module _ (c : Call) (s : State) (cells tags : List ℕ) (t : State) (others mark
 
   -- The codes are equal too, if the lent memories are as long and both states well formed or neither.
   pub same_code :
-      wellFormed s ≡ wellFormed t → length cells ≡ length others → length tags ≡ length marks
+      well_formed s ≡ well_formed t → length cells ≡ length others → length tags ≡ length marks
       → (step_of s c cells tags).answer.code ≡ (step_of t c others marks).answer.code
   same_code w n m =
-      step-code s c cells tags
-      ∙ ap (λ b. first (reason 1 (not b) ∷ reason 2 (not (serves s.core.pages (length cells) (length tags))) ∷ reasonsOn s c cells tags)) w
-      ∙ ap (λ k. first (reason 1 (not (wellFormed t)) ∷ reason 2 (not (serves k.pages (length cells) (length tags))) ∷ reasonsOn s c cells tags)) a.core
-      ∙ ap (λ k. first (reason 1 (not (wellFormed t)) ∷ reason 2 (not (serves t.core.pages k (length tags))) ∷ reasonsOn s c cells tags)) n
-      ∙ ap (λ k. first (reason 1 (not (wellFormed t)) ∷ reason 2 (not (serves t.core.pages (length others) k)) ∷ reasonsOn s c cells tags)) m
-      ∙ ap (λ l. first (reason 1 (not (wellFormed t)) ∷ reason 2 (not (serves t.core.pages (length others) (length marks))) ∷ l)) same-reasons
-      ∙ sym (step-code t c others marks)
+      step_code s c cells tags
+      ∙ ap (λ b. first (reason 1 (not b) ∷ reason 2 (not (serves s.core.pages (length cells) (length tags))) ∷ reasons_on s c cells tags)) w
+      ∙ ap (λ k. first (reason 1 (not (well_formed t)) ∷ reason 2 (not (serves k.pages (length cells) (length tags))) ∷ reasons_on s c cells tags)) a.core
+      ∙ ap (λ k. first (reason 1 (not (well_formed t)) ∷ reason 2 (not (serves t.core.pages k (length tags))) ∷ reasons_on s c cells tags)) n
+      ∙ ap (λ k. first (reason 1 (not (well_formed t)) ∷ reason 2 (not (serves t.core.pages (length others) k)) ∷ reasons_on s c cells tags)) m
+      ∙ ap (λ l. first (reason 1 (not (well_formed t)) ∷ reason 2 (not (serves t.core.pages (length others) (length marks))) ∷ l)) same_reasons
+      ∙ sym (step_code t c others marks)
 
   -- So for well-formed states with lent memory of the right size.
-  pub same-code-served :
-      wellFormed s ≡ true → wellFormed t ≡ true
+  pub same_code_served :
+      well_formed s ≡ true → well_formed t ≡ true
       → serves s.core.pages (length cells) (length tags) ≡ true → serves t.core.pages (length others) (length marks) ≡ true
       → (step_of s c cells tags).answer.code ≡ (step_of t c others marks).answer.code
-  same-code-served w x p q =
+  same_code_served w x p q =
       let (l, m) = served s.core.pages (length cells) (length tags) p in
       let (n, o) = served t.core.pages (length others) (length marks) q in
       let f : 16 * s.core.pages.f ≡ 16 * t.core.pages.f = ap (λ k. 16 * k.pages.f) a.core in

@@ -8,58 +8,58 @@ use borrow.Author.Tests.{ltb-true, leb-false, ltb-false, eqb-false, not-false}
 use lib.Dec.{eqb, ltb}
 use Rattle.capabilities.specs.Capability.{base_of, length_of}
 use Rattle.capabilities.specs.Refusals.{Reason, first, reason}
-use Rattle.capabilities.proofs.Choice.{or-false}
-use Rattle.capabilities.proofs.Refusals.{first-clear}
+use Rattle.capabilities.proofs.Choice.{or_false}
+use Rattle.capabilities.proofs.Refusals.{first_clear}
 use Rattle.pages.specs.declared.Place.{Place}
 use Rattle.pages.specs.declared.Place.TheVariants.{At, Nowhere}
-use Rattle.pages.specs.Mapping.{lookupOf}
+use Rattle.pages.specs.Mapping.{lookup_of}
 use Rattle.reservations.specs.Core.{Core}
 use Rattle.words.specs.declared.Slot.{Slot}
 use Rattle.words.specs.Words.{named}
 use Rattle.words.specs.Words.{nowhere}
-use Rattle.words.specs.WordReasons.{unnamed, pastEnd, badNarrow, cellReasons}
-use Rattle.words.specs.Words.{placeNumber}
+use Rattle.words.specs.WordReasons.{unnamed, past_end, bad_narrow, cell_reasons}
+use Rattle.words.specs.Words.{place_number}
 use Rattle.machine.specs.Reasons.{addressed}
 
-pub named-low : (n : ℕ) → unnamed n ≡ false → n < 8
-named-low n e = ltb-true n 8 (not-false (named n) e)
+pub named_low : (n : ℕ) → unnamed n ≡ false → n < 8
+named_low n e = ltb-true n 8 (not-false (named n) e)
 
 -- The reasons after refusals 4 and 5.
-pub after-five : (a b : Bool) (rest : List Reason) → first (reason 4 a ∷ reason 5 b ∷ rest) ≡ 0 → first rest ≡ 0
-after-five a b rest e = (first-clear 5 b rest (λ z. omega arith) (first-clear 4 a (reason 5 b ∷ rest) (λ z. omega arith) e).1).1
+pub after_five : (a b : Bool) (rest : List Reason) → first (reason 4 a ∷ reason 5 b ∷ rest) ≡ 0 → first rest ≡ 0
+after_five a b rest e = (first_clear 5 b rest (λ z. omega arith) (first_clear 4 a (reason 5 b ∷ rest) (λ z. omega arith) e).1).1
 
 -- Two and three names under refusal 4.
-pub low-two : (a b : ℕ) (rest : List Reason) → first (reason 4 (unnamed a || unnamed b) ∷ rest) ≡ 0 → (a < 8) × (b < 8)
-low-two a b rest z =
-    let k = or-false (unnamed a) (unnamed b) (first-clear 4 (unnamed a || unnamed b) rest (λ x. omega arith) z).0 in
-    (named-low a k.0, named-low b k.1)
+pub low_two : (a b : ℕ) (rest : List Reason) → first (reason 4 (unnamed a || unnamed b) ∷ rest) ≡ 0 → (a < 8) × (b < 8)
+low_two a b rest z =
+    let k = or_false (unnamed a) (unnamed b) (first_clear 4 (unnamed a || unnamed b) rest (λ x. omega arith) z).0 in
+    (named_low a k.0, named_low b k.1)
 
-pub low-three : (a b d : ℕ) (rest : List Reason) → first (reason 4 ((unnamed a || unnamed b) || unnamed d) ∷ rest) ≡ 0 → (a < 8) × (b < 8) × (d < 8)
-low-three a b d rest z =
-    let k = or-false (unnamed a || unnamed b) (unnamed d) (first-clear 4 ((unnamed a || unnamed b) || unnamed d) rest (λ x. omega arith) z).0 in
-    let j = or-false (unnamed a) (unnamed b) k.0 in
-    (named-low a j.0, named-low b j.1, named-low d k.1)
+pub low_three : (a b d : ℕ) (rest : List Reason) → first (reason 4 ((unnamed a || unnamed b) || unnamed d) ∷ rest) ≡ 0 → (a < 8) × (b < 8) × (d < 8)
+low_three a b d rest z =
+    let k = or_false (unnamed a || unnamed b) (unnamed d) (first_clear 4 ((unnamed a || unnamed b) || unnamed d) rest (λ x. omega arith) z).0 in
+    let j = or_false (unnamed a) (unnamed b) k.0 in
+    (named_low a j.0, named_low b j.1, named_low d k.1)
 
 -- The addressed cell of a load or a store.
 pub record Addressing (k : Core) (a : Slot) (off : ℕ) : Type 0 where
   pub tagged : a.tag ≡ true
   pub short : off < length_of a.cell
-  pub place : lookupOf k.pages (base_of a.cell + off) ≡ At (placeNumber (addressed k a off))
+  pub place : lookup_of k.pages (base_of a.cell + off) ≡ At (place_number (addressed k a off))
 
-placed : (x : Place) → nowhere x ≡ false → x ≡ At (placeNumber x)
+placed : (x : Place) → nowhere x ≡ false → x ≡ At (place_number x)
 placed (At at) e = refl
 placed Nowhere e = absurd (true≢false e)
 
-reach : (k : Core) (a : Slot) (off : ℕ) → nowhere (addressed k a off) ≡ false → lookupOf k.pages (base_of a.cell + off) ≡ At (placeNumber (addressed k a off))
+reach : (k : Core) (a : Slot) (off : ℕ) → nowhere (addressed k a off) ≡ false → lookup_of k.pages (base_of a.cell + off) ≡ At (place_number (addressed k a off))
 unfolding addressed
-reach k a off e = placed (lookupOf k.pages (base_of a.cell + off)) e
+reach k a off e = placed (lookup_of k.pages (base_of a.cell + off)) e
 
-pub addressing : (k : Core) (a : Slot) (off : ℕ) (denied : Bool) → first (cellReasons denied a off (addressed k a off)) ≡ 0 → Addressing k a off
+pub addressing : (k : Core) (a : Slot) (off : ℕ) (denied : Bool) → first (cell_reasons denied a off (addressed k a off)) ≡ 0 → Addressing k a off
 addressing k a off denied z =
-    let z15 = first-clear 15 _ _ (λ x. omega arith) z in
-    let z16 = first-clear 16 _ _ (λ x. omega arith) z15.1 in
-    let z17 = first-clear 17 _ _ (λ x. omega arith) z16.1 in
-    let z18 = first-clear 18 _ _ (λ x. omega arith) z17.1 in
+    let z15 = first_clear 15 _ _ (λ x. omega arith) z in
+    let z16 = first_clear 16 _ _ (λ x. omega arith) z15.1 in
+    let z17 = first_clear 17 _ _ (λ x. omega arith) z16.1 in
+    let z18 = first_clear 18 _ _ (λ x. omega arith) z17.1 in
     record { tagged = not-false a.tag z15.0; short = leb-false (length_of a.cell) off z17.0; place = reach k a off z18.0 }
 
 -- A narrowing that lies within its source.
@@ -69,14 +69,14 @@ pub record Narrowing (s : Slot) (off len : ℕ) : Type 0 where
   pub ends : off + len ≤ length_of s.cell
   pub starts : base_of s.cell + off ≤ 65535
 
-pub narrowing : (s : Slot) (off len : ℕ) (u : Bool) → first (reason 4 u ∷ reason 15 (not s.tag) ∷ reason 17 (pastEnd s off || badNarrow s off len) ∷ []) ≡ 0 → Narrowing s off len
+pub narrowing : (s : Slot) (off len : ℕ) (u : Bool) → first (reason 4 u ∷ reason 15 (not s.tag) ∷ reason 17 (past_end s off || bad_narrow s off len) ∷ []) ≡ 0 → Narrowing s off len
 narrowing s off len u z =
-    let z4 = first-clear 4 _ _ (λ x. omega arith) z in
-    let z15 = first-clear 15 _ _ (λ x. omega arith) z4.1 in
-    let z17 = first-clear 17 (pastEnd s off || badNarrow s off len) _ (λ x. omega arith) z15.1 in
-    let a = or-false (pastEnd s off) (badNarrow s off len) z17.0 in
-    let b = or-false (eqb len 0 || ltb (length_of s.cell) (off + len)) (ltb 65535 (base_of s.cell + off)) a.1 in
-    let d = or-false (eqb len 0) (ltb (length_of s.cell) (off + len)) b.0 in
+    let z4 = first_clear 4 _ _ (λ x. omega arith) z in
+    let z15 = first_clear 15 _ _ (λ x. omega arith) z4.1 in
+    let z17 = first_clear 17 (past_end s off || bad_narrow s off len) _ (λ x. omega arith) z15.1 in
+    let a = or_false (past_end s off) (bad_narrow s off len) z17.0 in
+    let b = or_false (eqb len 0 || ltb (length_of s.cell) (off + len)) (ltb 65535 (base_of s.cell + off)) a.1 in
+    let d = or_false (eqb len 0) (ltb (length_of s.cell) (off + len)) b.0 in
     record { tagged = not-false s.tag z15.0; some = positive len (eqb-false len 0 d.0); ends = ltb-false (length_of s.cell) (off + len) d.1; starts = ltb-false 65535 (base_of s.cell + off) b.1 }
   where
     positive : (n : ℕ) → (n ≡ 0 → ⊥) → 1 ≤ n

@@ -18,19 +18,19 @@ use Rattle.calls.specs.Reader.{read_of}
 use Rattle.calls.specs.declared.Reading.TheVariants.{Read}
 use Rattle.calls.proofs.RoundTrip.{round_trip}
 use Rattle.machine.specs.State.{State}
-use Rattle.machine.specs.Formed.{wellFormed}
-use Rattle.machine.specs.Step.{refused, reasonsOn, ruled, judged, step_of}
-use Rattle.machine.specs.Command.{used, onReading, commandJudged, commandOf}
-use Rattle.machine.specs.Demands.{usedUnder, CommandWritten}
-use Rattle.machine.proofs.Order.{late-code, ruled-code}
+use Rattle.machine.specs.Formed.{well_formed}
+use Rattle.machine.specs.Step.{refused, reasons_on, ruled, judged, step_of}
+use Rattle.machine.specs.Command.{used, on_reading, command_judged, command_of}
+use Rattle.machine.specs.Demands.{used_under, CommandWritten}
+use Rattle.machine.proofs.Order.{late_code, ruled_code}
 
 -- A call judged by its own reasons answers neither 1 nor 2.
-late : (s : State) (c : Call) (cells tags : List ℕ) (n : ℕ) → usedUnder (ruled s c cells tags).answer.code n ≡ n
-late s c cells tags n = rw (ruled-code s c cells tags) (go (late-code s c cells tags))
+late : (s : State) (c : Call) (cells tags : List ℕ) (n : ℕ) → used_under (ruled s c cells tags).answer.code n ≡ n
+late s c cells tags n = rw (ruled_code s c cells tags) (go (late_code s c cells tags))
   where
-    go : (first (reasonsOn s c cells tags) ≡ 0) ⊎ (3 < first (reasonsOn s c cells tags)) → usedUnder (first (reasonsOn s c cells tags)) n ≡ n
+    go : (first (reasons_on s c cells tags) ≡ 0) ⊎ (3 < first (reasons_on s c cells tags)) → used_under (first (reasons_on s c cells tags)) n ≡ n
     go (inl z) = rw z
-    go (inr p) = rw (ne_eqb (first (reasonsOn s c cells tags)) 1 (λ z. omega (arith, p)), ne_eqb (first (reasonsOn s c cells tags)) 2 (λ z. omega (arith, p)))
+    go (inr p) = rw (ne_eqb (first (reasons_on s c cells tags)) 1 (λ z. omega (arith, p)), ne_eqb (first (reasons_on s c cells tags)) 2 (λ z. omega (arith, p)))
 
 -- Whatever stands before and after it, a call that was written runs as that call; it uses the bytes that were written,
 -- or none under refusals 1 and 2.
@@ -38,26 +38,26 @@ module _ (s : State) (c : Call) (before rest cells tags : List ℕ) where
   found : read_of (drop (length before) (before ++ (bytes_of c ++ rest))) ≡ Read c (length (bytes_of c))
   found = ap read_of (drop_at before (bytes_of c ++ rest) (length before) refl) ∙ round_trip c rest
 
-  judged-written :
-      commandJudged s (before ++ (bytes_of c ++ rest)) (length before) cells tags
-      ≡ used (usedUnder (judged s c cells tags).answer.code (length (bytes_of c))) (judged s c cells tags)
-  unfolding commandJudged onReading judged
-  judged-written = rw found (go (serves s.core.pages (length cells) (length tags)) refl)
+  judged_written :
+      command_judged s (before ++ (bytes_of c ++ rest)) (length before) cells tags
+      ≡ used (used_under (judged s c cells tags).answer.code (length (bytes_of c))) (judged s c cells tags)
+  unfolding command_judged on_reading judged
+  judged_written = rw found (go (serves s.core.pages (length cells) (length tags)) refl)
     where
       n : ℕ
       n = length (bytes_of c)
 
       go : (b : Bool) → serves s.core.pages (length cells) (length tags) ≡ b
           → pick b (used n (pick (serves s.core.pages (length cells) (length tags)) (ruled s c cells tags) (refused 2 s cells tags))) (used 0 (refused 2 s cells tags))
-          ≡ used (usedUnder (pick b (ruled s c cells tags) (refused 2 s cells tags)).answer.code n) (pick b (ruled s c cells tags) (refused 2 s cells tags))
+          ≡ used (used_under (pick b (ruled s c cells tags) (refused 2 s cells tags)).answer.code n) (pick b (ruled s c cells tags) (refused 2 s cells tags))
       go true e = rw e (ap (λ m. used m (ruled s c cells tags)) (sym (late s c cells tags n)))
       go false e = refl
 
-pub command-written : CommandWritten
-unfolding commandOf step_of
-command-written s c before rest cells tags = go (wellFormed s)
+pub command_written : CommandWritten
+unfolding command_of step_of
+command_written s c before rest cells tags = go (well_formed s)
   where
-    go : (b : Bool) → pick b (commandJudged s (before ++ (bytes_of c ++ rest)) (length before) cells tags) (used 0 (refused 1 s cells tags))
-        ≡ used (usedUnder (pick b (judged s c cells tags) (refused 1 s cells tags)).answer.code (length (bytes_of c))) (pick b (judged s c cells tags) (refused 1 s cells tags))
-    go true = judged-written s c before rest cells tags
+    go : (b : Bool) → pick b (command_judged s (before ++ (bytes_of c ++ rest)) (length before) cells tags) (used 0 (refused 1 s cells tags))
+        ≡ used (used_under (pick b (judged s c cells tags) (refused 1 s cells tags)).answer.code (length (bytes_of c))) (pick b (judged s c cells tags) (refused 1 s cells tags))
+    go true = judged_written s c before rest cells tags
     go false = refl

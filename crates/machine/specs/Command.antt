@@ -8,7 +8,7 @@ use Rattle.calls.specs.declared.Reading.TheVariants.{Read, Refused}
 use Rattle.calls.specs.Reader.{read_of}
 use Rattle.machine.specs.State.{State}
 use Rattle.machine.specs.State.{Commanded}
-use Rattle.machine.specs.Formed.{wellFormed}
+use Rattle.machine.specs.Formed.{well_formed}
 use Rattle.machine.specs.Step.{Outcome, refused, judged}
 
 -- What a command leaves.
@@ -24,15 +24,15 @@ abbrev pub used : ℕ → Outcome → Ran
 used n o = ran (record { answered = o.answer; used = n }) o.cells o.tags
 
 -- 3: "No byte is found at the place, the first byte is no command, or the input ends before its operands do."
-unfoldable pub onReading : State → Reading → List ℕ → List ℕ → Ran
-onReading s (Read call n) cells tags = used n (judged s call cells tags)
-onReading s Refused cells tags = used 0 (refused 3 s cells tags)
+unfoldable pub on_reading : State → Reading → List ℕ → List ℕ → Ran
+on_reading s (Read call n) cells tags = used n (judged s call cells tags)
+on_reading s Refused cells tags = used 0 (refused 3 s cells tags)
 
 -- The command at a place of the input, by refusals 2 and 3 and then its call.
-unfoldable pub commandJudged : State → List ℕ → ℕ → List ℕ → List ℕ → Ran
-commandJudged s input at cells tags =
-    pick (serves s.core.pages (length cells) (length tags)) (onReading s (read_of (drop at input)) cells tags) (used 0 (refused 2 s cells tags))
+unfoldable pub command_judged : State → List ℕ → ℕ → List ℕ → List ℕ → Ran
+command_judged s input at cells tags =
+    pick (serves s.core.pages (length cells) (length tags)) (on_reading s (read_of (drop at input)) cells tags) (used 0 (refused 2 s cells tags))
 
 -- The same by refusal 1 before all others.
-unfoldable pub commandOf : State → List ℕ → ℕ → List ℕ → List ℕ → Ran
-commandOf s input at cells tags = pick (wellFormed s) (commandJudged s input at cells tags) (used 0 (refused 1 s cells tags))
+unfoldable pub command_of : State → List ℕ → ℕ → List ℕ → List ℕ → Ran
+command_of s input at cells tags = pick (well_formed s) (command_judged s input at cells tags) (used 0 (refused 1 s cells tags))

@@ -8,9 +8,9 @@ use Rattle.calls.specs.declared.Call.TheVariants.{Take, TakeMasked}
 use Rattle.calls.specs.Commands.{bytes_of}
 use Rattle.words.specs.Words.{slot}
 use Rattle.machine.specs.State.{State}
-use Rattle.machine.specs.Formed.{wellFormed, answered, start_of}
-use Rattle.machine.specs.Step.{Outcome, outcomeWith, refused, step_of}
-use Rattle.machine.specs.Command.{used, commandOf}
+use Rattle.machine.specs.Formed.{well_formed, answered, start_of}
+use Rattle.machine.specs.Step.{Outcome, outcome_with, refused, step_of}
+use Rattle.machine.specs.Command.{used, command_of}
 
 -- "With number 0, tag 0 and every bit of state and memory kept": an answer other than 0 keeps the state, the lent cells and the lent tags.
 abbrev pub RefusedKeeps : Type 0
@@ -20,32 +20,32 @@ RefusedKeeps =
 
 -- Every call, granted or refused, keeps a well-formed state well formed; and a granted start is.
 abbrev pub StepKeeps : Type 0
-StepKeeps = (s : State) (c : Call) (cells tags : List ℕ) → wellFormed s ≡ true → wellFormed (step_of s c cells tags).answer.state ≡ true
+StepKeeps = (s : State) (c : Call) (cells tags : List ℕ) → well_formed s ≡ true → well_formed (step_of s c cells tags).answer.state ≡ true
 
 abbrev pub StartFormed : Type 0
-StartFormed = (v f : ℕ) → (start_of v f).code ≡ 0 → wellFormed (start_of v f).state ≡ true
+StartFormed = (v f : ℕ) → (start_of v f).code ≡ 0 → well_formed (start_of v f).state ≡ true
 
 -- An outcome with as many registers, mailboxes, cells and tags as were given.
 pub record Sized (s : State) (cells tags : List ℕ) (o : Outcome) : Type 0 where
-  pub of-registers : length o.answer.state.registers ≡ length s.registers
-  pub of-mailboxes : length o.answer.state.mailboxes ≡ length s.mailboxes
-  pub of-cells : length o.cells ≡ length cells
-  pub of-tags : length o.tags ≡ length tags
+  pub of_registers : length o.answer.state.registers ≡ length s.registers
+  pub of_mailboxes : length o.answer.state.mailboxes ≡ length s.mailboxes
+  pub of_cells : length o.cells ≡ length cells
+  pub of_tags : length o.tags ≡ length tags
 
 -- Every call, of every state and lent memory, keeps these numbers.
 abbrev pub StepSized : Type 0
 StepSized = (s : State) (c : Call) (cells tags : List ℕ) → Sized s cells tags (step_of s c cells tags)
 
 -- The bytes that a command of n bytes uses, by the code that is answered: "the command's length, or 0 under refusals 1 to 3".
-abbrev pub usedUnder : ℕ → ℕ → ℕ
-usedUnder code n = pick (eqb code 1 || eqb code 2) 0 n
+abbrev pub used_under : ℕ → ℕ → ℕ
+used_under code n = pick (eqb code 1 || eqb code 2) 0 n
 
 -- Whatever stands before and after it, a call that was written runs as that call.
 abbrev pub CommandWritten : Type 0
 CommandWritten =
     (s : State) (c : Call) (before rest cells tags : List ℕ)
-    → commandOf s (before ++ (bytes_of c ++ rest)) (length before) cells tags
-    ≡ used (usedUnder (step_of s c cells tags).answer.code (length (bytes_of c))) (step_of s c cells tags)
+    → command_of s (before ++ (bytes_of c ++ rest)) (length before) cells tags
+    ≡ used (used_under (step_of s c cells tags).answer.code (length (bytes_of c))) (step_of s c cells tags)
 
 -- Document 02, 2026-01. 01 is 11 with mask 3.
 abbrev pub PlainStep : Type 0
@@ -60,7 +60,7 @@ permitting p base r permissions o =
     let s = a.state in
     let registers = set s.registers (8 * p + r) (slot (capability base a.number permissions) true) in
     pick (eqb a.code 0)
-    (outcomeWith (answered 0 (slot a.number a.tag) (record { core = s.core; registers = registers; mailboxes = s.mailboxes })) o.cells o.tags) o
+    (outcome_with (answered 0 (slot a.number a.tag) (record { core = s.core; registers = registers; mailboxes = s.mailboxes })) o.cells o.tags) o
 
 -- 11 leaves what 01 leaves, but for the permissions in reg.
 abbrev pub MaskedStep : Type 0

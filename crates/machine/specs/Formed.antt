@@ -5,28 +5,28 @@ use Rattle.std.specs.Prelude.{ℕ, Bool, ◌&&◌, length, replicate, eqb}
 use Rattle.capabilities.specs.Lists.{pick, each}
 use Rattle.pages.specs.Layer.{in_range}
 use Rattle.table.specs.Rows.{live}
-use Rattle.table.specs.Tiling.{takersSound}
-use Rattle.reservations.specs.Revocation.{freshCore, coreSound}
-use Rattle.claims.specs.Sound.{claimsSound}
+use Rattle.table.specs.Tiling.{takers_sound}
+use Rattle.reservations.specs.Revocation.{fresh_core, core_sound}
+use Rattle.claims.specs.Sound.{claims_sound}
 use Rattle.words.specs.declared.Slot.{Slot}
-use Rattle.words.specs.Words.{empty, mailboxSound}
+use Rattle.words.specs.Words.{empty, mailbox_sound}
 use Rattle.machine.specs.State.{State}
 use Rattle.machine.specs.State.{Answered}
 
-unfoldable pub mailboxesSound : State → Bool
-mailboxesSound s = each mailboxSound 0 s.mailboxes
+unfoldable pub mailboxes_sound : State → Bool
+mailboxes_sound s = each mailbox_sound 0 s.mailboxes
 
 -- There are 64 registers and 8 mailboxes, as the struct's arrays have.
 abbrev pub sized : State → Bool
 sized s = eqb (length s.registers) 64 && eqb (length s.mailboxes) 8
 
 -- Document 01's lines and those of the claims, which ask for no taker.
-unfoldable pub formedBare : State → Bool
-formedBare s = ((coreSound s.core && mailboxesSound s) && sized s) && claimsSound s.core.pages.v s.core.claims
+unfoldable pub formed_bare : State → Bool
+formed_bare s = ((core_sound s.core && mailboxes_sound s) && sized s) && claims_sound s.core.pages.v s.core.claims
 
 -- "A state is not well formed if an Open one's taker isn't 9 or a Taken or Revoking one's is above 8."
-unfoldable pub wellFormed : State → Bool
-wellFormed s = formedBare s && takersSound (live s.core.table)
+unfoldable pub well_formed : State → Bool
+well_formed s = formed_bare s && takers_sound (live s.core.table)
 
 abbrev pub answered : ℕ → Slot → State → Answered
 answered code word s = record { code = code; number = word.cell; tag = word.tag; state = s }
@@ -34,7 +34,7 @@ answered code word s = record { code = code; number = word.cell; tag = word.tag;
 -- "A fresh start, given V and F, has one Open reservation held by party 0, pages Unmapped, frames Dirty, registers and
 -- mailboxes empty"; for V or F out of range all is 0.
 unfoldable pub fresh : ℕ → ℕ → State
-fresh v f = record { core = freshCore v f; registers = replicate 64 empty; mailboxes = replicate 8 empty }
+fresh v f = record { core = fresh_core v f; registers = replicate 64 empty; mailboxes = replicate 8 empty }
 
 -- Refusal 1: "a start names V or F out of range. .. A refused start hands back the all-zero state."
 unfoldable pub start_of : ℕ → ℕ → Answered

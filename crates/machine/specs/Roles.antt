@@ -8,10 +8,10 @@ use Rattle.calls.specs.declared.Call.TheVariants.{Take, Split, Merge, Give, Revo
 -- What a call reads besides the core and the mailboxes: registers of its caller, at most two, in the order of its operands; or a register
 -- and the word of lent memory at an offset of the capability in it.
 pub data Sources : Type 0 where
-  fromNone : Sources
-  fromOne : ℕ → Sources
-  fromTwo : ℕ → ℕ → Sources
-  fromCell : ℕ → ℕ → Sources
+  from_none : Sources
+  from_one : ℕ → Sources
+  from_two : ℕ → ℕ → Sources
+  from_cell : ℕ → ℕ → Sources
 
 -- What a call is, besides its caller: what it reads, and where what it moves goes. The registers named here are the caller's.
 pub data Role : Type 0 where
@@ -38,51 +38,51 @@ abbrev pub asked : ℕ → Role → Asked
 asked p role = record { caller = p; role = role }
 
 -- Document 02, 2026-01: 01, "take now gives permissions 3". 11 gives those that its mask permits.
-abbrev pub plainPermissions : ℕ
-plainPermissions = 3
+abbrev pub plain_permissions : ℕ
+plain_permissions = 3
 
-abbrev pub roleOf : Call → Asked
-roleOf (Take p base reg) = asked p (takes base reg plainPermissions)
-roleOf (Split p base len) = asked p plain
-roleOf (Merge p base) = asked p plain
-roleOf (Give p base to) = asked p plain
-roleOf (Revoke p base) = asked p plain
-roleOf (Sweep p n) = asked p plain
-roleOf (Collect p) = asked p collects
-roleOf (Map p page frame) = asked p plain
-roleOf (Unmap p page) = asked p plain
-roleOf (Zero p frame) = asked p plain
-roleOf (Load p a off d) = asked p (fills (fromCell a off) d)
-roleOf (Store p a off s) = asked p (stores a off s)
-roleOf (Narrow p s off len mask d) = asked p (fills (fromOne s) d)
-roleOf (Number p d value) = asked p (fills fromNone d)
-roleOf (Grant p s to) = asked p (grants s to)
-roleOf (Receive p d) = asked p (receives d)
-roleOf (TakeMasked p base reg mask) = asked p (takes base reg (permitted mask))
+abbrev pub role_of : Call → Asked
+role_of (Take p base reg) = asked p (takes base reg plain_permissions)
+role_of (Split p base len) = asked p plain
+role_of (Merge p base) = asked p plain
+role_of (Give p base to) = asked p plain
+role_of (Revoke p base) = asked p plain
+role_of (Sweep p n) = asked p plain
+role_of (Collect p) = asked p collects
+role_of (Map p page frame) = asked p plain
+role_of (Unmap p page) = asked p plain
+role_of (Zero p frame) = asked p plain
+role_of (Load p a off d) = asked p (fills (from_cell a off) d)
+role_of (Store p a off s) = asked p (stores a off s)
+role_of (Narrow p s off len mask d) = asked p (fills (from_one s) d)
+role_of (Number p d value) = asked p (fills from_none d)
+role_of (Grant p s to) = asked p (grants s to)
+role_of (Receive p d) = asked p (receives d)
+role_of (TakeMasked p base reg mask) = asked p (takes base reg (permitted mask))
 -- Document 02, 2026-02: "The privacy rule counts these as calls that agree."
-roleOf (Create p parent child limit holder) = asked p plain
-roleOf (Claim p principal page) = asked p plain
-roleOf (Release p principal page) = asked p plain
-roleOf (Destroy p principal) = asked p plain
+role_of (Create p parent child limit holder) = asked p plain
+role_of (Claim p principal page) = asked p plain
+role_of (Release p principal page) = asked p plain
+role_of (Destroy p principal) = asked p plain
 
 -- The party that makes a call.
-abbrev pub callerOf : Call → ℕ
-callerOf c = (roleOf c).caller
+abbrev pub caller_of : Call → ℕ
+caller_of c = (role_of c).caller
 
 -- A call is a take: by whom, of the reservation at which base, into which register, with which permissions.
 abbrev pub IsTake : Call → ℕ → ℕ → ℕ → ℕ → Type 0
-IsTake c p base reg permissions = roleOf c ≡ asked p (takes base reg permissions)
+IsTake c p base reg permissions = role_of c ≡ asked p (takes base reg permissions)
 
 -- A call is a collect, of this party.
 abbrev pub IsCollect : Call → ℕ → Type 0
-IsCollect c p = roleOf c ≡ asked p collects
+IsCollect c p = role_of c ≡ asked p collects
 
 -- "A call reads the registers that its operands name, save d and the reg of take." A load reads a cell too.
-abbrev pub sourcesOf : Role → Sources
-sourcesOf (takes base reg permissions) = fromNone
-sourcesOf collects = fromNone
-sourcesOf (fills from d) = from
-sourcesOf (stores a off s) = fromTwo a s
-sourcesOf (grants s to) = fromOne s
-sourcesOf (receives d) = fromNone
-sourcesOf plain = fromNone
+abbrev pub sources_of : Role → Sources
+sources_of (takes base reg permissions) = from_none
+sources_of collects = from_none
+sources_of (fills from d) = from
+sources_of (stores a off s) = from_two a s
+sources_of (grants s to) = from_one s
+sources_of (receives d) = from_none
+sources_of plain = from_none

@@ -9,14 +9,14 @@ use Rattle.calls.specs.declared.Call.TheVariants.{Create, Claim, Release, Destro
 use Rattle.words.specs.Words.{empty}
 use Rattle.machine.specs.State.{State}
 use Rattle.machine.specs.Formed.{answered}
-use Rattle.machine.specs.Step.{outcomeWith, step_of}
+use Rattle.machine.specs.Step.{outcome_with, step_of}
 
 -- If the first call is granted, the second, made right after it, is granted too, answers 0 0, and leaves state, cells and tags as they were
 -- before the first.
 abbrev pub Undone : State → List ℕ → List ℕ → Call → Call → Type 0
 Undone s cells tags first second =
     let o = step_of s first cells tags in
-    o.answer.code ≡ 0 → step_of o.answer.state second o.cells o.tags ≡ outcomeWith (answered 0 empty s) cells tags
+    o.answer.code ≡ 0 → step_of o.answer.state second o.cells o.tags ≡ outcome_with (answered 0 empty s) cells tags
 
 -- "13 claim .. counts one up, and the first count of a page spends 1. 14 release (the same) counts one down, and the last gives 1 back."
 abbrev pub ClaimReleased : Type 0

@@ -2,7 +2,7 @@
 -- the number of the question's variant. The slice for the list is not used after the call, so it goes there at its own lifetime.
 --     function         the MIR, for the variant with the number k
 --     clauses          the contract, for the question that `make` makes
---     hands-meets      the MIR meets the contract, where k is the number of the variants that `make` makes
+--     hands_meets      the MIR meets the contract, where k is the number of the variants that `make` makes
 use mathlib.Core.Path.{◌≡◌, refl}
 use Prim.Native.Nat.{ℕ, ◌<◌, ◌^◌}
 use mathlib.Core.List.{List, [], ◌∷◌}
@@ -45,7 +45,7 @@ use Rattle.table.specs.declared.Reservation.{Reservation}
 use Rattle.table.specs.contracts.Reservation as R
 use Rattle.maps.specs.declared.Question.{Question}
 use Rattle.maps.specs.declared.Answer.{Answer}
-use Rattle.maps.specs.Questions.{response, askOf}
+use Rattle.maps.specs.Questions.{response, ask_of}
 use Rattle.maps.specs.contracts.Question as Q
 use Rattle.maps.proofs.Question.TheLaws as Q'
 use Rattle.maps.specs.contracts.Answer as B
@@ -64,15 +64,15 @@ slice = slice_ty (ty_ref (named 0) imm (pointee (R.the_row).written))
 abbrev pointer : Ty
 pointer = ty_ref erased mut (ty_int w16)
 
-abbrev room-slice : Ty
-room-slice = slice_ty (ty_ref (named 1) mut (ty_int w16))
+abbrev room_slice : Ty
+room_slice = slice_ty (ty_ref (named 1) mut (ty_int w16))
 
-abbrev again-slice : Ty
-again-slice = slice_ty pointer
+abbrev again_slice : Ty
+again_slice = slice_ty pointer
 
 -- what a function of this shape promises
 abbrev pub clauses : (ℕ → ℕ → Question) → {M : Type 1} (𝓤 : Ura M) → Clauses 𝓤 sharing.ended
-clauses make 𝓤 κs a = record { ghost = Unit {0}; requires = λ _. emp 𝓤; ensures = λ _ r e. fact 𝓤 (response r e.1.1.1.0.now ≡ askOf a.0.now (make a.1.0 a.1.1.0) a.1.1.1.0.now) }
+clauses make 𝓤 κs a = record { ghost = Unit {0}; requires = λ _. emp 𝓤; ensures = λ _ r e. fact 𝓤 (response r e.1.1.1.0.now ≡ ask_of a.0.now (make a.1.0 a.1.1.0) a.1.1.1.0.now) }
 
 abbrev finish : Body
 finish = seq (call #ask (copy (place 1 []) ∷ copy (place 5 []) ∷ copy (place 7 []) ∷ []) (place 0 [])) return
@@ -88,7 +88,7 @@ function k = record {
   lifetimes = 2;
   outlives = [];
   params = 4;
-  locals = local B'.mir value_local ∷ local slice value_local ∷ local word value_local ∷ local word value_local ∷ local room-slice value_local ∷ local Q'.mir value_local ∷ local pointer value_local ∷ local again-slice value_local ∷ [];
+  locals = local B'.mir value_local ∷ local slice value_local ∷ local word value_local ∷ local word value_local ∷ local room_slice value_local ∷ local Q'.mir value_local ∷ local pointer value_local ∷ local again_slice value_local ∷ [];
   body = start k;
 }
 
@@ -148,7 +148,7 @@ module _ (k : ℕ) (small : Holds (ltb k (2 ^ 8))) (make : ℕ → ℕ → Quest
     abbrev Tokens : Item 𝓤
     Tokens = ‵ (flft κ q) ⊛ ‵ (flft κ' q') ⊛ ‵ ftrue
 
-    exits : (a : Answer) (u : Val) (bs : List ℕ) → length bs ≡ length cs → response a bs ≡ askOf ys qn cs → Is B.the_row a (u ∷ []) → ent 𝓤 (⋆ 𝓛 (Tokens ∷ ‵ (finally u16 γ' bs) ∷ ‵ Own ∷ [])) (Post u)
+    exits : (a : Answer) (u : Val) (bs : List ℕ) → length bs ≡ length cs → response a bs ≡ ask_of ys qn cs → Is B.the_row a (u ∷ []) → ent 𝓤 (⋆ 𝓛 (Tokens ∷ ‵ (finally u16 γ' bs) ∷ ‵ Own ∷ [])) (Post u)
     exits a u bs same e is =
         qed 𝓛 (Tokens ∷ ‵ (finally u16 γ' bs) ∷ ‵ Own ∷ []) ∵
         suffices ! _ (ends_at 𝓛 sharing.ended stayed (clauses make 𝓤) bound u a (tt, (tt, (tt, (bs, tt)))) (tt, (tt, (tt, (same, tt))))) $ says ! e $ frame ! $
@@ -175,11 +175,11 @@ module _ (k : ℕ) (small : Holds (ltb k (2 ^ 8))) (make : ℕ → ℕ → Quest
         Λ = 𝓣.Λ
 
         abbrev En : Env 𝓤 H
-        En = (B'.mir, l₀) ∷ (slice, l₁) ∷ (word, l₂) ∷ (word, l₃) ∷ (room-slice, l₄) ∷ (Q'.mir, l₅) ∷ (pointer, l₆) ∷ (again-slice, l₇) ∷ []
+        En = (B'.mir, l₀) ∷ (slice, l₁) ∷ (word, l₂) ∷ (word, l₃) ∷ (room_slice, l₄) ∷ (Q'.mir, l₅) ∷ (pointer, l₆) ∷ (again_slice, l₇) ∷ []
 
         abbrev Start : List (Item 𝓤)
         Start = Tokens ∷ ‵ Own ∷ ‵ Bases ∷ ‵ Own
-            ∷ ‵ (froom again-slice l₇ 0) ∷ ‵ (fdies again-slice l₇) ∷ ‵ (froom pointer l₆ 0) ∷ ‵ (fdies pointer l₆) ∷ ‵ (froom Q'.mir l₅ 0) ∷ ‵ (fdies Q'.mir l₅) ∷ ‵ (fat full_share room-slice l₄ 0 (v')) ∷ ‵ (fdies room-slice l₄)
+            ∷ ‵ (froom again_slice l₇ 0) ∷ ‵ (fdies again_slice l₇) ∷ ‵ (froom pointer l₆ 0) ∷ ‵ (fdies pointer l₆) ∷ ‵ (froom Q'.mir l₅ 0) ∷ ‵ (fdies Q'.mir l₅) ∷ ‵ (fat full_share room_slice l₄ 0 (v')) ∷ ‵ (fdies room_slice l₄)
             ∷ ‵ (fat full_share word l₃ 0 (vint w64 cells)) ∷ ‵ (fdies word l₃) ∷ ‵ (fat full_share word l₂ 0 (vint w64 first)) ∷ ‵ (fdies word l₂) ∷ ‵ (fat full_share slice l₁ 0 (v)) ∷ ‵ (fdies slice l₁) ∷ ‵ (froom B'.mir l₀ 0) ∷ ‵ (fdies B'.mir l₀) ∷ []
 
         starts : Sq 𝓛 Start (runs C Λ En (start k) (at_ret En Post))
@@ -192,8 +192,8 @@ module _ (k : ℕ) (small : Holds (ltb k (2 ^ 8))) (make : ℕ → ℕ → Quest
             calls_at ! (fm_of 𝓤 H 𝓛.laws 𝓣) (Ask 𝓛 mem run) known to
             (and_then ! (load ! (from ! (stop !)) (look ! 14 refl)) (and_then ! (load ! (from ! (stop !)) (look ! 6 refl)) (and_then ! (load ! (from ! (stop !)) (look ! 2 refl)) (no_more !)))) (λ u.
             use1 𝓛 (later (some (λ (a : Answer). (Tokens ⊛ ‵ ((B.the_row).own_val a (u ∷ []))) ⊛ raw (ensured 𝓛 ask.ended (ask.clauses 𝓛 mem run) (κ, (κ', tt)) given_to tt a)))) (id⊢ 𝓤 _) $ await ! tt $ pick ! (λ a.
-            split ! $ move ! (1 ∷ []) $ use1 𝓛 (some (λ (ws : Ends). ‵ (lasts ask.ended (κ, (κ', tt)) given_to ws) ⊛ raw (fact 𝓤 (response a ws.1.1.0 ≡ askOf ys qn cs)))) (id⊢ 𝓤 _) $ pick ! (λ ws.
-            split ! $ move ! (1 ∷ []) $ heard ! (response a ws.1.1.0 ≡ askOf ys qn cs) (λ e.
+            split ! $ move ! (1 ∷ []) $ use1 𝓛 (some (λ (ws : Ends). ‵ (lasts ask.ended (κ, (κ', tt)) given_to ws) ⊛ raw (fact 𝓤 (response a ws.1.1.0 ≡ ask_of ys qn cs)))) (id⊢ 𝓤 _) $ pick ! (λ ws.
+            split ! $ move ! (1 ∷ []) $ heard ! (response a ws.1.1.0 ≡ ask_of ys qn cs) (λ e.
             -- [what is said of the last values; the tokens and the result; what the records own; the locals]
             fsplit ! $ drop ! $ fsplit ! $ drop ! $ fsplit ! $ fsplit ! $ move ! (1 ∷ []) $ feq_l ! (λ same. move ! (1 ∷ []) $ drop ! $ move ! (1 ∷ []) $ split ! $ move ! (1 ∷ []) $
             facts ! B.the_row (Is B.the_row) (shows 𝓛 B.the_row) a (u ∷ []) (λ is.
@@ -218,13 +218,13 @@ module _ (k : ℕ) (small : Holds (ltb k (2 ^ 8))) (make : ℕ → ℕ → Quest
   module _ {M : Type 1} {𝓤 : Ura M} (𝓛 : Logic 𝓤) (mem : Memory → SProp 𝓤) (run : Routine → Fun 𝓤) (𝓣 : Tables 𝓤 𝓛.H) (known : Triple 𝓤 (𝓣.C #ask) (Ask 𝓛 mem run)) where
     open 𝓛 use {H}
 
-    hands-walks : Walks 𝓛 sharing.ended stayed (WpFn 𝓤 H 𝓣.C 𝓣.Λ (function k)) (clauses make 𝓤)
-    hands-walks = walked 𝓛 sharing.ended stayed (clauses make 𝓤) (WpFn 𝓤 H 𝓣.C 𝓣.Λ (function k))
+    hands_walks : Walks 𝓛 sharing.ended stayed (WpFn 𝓤 H 𝓣.C 𝓣.Λ (function k)) (clauses make 𝓤)
+    hands_walks = walked 𝓛 sharing.ended stayed (clauses make 𝓤) (WpFn 𝓤 H 𝓣.C 𝓣.Λ (function k))
         (λ κs. (shr_slice_vals, (uint_vals w64, (uint_vals w64, (mut_slice_vals, tt))))) (λ κs. (shr_slice_Tells (named 0) κs.0 R.the_row, (uint_Tells w64, (uint_Tells w64, (mut_slice_Tells (named 1) κs.1.0 u16, tt)))))
         (λ κs qs bounds a g are. via 𝓤 _ (fst∗ 𝓤 _ (emp 𝓤)) (walk 𝓛 mem run κs.0 κs.1.0 qs.0 qs.1.0 a.0.ref_ptr.0 a.0.ref_ptr.1 a.0.ghost_name a.0.now a.1.0 a.1.1.0 are.1.0.1 are.1.1.0.1
         a.1.1.1.0.ref_ptr.0 a.1.1.1.0.ref_ptr.1 a.1.1.1.0.ghost_name a.1.1.1.0.now 𝓣 known are.0 are.1.1.1.0))
 
-    pub hands-meets : Meets 𝓛 sharing.signature (WpFn 𝓤 H 𝓣.C 𝓣.Λ (function k)) (closing 𝓛 sharing.ended (clauses make 𝓤))
-    hands-meets = walk_Meets 𝓛 sharing.ended stayed
+    pub hands_meets : Meets 𝓛 sharing.signature (WpFn 𝓤 H 𝓣.C 𝓣.Λ (function k)) (closing 𝓛 sharing.ended (clauses make 𝓤))
+    hands_meets = walk_Meets 𝓛 sharing.ended stayed
         (Goes-none_slice 𝓛 2 (0 ∷ []) tt (plain (λ _. R.the_row)) yes, (Goes-none 𝓛 2 (λ _. u64) yes (λ κs x f. refl), (Goes-none 𝓛 2 (λ _. u64) yes (λ κs x f. refl), (Goes-gave_slice 𝓛 2 1 tt (plain (λ _. u16)), tt))))
-        (clauses make 𝓤) (WpFn 𝓤 H 𝓣.C 𝓣.Λ (function k)) (WpFn-mono 𝓤 H 𝓛.laws 𝓣 (function k)) hands-walks
+        (clauses make 𝓤) (WpFn 𝓤 H 𝓣.C 𝓣.Λ (function k)) (WpFn-mono 𝓤 H 𝓛.laws 𝓣 (function k)) hands_walks

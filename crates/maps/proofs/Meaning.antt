@@ -9,62 +9,62 @@ use borrow.Author.Tests.{leb-true, leb-false, ltb-true, ltb-false, le-leb, lt-lt
 use Rattle.capabilities.specs.declared.Range.{Range}
 use Rattle.capabilities.specs.Range.{inside}
 use Rattle.capabilities.proofs.Choice.{and_left, and_right, both}
-use Rattle.table.proofs.Cells.{inside-bounds, inside-made}
+use Rattle.table.proofs.Cells.{inside_bounds, inside_made}
 use Rattle.maps.specs.Cells.{shares, within, distance}
 use Rattle.maps.specs.Promises.{Common, SharesMeans, WithinMeans, apart, DistanceMeans}
 
 -- ---- Sharing
 module _ (p q : Range) where
-  shares-bounds : shares p q ≡ true → (q.base < p.base + p.length) × (p.base < q.base + q.length)
+  shares_bounds : shares p q ≡ true → (q.base < p.base + p.length) × (p.base < q.base + q.length)
   unfolding shares
-  shares-bounds e = (
+  shares_bounds e = (
     ltb-true q.base (p.base + p.length) (and_left (ltb q.base (p.base + p.length)) (ltb p.base (q.base + q.length)) e),
     ltb-true p.base (q.base + q.length) (and_right (ltb q.base (p.base + p.length)) (ltb p.base (q.base + q.length)) e),
   )
 
-  shares-made : q.base < p.base + p.length → p.base < q.base + q.length → shares p q ≡ true
+  shares_made : q.base < p.base + p.length → p.base < q.base + q.length → shares p q ≡ true
   unfolding shares
-  shares-made a b =
+  shares_made a b =
       both (ltb q.base (p.base + p.length)) (ltb p.base (q.base + q.length)) (lt-ltb q.base (p.base + p.length) a) (lt-ltb p.base (q.base + q.length) b)
 
-  higher-base : (b : Bool) → leb p.base q.base ≡ b → 0 < p.length → 0 < q.length → shares p q ≡ true → Common p q
-  higher-base true h s t e =
-      let g = shares-bounds e in
-      (q.base, (inside-made p q.base (leb-true p.base q.base h) g.0, inside-made q q.base (omega arith) (omega (arith, t))))
-  higher-base false h s t e =
-      let g = shares-bounds e in
-      (p.base, (inside-made p p.base (omega arith) (omega (arith, s)), inside-made q p.base (let k = leb-false p.base q.base h in omega (arith, k)) g.1))
+  higher_base : (b : Bool) → leb p.base q.base ≡ b → 0 < p.length → 0 < q.length → shares p q ≡ true → Common p q
+  higher_base true h s t e =
+      let g = shares_bounds e in
+      (q.base, (inside_made p q.base (leb-true p.base q.base h) g.0, inside_made q q.base (omega arith) (omega (arith, t))))
+  higher_base false h s t e =
+      let g = shares_bounds e in
+      (p.base, (inside_made p p.base (omega arith) (omega (arith, s)), inside_made q p.base (let k = leb-false p.base q.base h in omega (arith, k)) g.1))
 
-  common-shares : Common p q → shares p q ≡ true
-  common-shares (c, (i, j)) =
-      let a = inside-bounds p c i in
-      let b = inside-bounds q c j in
-      shares-made (omega (arith, a, b)) (omega (arith, a, b))
+  common_shares : Common p q → shares p q ≡ true
+  common_shares (c, (i, j)) =
+      let a = inside_bounds p c i in
+      let b = inside_bounds q c j in
+      shares_made (omega (arith, a, b)) (omega (arith, a, b))
 
-pub shares-means : SharesMeans
-shares-means p q s t = (higher-base p q (leb p.base q.base) refl s t, common-shares p q)
+pub shares_means : SharesMeans
+shares_means p q s t = (higher_base p q (leb p.base q.base) refl s t, common_shares p q)
 
 -- ---- Lying within
 module _ (p q : Range) where
-  within-cells : within p q ≡ true → (c : ℕ) → inside p c ≡ true → inside q c ≡ true
+  within_cells : within p q ≡ true → (c : ℕ) → inside p c ≡ true → inside q c ≡ true
   unfolding within
-  within-cells e c i =
+  within_cells e c i =
       let a = leb-true q.base p.base (and_left (leb q.base p.base) (leb (p.base + p.length) (q.base + q.length)) e) in
       let b = leb-true (p.base + p.length) (q.base + q.length) (and_right (leb q.base p.base) (leb (p.base + p.length) (q.base + q.length)) e) in
-      let k = inside-bounds p c i in
-      inside-made q c (omega (arith, a, k)) (omega (arith, b, k))
+      let k = inside_bounds p c i in
+      inside_made q c (omega (arith, a, k)) (omega (arith, b, k))
 
-  cells-within : 0 < p.length → ((c : ℕ) → inside p c ≡ true → inside q c ≡ true) → within p q ≡ true
+  cells_within : 0 < p.length → ((c : ℕ) → inside p c ≡ true → inside q c ≡ true) → within p q ≡ true
   unfolding within
-  cells-within s h =
+  cells_within s h =
       let last = p.base + p.length - 1 in
-      let a = inside-bounds q p.base (h p.base (inside-made p p.base (omega arith) (omega (arith, s)))) in
-      let b = inside-bounds q last (h last (inside-made p last (omega (arith, s)) (omega (arith, s)))) in
+      let a = inside_bounds q p.base (h p.base (inside_made p p.base (omega arith) (omega (arith, s)))) in
+      let b = inside_bounds q last (h last (inside_made p last (omega (arith, s)) (omega (arith, s)))) in
       both (leb q.base p.base) (leb (p.base + p.length) (q.base + q.length)) (le-leb q.base p.base a.0)
       (le-leb (p.base + p.length) (q.base + q.length) (omega (arith, b, s)))
 
-pub within-means : WithinMeans
-within-means p q s = (within-cells p q, cells-within p q s)
+pub within_means : WithinMeans
+within_means p q s = (within_cells p q, cells_within p q s)
 
 -- ---- Distance
 abbrev Closest : ℕ → Range → Type 0
@@ -72,22 +72,22 @@ Closest c p = (d : ℕ) × ((inside p d ≡ true) × (apart c d ≡ distance c p
 
 module _ (c : ℕ) (p : Range) (s : 0 < p.length) where
   -- From the base on the closest cell is the cell itself, or the last one.
-  above-base : p.base ≤ c → (b : Bool) → ltb c (p.base + p.length) ≡ b → Closest c p
+  above_base : p.base ≤ c → (b : Bool) → ltb c (p.base + p.length) ≡ b → Closest c p
   unfolding distance
-  above-base h true e = let k = ltb-true c (p.base + p.length) e in (c, (inside-made p c h k, omega (arith, h, k)))
-  above-base h false e =
+  above_base h true e = let k = ltb-true c (p.base + p.length) e in (c, (inside_made p c h k, omega (arith, h, k)))
+  above_base h false e =
       let k = ltb-false c (p.base + p.length) e in
       let last = p.base + p.length - 1 in
-      (last, (inside-made p last (omega (arith, s)) (omega (arith, s)), omega (arith, h, k, s)))
+      (last, (inside_made p last (omega (arith, s)) (omega (arith, s)), omega (arith, h, k, s)))
 
   closest : (b : Bool) → leb p.base c ≡ b → Closest c p
   unfolding distance
-  closest true e = above-base (leb-true p.base c e) (ltb c (p.base + p.length)) refl
-  closest false e = let k = leb-false p.base c e in (p.base, (inside-made p p.base (omega arith) (omega (arith, s)), omega (arith, k, s)))
+  closest true e = above_base (leb-true p.base c e) (ltb c (p.base + p.length)) refl
+  closest false e = let k = leb-false p.base c e in (p.base, (inside_made p p.base (omega arith) (omega (arith, s)), omega (arith, k, s)))
 
-  no-closer : (d : ℕ) → inside p d ≡ true → distance c p ≤ apart c d
+  no_closer : (d : ℕ) → inside p d ≡ true → distance c p ≤ apart c d
   unfolding distance
-  no-closer d i = let k = inside-bounds p d i in omega (arith, k)
+  no_closer d i = let k = inside_bounds p d i in omega (arith, k)
 
-pub distance-means : DistanceMeans
-distance-means c p s = (closest c p s (leb p.base c) refl, no-closer c p s)
+pub distance_means : DistanceMeans
+distance_means c p s = (closest c p s (leb p.base c) refl, no_closer c p s)

@@ -7,39 +7,39 @@ use lib.ListN.{length, get_or, take, drop, length-map, get_or-map}
 use lib.Dec.{ltb}
 use Rattle.table.specs.declared.Reservation.{Reservation}
 use Rattle.table.specs.Rows.{blank}
-use Rattle.table.specs.Numbers.{stateFrom, rowFrom}
+use Rattle.table.specs.Numbers.{state_from, row_from}
 use Rattle.maps.specs.declared.Question.{Question}
 use Rattle.maps.specs.declared.Seen.{Seen}
-use Rattle.maps.specs.Walks.{seenWith, seenOver, Listing, listWith, listOver}
-use Rattle.maps.proofs.Turning.{seen-turn, seen_all, list-turn, list_all}
+use Rattle.maps.specs.Walks.{seen_with, seen_over, Listing, list_with, list_over}
+use Rattle.maps.proofs.Turning.{seen_turn, seen_all, list_turn, list_all}
 
-zero_row : blank ≡ rowFrom 0
-unfolding rowFrom stateFrom
+zero_row : blank ≡ row_from 0
+unfolding row_from state_from
 zero_row = refl
 
 module _ (q : Question) (rows : List ℕ) where
   abbrev records : List Reservation
-  records = map rowFrom rows
+  records = map row_from rows
 
   -- What the number at i reads as is the record there.
-  read-there : (i : ℕ) (r : Reservation) → r ≡ rowFrom (get_or rows i 0) → r ≡ get_or records i blank
-  read-there i r e = e ∙ sym (ap (get_or records i) zero_row ∙ get_or-map rowFrom rows i 0)
+  read_there : (i : ℕ) (r : Reservation) → r ≡ row_from (get_or rows i 0) → r ≡ get_or records i blank
+  read_there i r e = e ∙ sym (ap (get_or records i) zero_row ∙ get_or-map row_from rows i 0)
 
   as_many : length rows ≡ length records
-  as_many = sym (length-map rows rowFrom)
+  as_many = sym (length-map rows row_from)
 
-  pub seen-number : (s s' total : Seen) (i : ℕ) (r : Reservation) → i < length rows → seenOver q s (drop i records) ≡ total → r ≡ rowFrom (get_or rows i 0)
-      → s' ≡ seenWith q s r.base r.length r.state → seenOver q s' (drop (i + 1) records) ≡ total
-  seen-number s s' total i r l e read step =
-      seen-turn q records s s' total i (subst (λ (n : ℕ). i < n) as_many l) e (step ∙ ap (λ (x : Reservation). seenWith q s x.base x.length x.state) (read-there i r read))
+  pub seen_number : (s s' total : Seen) (i : ℕ) (r : Reservation) → i < length rows → seen_over q s (drop i records) ≡ total → r ≡ row_from (get_or rows i 0)
+      → s' ≡ seen_with q s r.base r.length r.state → seen_over q s' (drop (i + 1) records) ≡ total
+  seen_number s s' total i r l e read step =
+      seen_turn q records s s' total i (subst (λ (n : ℕ). i < n) as_many l) e (step ∙ ap (λ (x : Reservation). seen_with q s x.base x.length x.state) (read_there i r read))
 
-  pub seen-numbers : (s total : Seen) (i : ℕ) → length rows ≤ i → seenOver q s (drop i records) ≡ total → s ≡ total
-  seen-numbers s total i l e = seen_all q records s total i (subst (λ (n : ℕ). n ≤ i) as_many l) e
+  pub seen_numbers : (s total : Seen) (i : ℕ) → length rows ≤ i → seen_over q s (drop i records) ≡ total → s ≡ total
+  seen_numbers s total i l e = seen_all q records s total i (subst (λ (n : ℕ). n ≤ i) as_many l) e
 
-  pub list-number : (upto : ℕ) (s s' total : Listing) (i : ℕ) (r : Reservation) → (i < upto) × (i < length rows) → listOver q s (drop i (take upto records)) ≡ total → r ≡ rowFrom (get_or rows i 0)
-      → s' ≡ listWith q s r.base r.length → listOver q s' (drop (i + 1) (take upto records)) ≡ total
-  list-number upto s s' total i r there e read step =
-      list-turn q records upto s s' total i (subst (λ (n : ℕ). (i < upto) × (i < n)) as_many there) e (step ∙ ap (λ (x : Reservation). listWith q s x.base x.length) (read-there i r read))
+  pub list_number : (upto : ℕ) (s s' total : Listing) (i : ℕ) (r : Reservation) → (i < upto) × (i < length rows) → list_over q s (drop i (take upto records)) ≡ total → r ≡ row_from (get_or rows i 0)
+      → s' ≡ list_with q s r.base r.length → list_over q s' (drop (i + 1) (take upto records)) ≡ total
+  list_number upto s s' total i r there e read step =
+      list_turn q records upto s s' total i (subst (λ (n : ℕ). (i < upto) × (i < n)) as_many there) e (step ∙ ap (λ (x : Reservation). list_with q s x.base x.length) (read_there i r read))
 
-  pub list-numbers : (upto : ℕ) (s total : Listing) (i : ℕ) → ltb i upto && ltb i (length rows) ≡ false → listOver q s (drop i (take upto records)) ≡ total → s ≡ total
-  list-numbers upto s total i none e = list_all q records upto s total i (subst (λ (n : ℕ). ltb i upto && ltb i n ≡ false) as_many none) e
+  pub list_numbers : (upto : ℕ) (s total : Listing) (i : ℕ) → ltb i upto && ltb i (length rows) ≡ false → list_over q s (drop i (take upto records)) ≡ total → s ≡ total
+  list_numbers upto s total i none e = list_all q records upto s total i (subst (λ (n : ℕ). ltb i upto && ltb i n ≡ false) as_many none) e

@@ -14,18 +14,18 @@ use Rattle.table.specs.declared.Reservation.{Reservation}
 use Rattle.table.specs.Rows.{blank}
 use Rattle.maps.specs.declared.Question.{Question}
 use Rattle.maps.specs.declared.Seen.{Seen}
-use Rattle.maps.specs.Walks.{seenWith, seenOver, Listing, listWith, listOver}
+use Rattle.maps.specs.Walks.{seen_with, seen_over, Listing, list_with, list_over}
 
 -- The record at i, and those behind it.
-from-there : (ys : List Reservation) (i : ℕ) → i < length ys → drop i ys ≡ get_or ys i blank ∷ drop (i + 1) ys
-from-there ys i l = drop-cons ys i blank l ∙ ap (λ (k : ℕ). get_or ys i blank ∷ drop k ys) (sym (add-suc i 0 ∙ ap suc (add-zero i)))
+from_there : (ys : List Reservation) (i : ℕ) → i < length ys → drop i ys ≡ get_or ys i blank ∷ drop (i + 1) ys
+from_there ys i l = drop-cons ys i blank l ∙ ap (λ (k : ℕ). get_or ys i blank ∷ drop k ys) (sym (add-suc i 0 ∙ ap suc (add-zero i)))
 
 -- The test of the walk for a list: one of as many as are named, and one that is there.
-pub is-there : (i upto n : ℕ) → ltb i upto && ltb i n ≡ true → (i < upto) × (i < n)
-is-there i upto n e = (ltb-true i upto (and_left (ltb i upto) (ltb i n) e), ltb-true i n (and_right (ltb i upto) (ltb i n) e))
+pub is_there : (i upto n : ℕ) → ltb i upto && ltb i n ≡ true → (i < upto) × (i < n)
+is_there i upto n e = (ltb-true i upto (and_left (ltb i upto) (ltb i n) e), ltb-true i n (and_right (ltb i upto) (ltb i n) e))
 
-none-there : (ys : List Reservation) (i upto : ℕ) → ltb i upto && ltb i (length ys) ≡ false → length (take upto ys) ≤ i
-none-there ys i upto e = go (ltb i upto) refl e
+none_there : (ys : List Reservation) (i upto : ℕ) → ltb i upto && ltb i (length ys) ≡ false → length (take upto ys) ≤ i
+none_there ys i upto e = go (ltb i upto) refl e
   where
     go : (t : Bool) → ltb i upto ≡ t → t && ltb i (length ys) ≡ false → length (take upto ys) ≤ i
     go true t f = let h = ltb-false i (length ys) f in omega (arith, h, length-take upto ys)
@@ -33,25 +33,25 @@ none-there ys i upto e = go (ltb i upto) refl e
 
 module _ (q : Question) (ys : List Reservation) where
   -- One record more is seen.
-  pub seen-turn : (s s' total : Seen) (i : ℕ) → i < length ys → seenOver q s (drop i ys) ≡ total
-      → s' ≡ seenWith q s (get_or ys i blank).base (get_or ys i blank).length (get_or ys i blank).state → seenOver q s' (drop (i + 1) ys) ≡ total
-  unfolding seenOver
-  seen-turn s s' total i l e step =
-      ap (λ (t : Seen). seenOver q t (drop (i + 1) ys)) step ∙ sym (ap (seenOver q s) (from-there ys i l)) ∙ e
+  pub seen_turn : (s s' total : Seen) (i : ℕ) → i < length ys → seen_over q s (drop i ys) ≡ total
+      → s' ≡ seen_with q s (get_or ys i blank).base (get_or ys i blank).length (get_or ys i blank).state → seen_over q s' (drop (i + 1) ys) ≡ total
+  unfolding seen_over
+  seen_turn s s' total i l e step =
+      ap (λ (t : Seen). seen_over q t (drop (i + 1) ys)) step ∙ sym (ap (seen_over q s) (from_there ys i l)) ∙ e
 
   -- None is left.
-  pub seen_all : (s total : Seen) (i : ℕ) → length ys ≤ i → seenOver q s (drop i ys) ≡ total → s ≡ total
-  unfolding seenOver
-  seen_all s total i l e = sym (ap (seenOver q s) (drop_of_length-le ys l)) ∙ e
+  pub seen_all : (s total : Seen) (i : ℕ) → length ys ≤ i → seen_over q s (drop i ys) ≡ total → s ≡ total
+  unfolding seen_over
+  seen_all s total i l e = sym (ap (seen_over q s) (drop_of_length-le ys l)) ∙ e
 
   -- One record more is listed from, of as many as are named.
-  pub list-turn : (upto : ℕ) (s s' total : Listing) (i : ℕ) → (i < upto) × (i < length ys) → listOver q s (drop i (take upto ys)) ≡ total
-      → s' ≡ listWith q s (get_or ys i blank).base (get_or ys i blank).length → listOver q s' (drop (i + 1) (take upto ys)) ≡ total
-  unfolding listOver
-  list-turn upto s s' total i there e step =
-      ap (λ (t : Listing). listOver q t (drop (i + 1) (take upto ys))) (step ∙ ap (λ (r : Reservation). listWith q s r.base r.length) (sym (get_or-take upto ys i blank there.0)))
-      ∙ sym (ap (listOver q s) (from-there (take upto ys) i (let low = there.0 in let high = there.1 in omega (arith, low, high, length-take upto ys)))) ∙ e
+  pub list_turn : (upto : ℕ) (s s' total : Listing) (i : ℕ) → (i < upto) × (i < length ys) → list_over q s (drop i (take upto ys)) ≡ total
+      → s' ≡ list_with q s (get_or ys i blank).base (get_or ys i blank).length → list_over q s' (drop (i + 1) (take upto ys)) ≡ total
+  unfolding list_over
+  list_turn upto s s' total i there e step =
+      ap (λ (t : Listing). list_over q t (drop (i + 1) (take upto ys))) (step ∙ ap (λ (r : Reservation). list_with q s r.base r.length) (sym (get_or-take upto ys i blank there.0)))
+      ∙ sym (ap (list_over q s) (from_there (take upto ys) i (let low = there.0 in let high = there.1 in omega (arith, low, high, length-take upto ys)))) ∙ e
 
-  pub list_all : (upto : ℕ) (s total : Listing) (i : ℕ) → ltb i upto && ltb i (length ys) ≡ false → listOver q s (drop i (take upto ys)) ≡ total → s ≡ total
-  unfolding listOver
-  list_all upto s total i none e = sym (ap (listOver q s) (drop_of_length-le (take upto ys) (none-there ys i upto none))) ∙ e
+  pub list_all : (upto : ℕ) (s total : Listing) (i : ℕ) → ltb i upto && ltb i (length ys) ≡ false → list_over q s (drop i (take upto ys)) ≡ total → s ≡ total
+  unfolding list_over
+  list_all upto s total i none e = sym (ap (list_over q s) (drop_of_length-le (take upto ys) (none_there ys i upto none))) ∙ e

@@ -6,12 +6,12 @@ use Rattle.capabilities.specs.Range.{inside}
 use Rattle.table.specs.declared.Reservation.{Reservation}
 use Rattle.table.specs.Rows.{range_of, live}
 use Rattle.reservations.specs.Core.{Core}
-use Rattle.reservations.specs.Revocation.{coreSound}
+use Rattle.reservations.specs.Revocation.{core_sound}
 use Rattle.maps.specs.declared.Question.{Question}
 use Rattle.maps.specs.declared.Question.TheVariants.{Nearest}
 use Rattle.maps.specs.Cells.{shares, within, distance}
-use Rattle.maps.specs.Records.{tileFrom, badRecords}
-use Rattle.maps.specs.Questions.{isListed, basesOf, candidate, answer, askOf}
+use Rattle.maps.specs.Records.{tile_from, bad_records}
+use Rattle.maps.specs.Questions.{is_listed, bases_of, candidate, answer, ask_of}
 
 -- ---- What the tests say of cells
 
@@ -41,19 +41,19 @@ DistanceMeans = (c : ℕ) (p : Range) → 0 < p.length
 
 -- "In rising base", of records that tile: no base stands there twice.
 abbrev pub ListRises : Type 0
-ListRises = (q : Question) (l : List Reservation) → tileFrom 0 l ≡ true → Ordered ◌<◌ (basesOf q l)
+ListRises = (q : Question) (l : List Reservation) → tile_from 0 l ≡ true → Ordered ◌<◌ (bases_of q l)
 
 -- Complete: a record that passes has its base in the list.
 abbrev pub ListComplete : Type 0
-ListComplete = (q : Question) (l : List Reservation) (r : Reservation) → In r l → isListed q (range_of r) ≡ true → In r.base (basesOf q l)
+ListComplete = (q : Question) (l : List Reservation) (r : Reservation) → In r l → is_listed q (range_of r) ≡ true → In r.base (bases_of q l)
 
 -- And nothing else: each base in the list is that of a record that passes,
 abbrev pub ListSound : Type 0
-ListSound = (q : Question) (l : List Reservation) (b : ℕ) → In b (basesOf q l) → (r : Reservation) × (In r l × ((r.base ≡ b) × (isListed q (range_of r) ≡ true)))
+ListSound = (q : Question) (l : List Reservation) (b : ℕ) → In b (bases_of q l) → (r : Reservation) × (In r l × ((r.base ≡ b) × (is_listed q (range_of r) ≡ true)))
 
 -- and where the records tile a record that does not pass has its base in no list.
 abbrev pub OthersLeftOut : Type 0
-OthersLeftOut = (q : Question) (l : List Reservation) (r : Reservation) → tileFrom 0 l ≡ true → In r l → isListed q (range_of r) ≡ false → In r.base (basesOf q l) → ⊥
+OthersLeftOut = (q : Question) (l : List Reservation) (r : Reservation) → tile_from 0 l ≡ true → In r l → is_listed q (range_of r) ≡ false → In r.base (bases_of q l) → ⊥
 
 -- ---- The nearest
 
@@ -64,15 +64,15 @@ NoFarther c r q =
 
 -- The base answered is that of an Open record of at least n cells, which is no farther than any other such record.
 abbrev pub NearestIsLeast : Type 0
-NearestIsLeast = (l : List Reservation) (c n b : ℕ) (bases : List ℕ) → (askOf l (Nearest c n) bases).answer ≡ answer 0 1 b
+NearestIsLeast = (l : List Reservation) (c n b : ℕ) (bases : List ℕ) → (ask_of l (Nearest c n) bases).answer ≡ answer 0 1 b
     → (r : Reservation) × (In r l × ((candidate n r ≡ true) × ((r.base ≡ b) × ((q : Reservation) → In q l → candidate n q ≡ true → NoFarther c r q))))
 
 -- "None is answered only if no Open one has n cells."
 abbrev pub NoneOnlyIfNone : Type 0
-NoneOnlyIfNone = (l : List Reservation) (c n : ℕ) (bases : List ℕ) → (askOf l (Nearest c n) bases).answer ≡ answer 0 0 0 → (r : Reservation) → In r l → candidate n r ≡ false
+NoneOnlyIfNone = (l : List Reservation) (c n : ℕ) (bases : List ℕ) → (ask_of l (Nearest c n) bases).answer ≡ answer 0 0 0 → (r : Reservation) → In r l → candidate n r ≡ false
 
 -- ---- The machine's own table
 
 -- 25 never comes for the records of a well-formed core: whether it comes is the question's part alone.
 abbrev pub OwnTableNever : Type 0
-OwnTableNever = (core : Core) → coreSound core ≡ true → badRecords (live core.table) ≡ false
+OwnTableNever = (core : Core) → core_sound core ≡ true → bad_records (live core.table) ≡ false

@@ -2,27 +2,27 @@
 use Rattle.std.specs.Prelude.{ℕ, Bool, false, ◌&&◌, ◌||◌, List, [], ◌∷◌, ◌++◌, map, length, drop, leb, ltb, eqb}
 use Rattle.capabilities.specs.Lists.{pick, filter}
 use Rattle.capabilities.specs.declared.Range.{Range}
-use Rattle.table.specs.Rows.{isOpen, range_of}
+use Rattle.table.specs.Rows.{is_open, range_of}
 use Rattle.table.specs.declared.Reservation.{Reservation}
 use Rattle.maps.specs.declared.Question.{Question}
 use Rattle.maps.specs.declared.Question.TheVariants.{Sharing, Within, Nearest}
 use Rattle.maps.specs.declared.Answer.{Answer}
 use Rattle.maps.specs.Cells.{span, shares, within, distance, beyond}
-use Rattle.maps.specs.Records.{cells_of, badRecords}
+use Rattle.maps.specs.Records.{cells_of, bad_records}
 
 -- "List those sharing cells with a cell range and those within it". Nearest lists none.
-unfoldable pub isListed : Question → Range → Bool
-isListed (Sharing first cells) p = shares p (span first cells)
-isListed (Within first cells) p = within p (span first cells)
-isListed (Nearest cell cells) p = false
+unfoldable pub is_listed : Question → Range → Bool
+is_listed (Sharing first cells) p = shares p (span first cells)
+is_listed (Within first cells) p = within p (span first cells)
+is_listed (Nearest cell cells) p = false
 
 -- "In rising base"; "each list goes as bases".
-unfoldable pub basesOf : Question → List Reservation → List ℕ
-basesOf q l = map (λ r. r.base) (filter (λ r. isListed q (range_of r)) l)
+unfoldable pub bases_of : Question → List Reservation → List ℕ
+bases_of q l = map (λ r. r.base) (filter (λ r. is_listed q (range_of r)) l)
 
 -- "The Open one of at least n cells".
 abbrev pub candidate : ℕ → Reservation → Bool
-candidate n r = isOpen r.state && leb n r.length
+candidate n r = is_open r.state && leb n r.length
 
 -- "Nearest a cell"; "ties to the lower base".
 abbrev pub nearer : ℕ → Reservation → Reservation → Bool
@@ -43,13 +43,13 @@ found c [] = answer 0 0 0
 found c (r ∷ l) = answer 0 1 (nearest c r l).base
 
 -- 25 goes on: "the range is empty or runs past the end, n is 0, or a slice for a list is below 64".
-abbrev pub badList : ℕ → Range → ℕ → Bool
-badList end p room = (eqb p.length 0 || beyond end p) || ltb room 64
+abbrev pub bad_list : ℕ → Range → ℕ → Bool
+bad_list end p room = (eqb p.length 0 || beyond end p) || ltb room 64
 
-unfoldable pub badQuestion : Question → ℕ → ℕ → Bool
-badQuestion (Sharing first cells) end room = badList end (span first cells) room
-badQuestion (Within first cells) end room = badList end (span first cells) room
-badQuestion (Nearest cell cells) end room = eqb cells 0
+unfoldable pub bad_question : Question → ℕ → ℕ → Bool
+bad_question (Sharing first cells) end room = bad_list end (span first cells) room
+bad_question (Within first cells) end room = bad_list end (span first cells) room
+bad_question (Nearest cell cells) end room = eqb cells 0
 
 -- The answer, and the slice for a list after it.
 pub record Response : Type 0 where
@@ -63,15 +63,15 @@ response a bases = record { answer = a; bases = bases }
 unfoldable pub put : List ℕ → List ℕ → Response
 put l bases = response (answer 0 (length l) 0) (l ++ drop (length l) bases)
 
-unfoldable pub grantedAnswer : List Reservation → Question → List ℕ → Response
-grantedAnswer l (Sharing first cells) bases = put (basesOf (Sharing first cells) l) bases
-grantedAnswer l (Within first cells) bases = put (basesOf (Within first cells) l) bases
-grantedAnswer l (Nearest cell cells) bases = response (found cell (filter (candidate cells) l)) bases
+unfoldable pub granted_answer : List Reservation → Question → List ℕ → Response
+granted_answer l (Sharing first cells) bases = put (bases_of (Sharing first cells) l) bases
+granted_answer l (Within first cells) bases = put (bases_of (Within first cells) l) bases
+granted_answer l (Nearest cell cells) bases = response (found cell (filter (candidate cells) l)) bases
 
 -- Whether 25 comes.
 unfoldable pub is_refused : List Reservation → Question → ℕ → Bool
-is_refused l q room = badRecords l || badQuestion q (cells_of l) room
+is_refused l q room = bad_records l || bad_question q (cells_of l) room
 
 -- "Errors: only 25 ..; nothing is then written."
-unfoldable pub askOf : List Reservation → Question → List ℕ → Response
-askOf l q bases = pick (is_refused l q (length bases)) (response (answer 25 0 0) bases) (grantedAnswer l q bases)
+unfoldable pub ask_of : List Reservation → Question → List ℕ → Response
+ask_of l q bases = pick (is_refused l q (length bases)) (response (answer 25 0 0) bases) (granted_answer l q bases)

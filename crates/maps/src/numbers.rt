@@ -1,8 +1,8 @@
 // Walks over records that lie as plain numbers, as the rows of a state do.
 ghost use Rattle.std.specs.Prelude.{◌≡◌, map, take};
-ghost use Rattle.table.specs.Numbers.{rowFrom};
-ghost use Rattle.maps.specs.Questions.{response, askOf};
-ghost use Rattle.maps.specs.Walks.{seenOver, nothing, listing, listOver};
+ghost use Rattle.table.specs.Numbers.{row_from};
+ghost use Rattle.maps.specs.Questions.{response, ask_of};
+ghost use Rattle.maps.specs.Walks.{seen_over, nothing, listing, list_over};
 
 use crate::steps::{answer_with, judge_with, list_with, nothing, seen_with};
 use crate::{Answer, Question, Seen};
@@ -10,7 +10,7 @@ use table::number::row_of;
 
 // What is seen of all records.
 fn survey(rows: &[u64], question: Question) -> Seen
-    ensures { result ≡ seenOver question nothing (map rowFrom rows.now) }
+    ensures { result ≡ seen_over question nothing (map row_from rows.now) }
 {
     let mut seen = nothing();
     let mut i: usize = 0;
@@ -25,7 +25,7 @@ fn survey(rows: &[u64], question: Question) -> Seen
 
 // Lists from the first records, as many as are named.
 fn list(rows: &[u64], upto: usize, question: Question, bases: &mut [u16]) -> usize
-    ensures { listing result bases.new ≡ listOver question (listing 0 bases.old) (take upto (map rowFrom rows.now)) }
+    ensures { listing result bases.new ≡ list_over question (listing 0 bases.old) (take upto (map row_from rows.now)) }
 {
     let mut count: usize = 0;
     let mut i: usize = 0;
@@ -39,7 +39,7 @@ fn list(rows: &[u64], upto: usize, question: Question, bases: &mut [u16]) -> usi
 
 // Any of the three questions.
 pub fn ask_numbers(rows: &[u64], question: Question, bases: &mut [u16]) -> Answer
-    ensures { response result bases.new ≡ askOf (map rowFrom rows.now) question bases.old }
+    ensures { response result bases.new ≡ ask_of (map row_from rows.now) question bases.old }
 {
     let seen = survey(rows, question);
     let judged = judge_with(question, seen, rows.len(), bases.len());

@@ -2,8 +2,8 @@
 // numbers calls. Their proofs are walked by hand, so they hold nothing else.
 ghost use Rattle.std.specs.Prelude.{◌≡◌, [], take};
 ghost use Rattle.maps.specs.declared.Question.TheVariants.{Sharing, Within, Nearest};
-ghost use Rattle.maps.specs.Questions.{response, askOf};
-ghost use Rattle.maps.specs.Walks.{seenOver, nothing, listing, listOver};
+ghost use Rattle.maps.specs.Questions.{response, ask_of};
+ghost use Rattle.maps.specs.Walks.{seen_over, nothing, listing, list_over};
 
 use crate::steps::{answer_with, judge_with, list_with, nothing, seen_with};
 use crate::{Answer, Question, Seen};
@@ -11,7 +11,7 @@ use table::Reservation;
 
 // What is seen of all records.
 pub(crate) fn survey(records: &[Reservation], question: Question) -> Seen
-    ensures { result ≡ seenOver question nothing records.now }
+    ensures { result ≡ seen_over question nothing records.now }
 {
     let mut seen = nothing();
     let mut i: usize = 0;
@@ -30,7 +30,7 @@ pub(crate) fn list(
     question: Question,
     bases: &mut [u16],
 ) -> usize
-    ensures { listing result bases.new ≡ listOver question (listing 0 bases.old) (take upto records.now) }
+    ensures { listing result bases.new ≡ list_over question (listing 0 bases.old) (take upto records.now) }
 {
     let mut count: usize = 0;
     let mut i: usize = 0;
@@ -44,7 +44,7 @@ pub(crate) fn list(
 
 // Any of the three questions.
 pub fn ask(records: &[Reservation], question: Question, bases: &mut [u16]) -> Answer
-    ensures { response result bases.new ≡ askOf records.now question bases.old }
+    ensures { response result bases.new ≡ ask_of records.now question bases.old }
 {
     let seen = survey(records, question);
     let judged = judge_with(question, seen, records.len(), bases.len());
@@ -54,21 +54,21 @@ pub fn ask(records: &[Reservation], question: Question, bases: &mut [u16]) -> An
 
 // The bases of the reservations that share a cell with `cells` cells from `first` on.
 pub fn sharing(records: &[Reservation], first: u64, cells: u64, bases: &mut [u16]) -> Answer
-    ensures { response result bases.new ≡ askOf records.now (Sharing first cells) bases.old }
+    ensures { response result bases.new ≡ ask_of records.now (Sharing first cells) bases.old }
 {
     ask(records, Question::Sharing { first, cells }, bases)
 }
 
 // The bases of those that lie within them.
 pub fn within(records: &[Reservation], first: u64, cells: u64, bases: &mut [u16]) -> Answer
-    ensures { response result bases.new ≡ askOf records.now (Within first cells) bases.old }
+    ensures { response result bases.new ≡ ask_of records.now (Within first cells) bases.old }
 {
     ask(records, Question::Within { first, cells }, bases)
 }
 
 // The base of the Open one of at least `cells` cells that is nearest to a cell.
 pub fn nearest(records: &[Reservation], cell: u64, cells: u64) -> Answer
-    ensures { response result [] ≡ askOf records.now (Nearest cell cells) [] }
+    ensures { response result [] ≡ ask_of records.now (Nearest cell cells) [] }
 {
     let question = Question::Nearest { cell, cells };
     let seen = survey(records, question);

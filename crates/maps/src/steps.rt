@@ -1,8 +1,8 @@
 // One step of each walk, and what is made of what the walks have seen, on plain numbers.
 ghost use Rattle.std.specs.Prelude.{◌≡◌};
 ghost use Rattle.maps.specs.Cells.{span};
-ghost use Rattle.maps.specs.Questions.{isListed, badList, badQuestion};
-ghost use Rattle.maps.specs.Walks.{nothing, tileWith, nearWith, seenWith, judgeWith, listing, listWith, answerWith};
+ghost use Rattle.maps.specs.Questions.{is_listed, bad_list, bad_question};
+ghost use Rattle.maps.specs.Walks.{nothing, tile_with, near_with, seen_with, judge_with, listing, list_with, answer_with};
 
 use crate::cells::{beyond, distance, lies_within, shares};
 use crate::{Answer, Judged, Question, Seen};
@@ -24,7 +24,7 @@ pub(crate) fn nothing() -> Seen
 
 // One record more, of the tiling.
 fn tile_with(seen: Seen, base: u16, length: u16) -> Seen
-    ensures { result ≡ tileWith seen base length }
+    ensures { result ≡ tile_with seen base length }
 {
     let end = base as u32 + length as u32;
     Seen {
@@ -45,7 +45,7 @@ fn near_with(
     length: u16,
     state: ReservationState,
 ) -> Seen
-    ensures { result ≡ nearWith cell cells seen base length state }
+    ensures { result ≡ near_with cell cells seen base length state }
 {
     let away = distance(base, length, cell);
     let wanted = is_open(state) & (cells <= length as u64);
@@ -71,7 +71,7 @@ pub(crate) fn seen_with(
     length: u16,
     state: ReservationState,
 ) -> Seen
-    ensures { result ≡ seenWith question seen base length state }
+    ensures { result ≡ seen_with question seen base length state }
 {
     let tiled = tile_with(seen, base, length);
     match question {
@@ -82,13 +82,13 @@ pub(crate) fn seen_with(
 }
 
 fn bad_list(end: u32, first: u64, cells: u64, room: usize) -> bool
-    ensures { result ≡ badList end (span first cells) room }
+    ensures { result ≡ bad_list end (span first cells) room }
 {
     ((cells == 0) | beyond(end, first, cells)) | (room < 64)
 }
 
 fn bad_question(question: Question, end: u32, room: usize) -> bool
-    ensures { result ≡ badQuestion question end room }
+    ensures { result ≡ bad_question question end room }
 {
     match question {
         Question::Sharing { first, cells } => bad_list(end, first, cells, room),
@@ -99,7 +99,7 @@ fn bad_question(question: Question, end: u32, room: usize) -> bool
 
 // Refusal 25, by what was seen of the records.
 pub(crate) fn judge_with(question: Question, seen: Seen, records: usize, room: usize) -> Judged
-    ensures { result ≡ judgeWith question seen records room }
+    ensures { result ≡ judge_with question seen records room }
 {
     let sized = (records == 0) | (64 < records);
     let bad = bad_question(question, seen.end, room);
@@ -113,7 +113,7 @@ pub(crate) fn judge_with(question: Question, seen: Seen, records: usize, room: u
 }
 
 fn is_listed(question: Question, base: u16, length: u16) -> bool
-    ensures { result ≡ isListed question (span base length) }
+    ensures { result ≡ is_listed question (span base length) }
 {
     match question {
         Question::Sharing { first, cells } => shares(base, length, first, cells),
@@ -130,7 +130,7 @@ pub(crate) fn list_with(
     base: u16,
     length: u16,
 ) -> usize
-    ensures { listing result bases.new ≡ listWith question (listing count bases.old) base length }
+    ensures { listing result bases.new ≡ list_with question (listing count bases.old) base length }
 {
     if is_listed(question, base, length) & (count < bases.len()) {
         bases[count] = base;
@@ -141,7 +141,7 @@ pub(crate) fn list_with(
 
 // The answer to a list's length and to the nearest one.
 pub(crate) fn answer_with(code: u8, seen: Seen, count: usize) -> Answer
-    ensures { result ≡ answerWith code seen count }
+    ensures { result ≡ answer_with code seen count }
 {
     if code != 0 {
         return Answer {

@@ -9,43 +9,43 @@ use lib.Dec.{leb}
 use lib.ListN.{get_or, get_or-eq_default}
 use borrow.Author.Tests.{leb-true, leb-false}
 use Rattle.calls.specs.Bytes.{Fit}
-use Rattle.calls.specs.Commands.{Command, commands, commandOf, take-command, lastByte, Fitting}
+use Rattle.calls.specs.Commands.{Command, commands, command_of, take_command, last_byte, Fitting}
 use Rattle.calls.specs.declared.Call.{Call}
 use Rattle.calls.proofs.Cases.{NoneTo, above}
-use Rattle.calls.proofs.Table.{perWidth, parts-of}
-use Rattle.operands.specs.Numbers.{call_of, callFrom}
+use Rattle.calls.proofs.Table.{per_width, parts_of_lem}
+use Rattle.operands.specs.Numbers.{call_of, call_from}
 
 -- `k` is the command that was read.
-pub made : (xs : List ℕ) {k j : ℕ} {r : Call} → k ≡ get_or xs 0 0 → k ≡ j → r ≡ call_of (commandOf j) xs → r ≡ callFrom xs
-unfolding callFrom
-made xs first is e = e ∙ ap (λ (m : ℕ). call_of (commandOf m) xs) (sym is ∙ first)
+pub made : (xs : List ℕ) {k j : ℕ} {r : Call} → k ≡ get_or xs 0 0 → k ≡ j → r ≡ call_of (command_of j) xs → r ≡ call_from xs
+unfolding call_from
+made xs first is e = e ∙ ap (λ (m : ℕ). call_of (command_of m) xs) (sym is ∙ first)
 
 -- A number past the table has take's row, as 0 has.
-past : (k : ℕ) → suc lastByte ≤ k → take-command ≡ commandOf k
-past k h = sym (get_or-eq_default commands take-command {n = k - 1} (omega arith))
+past : (k : ℕ) → suc last_byte ≤ k → take_command ≡ command_of k
+past k h = sym (get_or-eq_default commands take_command {n = k - 1} (omega arith))
 
-no-command : (k : ℕ) → NoneTo lastByte k → take-command ≡ commandOf k
-no-command zero others = refl
-no-command (suc k) others = past (suc k) (above lastByte (omega arith) others)
+no_command : (k : ℕ) → NoneTo last_byte k → take_command ≡ command_of k
+no_command zero others = refl
+no_command (suc k) others = past (suc k) (above last_byte (omega arith) others)
 
-pub made-take : (xs : List ℕ) {k : ℕ} {r : Call} → k ≡ get_or xs 0 0 → NoneTo lastByte k → r ≡ call_of (commandOf 1) xs → r ≡ callFrom xs
-made-take xs {k} first others e = made xs first refl (e ∙ ap (λ (row : Command). call_of row xs) (no-command k others))
+pub made_take : (xs : List ℕ) {k : ℕ} {r : Call} → k ≡ get_or xs 0 0 → NoneTo last_byte k → r ≡ call_of (command_of 1) xs → r ≡ call_from xs
+made_take xs {k} first others e = made xs first refl (e ∙ ap (λ (row : Command). call_of row xs) (no_command k others))
 
 -- Operands that each fit the width at their place.
-each_fits : (ws : List ℕ) (x : ℕ → ℕ) → ((i : ℕ) → x i < 256 ^ get_or ws i 0) → Fit ws (perWidth ws x)
+each_fits : (ws : List ℕ) (x : ℕ → ℕ) → ((i : ℕ) → x i < 256 ^ get_or ws i 0) → Fit ws (per_width ws x)
 each_fits [] x h = tt
 each_fits (w ∷ ws) x h = (h 0, each_fits ws (λ i. x (suc i)) (λ i. h (suc i)))
 
 -- The operands of the call that a row makes fit, since each was cut to its width.
 abbrev RowFits : ℕ → Type 0
-RowFits k = (xs : List ℕ) → Fitting (call_of (commandOf k) xs)
+RowFits k = (xs : List ℕ) → Fitting (call_of (command_of k) xs)
 
-in_table : (k : ℕ) → 1 ≤ k → k ≤ lastByte → RowFits k
+in_table : (k : ℕ) → 1 ≤ k → k ≤ last_byte → RowFits k
 in_table k low high xs =
-    subst (λ (p : ℕ × List ℕ). Fit (commandOf p.0).widths p.1) (sym (parts-of k low high x)) (each_fits ws x below)
+    subst (λ (p : ℕ × List ℕ). Fit (command_of p.0).widths p.1) (sym (parts_of_lem k low high x)) (each_fits ws x below)
   where
     ws : List ℕ
-    ws = (commandOf k).widths
+    ws = (command_of k).widths
 
     x : ℕ → ℕ
     x i = get_or xs (suc i) 0 % 256 ^ get_or ws i 0
@@ -57,16 +57,16 @@ in_table k low high xs =
 
 row_fits : (k : ℕ) → RowFits k
 row_fits zero = in_table 1 (omega arith) (omega arith)
-row_fits (suc k) = go (leb (suc k) lastByte) refl
+row_fits (suc k) = go (leb (suc k) last_byte) refl
   where
-    go : (b : Bool) → leb (suc k) lastByte ≡ b → RowFits (suc k)
-    go true e = in_table (suc k) (omega arith) (leb-true (suc k) lastByte e)
+    go : (b : Bool) → leb (suc k) last_byte ≡ b → RowFits (suc k)
+    go true e = in_table (suc k) (omega arith) (leb-true (suc k) last_byte e)
     go false e =
         λ xs.
-        subst (λ (row : Command). Fitting (call_of row xs)) (past (suc k) (leb-false (suc k) lastByte e))
+        subst (λ (row : Command). Fitting (call_of row xs)) (past (suc k) (leb-false (suc k) last_byte e))
         (in_table 1 (omega arith) (omega arith) xs)
 
 -- Whatever the numbers are, the operands of the call that they make fit.
-pub made-fits : (xs : List ℕ) → Fitting (callFrom xs)
-unfolding callFrom
-made-fits xs = row_fits (get_or xs 0 0) xs
+pub made_fits : (xs : List ℕ) → Fitting (call_from xs)
+unfolding call_from
+made_fits xs = row_fits (get_or xs 0 0) xs

@@ -2,14 +2,14 @@
 // Calls made of numbers. First a function a kind: the call that the numbers after the first make, each cut to its operand's
 // width.
 ghost use Rattle.std.specs.Prelude.{◌≡◌};
-ghost use Rattle.calls.specs.Commands.{commandOf};
-ghost use Rattle.operands.specs.Numbers.{call_of, callFrom};
+ghost use Rattle.calls.specs.Commands.{command_of};
+ghost use Rattle.operands.specs.Numbers.{call_of, call_from};
 
 use crate::making::{byte_at, frame_at, number_at, page_at, two_at};
 use calls::Call;
 
 fn take_from(numbers: &[u64]) -> Call
-    ensures { result ≡ call_of (commandOf 0x01) numbers.now }
+    ensures { result ≡ call_of (command_of 0x01) numbers.now }
 {
     Call::Take {
         party: byte_at(numbers, 1),
@@ -19,7 +19,7 @@ fn take_from(numbers: &[u64]) -> Call
 }
 
 fn split_from(numbers: &[u64]) -> Call
-    ensures { result ≡ call_of (commandOf 0x02) numbers.now }
+    ensures { result ≡ call_of (command_of 0x02) numbers.now }
 {
     Call::Split {
         party: byte_at(numbers, 1),
@@ -29,7 +29,7 @@ fn split_from(numbers: &[u64]) -> Call
 }
 
 fn merge_from(numbers: &[u64]) -> Call
-    ensures { result ≡ call_of (commandOf 0x03) numbers.now }
+    ensures { result ≡ call_of (command_of 0x03) numbers.now }
 {
     Call::Merge {
         party: byte_at(numbers, 1),
@@ -38,7 +38,7 @@ fn merge_from(numbers: &[u64]) -> Call
 }
 
 fn give_from(numbers: &[u64]) -> Call
-    ensures { result ≡ call_of (commandOf 0x04) numbers.now }
+    ensures { result ≡ call_of (command_of 0x04) numbers.now }
 {
     Call::Give {
         party: byte_at(numbers, 1),
@@ -48,7 +48,7 @@ fn give_from(numbers: &[u64]) -> Call
 }
 
 fn revoke_from(numbers: &[u64]) -> Call
-    ensures { result ≡ call_of (commandOf 0x05) numbers.now }
+    ensures { result ≡ call_of (command_of 0x05) numbers.now }
 {
     Call::Revoke {
         party: byte_at(numbers, 1),
@@ -57,7 +57,7 @@ fn revoke_from(numbers: &[u64]) -> Call
 }
 
 fn sweep_from(numbers: &[u64]) -> Call
-    ensures { result ≡ call_of (commandOf 0x06) numbers.now }
+    ensures { result ≡ call_of (command_of 0x06) numbers.now }
 {
     Call::Sweep {
         party: byte_at(numbers, 1),
@@ -66,7 +66,7 @@ fn sweep_from(numbers: &[u64]) -> Call
 }
 
 fn collect_from(numbers: &[u64]) -> Call
-    ensures { result ≡ call_of (commandOf 0x07) numbers.now }
+    ensures { result ≡ call_of (command_of 0x07) numbers.now }
 {
     Call::Collect {
         party: byte_at(numbers, 1),
@@ -74,7 +74,7 @@ fn collect_from(numbers: &[u64]) -> Call
 }
 
 fn map_from(numbers: &[u64]) -> Call
-    ensures { result ≡ call_of (commandOf 0x08) numbers.now }
+    ensures { result ≡ call_of (command_of 0x08) numbers.now }
 {
     Call::Map {
         party: byte_at(numbers, 1),
@@ -84,7 +84,7 @@ fn map_from(numbers: &[u64]) -> Call
 }
 
 fn unmap_from(numbers: &[u64]) -> Call
-    ensures { result ≡ call_of (commandOf 0x09) numbers.now }
+    ensures { result ≡ call_of (command_of 0x09) numbers.now }
 {
     Call::Unmap {
         party: byte_at(numbers, 1),
@@ -93,7 +93,7 @@ fn unmap_from(numbers: &[u64]) -> Call
 }
 
 fn zero_from(numbers: &[u64]) -> Call
-    ensures { result ≡ call_of (commandOf 0x0A) numbers.now }
+    ensures { result ≡ call_of (command_of 0x0A) numbers.now }
 {
     Call::Zero {
         party: byte_at(numbers, 1),
@@ -102,7 +102,7 @@ fn zero_from(numbers: &[u64]) -> Call
 }
 
 fn load_from(numbers: &[u64]) -> Call
-    ensures { result ≡ call_of (commandOf 0x0B) numbers.now }
+    ensures { result ≡ call_of (command_of 0x0B) numbers.now }
 {
     Call::Load {
         party: byte_at(numbers, 1),
@@ -113,7 +113,7 @@ fn load_from(numbers: &[u64]) -> Call
 }
 
 fn store_from(numbers: &[u64]) -> Call
-    ensures { result ≡ call_of (commandOf 0x0C) numbers.now }
+    ensures { result ≡ call_of (command_of 0x0C) numbers.now }
 {
     Call::Store {
         party: byte_at(numbers, 1),
@@ -124,7 +124,7 @@ fn store_from(numbers: &[u64]) -> Call
 }
 
 fn narrow_from(numbers: &[u64]) -> Call
-    ensures { result ≡ call_of (commandOf 0x0D) numbers.now }
+    ensures { result ≡ call_of (command_of 0x0D) numbers.now }
 {
     Call::Narrow {
         party: byte_at(numbers, 1),
@@ -137,7 +137,7 @@ fn narrow_from(numbers: &[u64]) -> Call
 }
 
 fn number_from(numbers: &[u64]) -> Call
-    ensures { result ≡ call_of (commandOf 0x0E) numbers.now }
+    ensures { result ≡ call_of (command_of 0x0E) numbers.now }
 {
     Call::Number {
         party: byte_at(numbers, 1),
@@ -147,7 +147,7 @@ fn number_from(numbers: &[u64]) -> Call
 }
 
 fn grant_from(numbers: &[u64]) -> Call
-    ensures { result ≡ call_of (commandOf 0x0F) numbers.now }
+    ensures { result ≡ call_of (command_of 0x0F) numbers.now }
 {
     Call::Grant {
         party: byte_at(numbers, 1),
@@ -157,7 +157,7 @@ fn grant_from(numbers: &[u64]) -> Call
 }
 
 fn receive_from(numbers: &[u64]) -> Call
-    ensures { result ≡ call_of (commandOf 0x10) numbers.now }
+    ensures { result ≡ call_of (command_of 0x10) numbers.now }
 {
     Call::Receive {
         party: byte_at(numbers, 1),
@@ -166,7 +166,7 @@ fn receive_from(numbers: &[u64]) -> Call
 }
 
 fn take_masked_from(numbers: &[u64]) -> Call
-    ensures { result ≡ call_of (commandOf 0x11) numbers.now }
+    ensures { result ≡ call_of (command_of 0x11) numbers.now }
 {
     Call::TakeMasked {
         party: byte_at(numbers, 1),
@@ -177,7 +177,7 @@ fn take_masked_from(numbers: &[u64]) -> Call
 }
 
 fn create_from(numbers: &[u64]) -> Call
-    ensures { result ≡ call_of (commandOf 0x12) numbers.now }
+    ensures { result ≡ call_of (command_of 0x12) numbers.now }
 {
     Call::Create {
         party: byte_at(numbers, 1),
@@ -189,7 +189,7 @@ fn create_from(numbers: &[u64]) -> Call
 }
 
 fn claim_from(numbers: &[u64]) -> Call
-    ensures { result ≡ call_of (commandOf 0x13) numbers.now }
+    ensures { result ≡ call_of (command_of 0x13) numbers.now }
 {
     Call::Claim {
         party: byte_at(numbers, 1),
@@ -199,7 +199,7 @@ fn claim_from(numbers: &[u64]) -> Call
 }
 
 fn release_from(numbers: &[u64]) -> Call
-    ensures { result ≡ call_of (commandOf 0x14) numbers.now }
+    ensures { result ≡ call_of (command_of 0x14) numbers.now }
 {
     Call::Release {
         party: byte_at(numbers, 1),
@@ -209,7 +209,7 @@ fn release_from(numbers: &[u64]) -> Call
 }
 
 fn destroy_from(numbers: &[u64]) -> Call
-    ensures { result ≡ call_of (commandOf 0x15) numbers.now }
+    ensures { result ≡ call_of (command_of 0x15) numbers.now }
 {
     Call::Destroy {
         party: byte_at(numbers, 1),
@@ -219,7 +219,7 @@ fn destroy_from(numbers: &[u64]) -> Call
 
 // The call that numbers make. The table answers with take for a number that is no command.
 pub fn call_from(numbers: &[u64]) -> Call
-    ensures { result ≡ callFrom numbers.now }
+    ensures { result ≡ call_from numbers.now }
 {
     match number_at(numbers, 0) {
         1 => take_from(numbers),

@@ -1,7 +1,7 @@
 // Made by tools/kinds from the enum of calls: not to be changed here.
 // Calls as seven numbers. First a function a kind: the command, its operands, and 0 after them.
 ghost use Rattle.std.specs.Prelude.{[], ◌∷◌, ◌≡◌};
-ghost use Rattle.operands.specs.Numbers.{numbersOf};
+ghost use Rattle.operands.specs.Numbers.{numbers_of};
 
 use calls::Call;
 
@@ -149,7 +149,7 @@ fn destroy_numbers(party: u8, principal: u8) -> [u64; 7]
 
 // A call's seven numbers.
 pub fn numbers_of(call: Call) -> [u64; 7]
-    ensures { result ≡ numbersOf call }
+    ensures { result ≡ numbers_of call }
 {
     match call {
         Call::Take { party, base, reg } => take_numbers(party, base, reg),

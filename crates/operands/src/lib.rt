@@ -5,7 +5,7 @@ mod making;
 mod slices;
 
 ghost use Rattle.std.specs.Prelude.{◌≡◌, length};
-ghost use Rattle.operands.specs.Numbers.{answered, writeNumbers, readNumbers};
+ghost use Rattle.operands.specs.Numbers.{answered, write_numbers, read_numbers};
 
 use calls::{Reading, Written, read_at, write_call};
 pub use kinds_from::call_from;
@@ -27,7 +27,7 @@ fn copy(from: &[u64], to: &mut [u64])
 // Writes the call that numbers are into a lent buffer and answers its length; 0 if they are no call or the buffer is too short,
 // which is left as it was.
 pub fn write_numbers(numbers: &[u64], out: &mut [u8]) -> usize
-    ensures { answered result out.new ≡ writeNumbers numbers.now out.old }
+    ensures { answered result out.new ≡ write_numbers numbers.now out.old }
 {
     let call = call_from(numbers);
     let own = numbers_of(call);
@@ -43,7 +43,7 @@ pub fn write_numbers(numbers: &[u64], out: &mut [u8]) -> usize
 // Fills seven lent numbers with those of the call at a place of an input and answers the bytes it used; 0 if no call is there or
 // another count of numbers is lent, which are left as they were.
 pub fn read_numbers(input: &[u8], at: usize, numbers: &mut [u64]) -> usize
-    ensures { answered result numbers.new ≡ readNumbers input.now at numbers.old }
+    ensures { answered result numbers.new ≡ read_numbers input.now at numbers.old }
 {
     if numbers.len() != 7 {
         return 0;

@@ -8,129 +8,129 @@ use lib.ListN.{length, get_or}
 use lib.Dec.{leb, ltb}
 use borrow.Author.Tests.{ltb-true, lt-ltb, not-true, not-false}
 use Rattle.capabilities.specs.declared.Range.{Range}
-use Rattle.capabilities.specs.Lists.{pick, mapEach}
-use Rattle.capabilities.specs.Range.{inside, pageInside}
-use Rattle.capabilities.proofs.Choice.{pick_yes, pick-twice, and_left, and_right}
-use Rattle.capabilities.proofs.Lists.{each_at, length-mapEach, getD-mapEach}
+use Rattle.capabilities.specs.Lists.{pick, map_each}
+use Rattle.capabilities.specs.Range.{inside, page_inside}
+use Rattle.capabilities.proofs.Choice.{pick_yes, pick_twice, and_left, and_right}
+use Rattle.capabilities.proofs.Lists.{each_at, length_map_each, get_d_map_each}
 use Rattle.pages.specs.Pages.{Pages}
 use Rattle.pages.specs.Pages.{PageEntry}
 use Rattle.pages.specs.declared.PageState.{PageState}
 use Rattle.pages.specs.declared.PageState.TheVariants.{Unmapped, Freed, Mapped}
-use Rattle.pages.specs.Entries.{is_unmapped, isMapped, maps, pageEntry}
-use Rattle.pages.specs.Layer.{pageAt, pageSound, wellFormed}
-use Rattle.pages.specs.Mapping.{notMappedIn, anyMapped, freedEntry, freedOf, releasedEntry, releasedOf}
-use Rattle.pages.proofs.Formed.{sound, formed, pages-changed}
-use Rattle.pages.proofs.Mappings.{mappings-mapEach}
+use Rattle.pages.specs.Entries.{is_unmapped, is_mapped, maps, page_entry}
+use Rattle.pages.specs.Layer.{page_at, page_sound, well_formed}
+use Rattle.pages.specs.Mapping.{not_mapped_in, any_mapped, freed_entry, freed_of, released_entry, released_of}
+use Rattle.pages.proofs.Formed.{sound, formed, pages_changed}
+use Rattle.pages.proofs.Mappings.{mappings_map_each}
 
-pick-state : (b : Bool) (x y : PageEntry) → (pick b x y).state ≡ pick b x.state y.state
-pick-state true x y = refl
-pick-state false x y = refl
+pick_state : (b : Bool) (x y : PageEntry) → (pick b x y).state ≡ pick b x.state y.state
+pick_state true x y = refl
+pick_state false x y = refl
 
 -- A page in a range that ends at or below 16 × V is a page below V.
-pub page-below : (s : Pages) (r : Range) (p : ℕ) → r.base + r.length ≤ 16 * s.v → pageInside r p ≡ true → p < s.v
+pub page_below : (s : Pages) (r : Range) (p : ℕ) → r.base + r.length ≤ 16 * s.v → page_inside r p ≡ true → p < s.v
 unfolding inside
-page-below s r p h e = let k : 16 * p < r.base + r.length = ltb-true _ _ (and_right (leb r.base (16 * p)) _ e) in omega arith
+page_below s r p h e = let k : 16 * p < r.base + r.length = ltb-true _ _ (and_right (leb r.base (16 * p)) _ e) in omega arith
 
 -- Freeing an entry changes only what is Unmapped, so it maps what it mapped.
-freed-maps : (r : Range) (p k : ℕ) (e : PageEntry) → maps (freedEntry r p e).state k ≡ maps e.state k
-unfolding freedEntry
-freed-maps r p k e = go (pageInside r p) e.state refl
+freed_maps : (r : Range) (p k : ℕ) (e : PageEntry) → maps (freed_entry r p e).state k ≡ maps e.state k
+unfolding freed_entry
+freed_maps r p k e = go (page_inside r p) e.state refl
   where
     go : (b : Bool) (x : PageState) → e.state ≡ x
-        → maps (pick (b && is_unmapped e.state) (pageEntry Freed) e).state k ≡ maps e.state k
+        → maps (pick (b && is_unmapped e.state) (page_entry Freed) e).state k ≡ maps e.state k
     go true Unmapped q = rw q
     go true Freed q = rw q
     go true (Mapped g) q = rw q
     go false x q = refl
 
-freed-sound : (s : Pages) (r : Range) (p : ℕ) (e : PageEntry) → r.base + r.length ≤ 16 * s.v
-    → pageSound s.v s.f p e ≡ true → pageSound s.v s.f p (freedEntry r p e) ≡ true
-unfolding freedEntry pageSound
-freed-sound s r p e h q = go (pageInside r p && is_unmapped e.state) refl
+freed_sound : (s : Pages) (r : Range) (p : ℕ) (e : PageEntry) → r.base + r.length ≤ 16 * s.v
+    → page_sound s.v s.f p e ≡ true → page_sound s.v s.f p (freed_entry r p e) ≡ true
+unfolding freed_entry page_sound
+freed_sound s r p e h q = go (page_inside r p && is_unmapped e.state) refl
   where
-    go : (b : Bool) → (pageInside r p && is_unmapped e.state) ≡ b
-        → pageSound s.v s.f p (pick (pageInside r p && is_unmapped e.state) (pageEntry Freed) e) ≡ true
+    go : (b : Bool) → (page_inside r p && is_unmapped e.state) ≡ b
+        → page_sound s.v s.f p (pick (page_inside r p && is_unmapped e.state) (page_entry Freed) e) ≡ true
     go true t =
-        rw t (pick_yes (ltb p s.v) true false (lt-ltb _ _ (page-below s r p h (and_left (pageInside r p) (is_unmapped e.state) t))))
+        rw t (pick_yes (ltb p s.v) true false (lt-ltb _ _ (page_below s r p h (and_left (page_inside r p) (is_unmapped e.state) t))))
     go false t = rw t q
 
-pub freed-keeps :
-    (s : Pages) (r : Range) → r.base + r.length ≤ 16 * s.v → wellFormed s ≡ true → wellFormed (freedOf s r) ≡ true
-unfolding freedOf
-freed-keeps s r h w =
+pub freed_keeps :
+    (s : Pages) (r : Range) → r.base + r.length ≤ 16 * s.v → well_formed s ≡ true → well_formed (freed_of s r) ≡ true
+unfolding freed_of
+freed_keeps s r h w =
     let q = sound s w in
     formed _
-    (pages-changed s q (mapEach (freedEntry r) 0 s.pages) (length-mapEach (freedEntry r) 0 s.pages ∙ q.long-pages)
+    (pages_changed s q (map_each (freed_entry r) 0 s.pages) (length_map_each (freed_entry r) 0 s.pages ∙ q.long_pages)
     (λ p b.
-    rw (getD-mapEach (freedEntry r) 0 s.pages p (pageEntry Unmapped) (pageEntry Unmapped) (omega (arith, q.long-pages)), zero-add)
-    (freed-sound s r p (get_or s.pages p (pageEntry Unmapped)) h (q.page p b)))
-    (λ k. mappings-mapEach k (freedEntry r) 0 s.pages (pageEntry Unmapped) (λ i b. freed-maps r (0 + i) k (get_or s.pages i (pageEntry Unmapped)))))
+    rw (get_d_map_each (freed_entry r) 0 s.pages p (page_entry Unmapped) (page_entry Unmapped) (omega (arith, q.long_pages)), zero-add)
+    (freed_sound s r p (get_or s.pages p (page_entry Unmapped)) h (q.page p b)))
+    (λ k. mappings_map_each k (freed_entry r) 0 s.pages (page_entry Unmapped) (λ i b. freed_maps r (0 + i) k (get_or s.pages i (page_entry Unmapped)))))
 
 -- No page of the range is Mapped: page by page.
-pub none-mapped-at :
-    (s : Pages) (r : Range) (p : ℕ) → p < length s.pages → anyMapped s r ≡ false → pageInside r p ≡ true → isMapped (pageAt s p) ≡ false
-unfolding anyMapped notMappedIn pageAt
-none-mapped-at s r p b a i =
-    let n = rw zero-add at (each_at (notMappedIn r) 0 s.pages p (pageEntry Unmapped) b (not-false _ a)) in
-    rw i at (not-true (pageInside r p && isMapped (get_or s.pages p (pageEntry Unmapped)).state) n)
+pub none_mapped_at :
+    (s : Pages) (r : Range) (p : ℕ) → p < length s.pages → any_mapped s r ≡ false → page_inside r p ≡ true → is_mapped (page_at s p) ≡ false
+unfolding any_mapped not_mapped_in page_at
+none_mapped_at s r p b a i =
+    let n = rw zero-add at (each_at (not_mapped_in r) 0 s.pages p (page_entry Unmapped) b (not-false _ a)) in
+    rw i at (not-true (page_inside r p && is_mapped (get_or s.pages p (page_entry Unmapped)).state) n)
 
 -- Releasing an entry that maps nothing leaves one that maps nothing.
-released-maps : (r : Range) (p k : ℕ) (e : PageEntry) → (pageInside r p && isMapped e.state) ≡ false
-    → maps (releasedEntry r p e).state k ≡ maps e.state k
-unfolding releasedEntry
-released-maps r p k e = go (pageInside r p) e.state refl
+released_maps : (r : Range) (p k : ℕ) (e : PageEntry) → (page_inside r p && is_mapped e.state) ≡ false
+    → maps (released_entry r p e).state k ≡ maps e.state k
+unfolding released_entry
+released_maps r p k e = go (page_inside r p) e.state refl
   where
-    go : (b : Bool) (x : PageState) → e.state ≡ x → (b && isMapped e.state) ≡ false
-        → maps (pick b (pageEntry Unmapped) e).state k ≡ maps e.state k
+    go : (b : Bool) (x : PageState) → e.state ≡ x → (b && is_mapped e.state) ≡ false
+        → maps (pick b (page_entry Unmapped) e).state k ≡ maps e.state k
     go true Unmapped q n = rw q
     go true Freed q n = rw q
     go true (Mapped g) q n = absurd (true≢false (rw q at n))
     go false x q n = refl
 
-released-sound : (s : Pages) (r : Range) (p : ℕ) (e : PageEntry) → pageSound s.v s.f p e ≡ true
-    → pageSound s.v s.f p (releasedEntry r p e) ≡ true
-unfolding releasedEntry pageSound
-released-sound s r p e q = go (pageInside r p) refl
+released_sound : (s : Pages) (r : Range) (p : ℕ) (e : PageEntry) → page_sound s.v s.f p e ≡ true
+    → page_sound s.v s.f p (released_entry r p e) ≡ true
+unfolding released_entry page_sound
+released_sound s r p e q = go (page_inside r p) refl
   where
-    go : (b : Bool) → pageInside r p ≡ b → pageSound s.v s.f p (pick (pageInside r p) (pageEntry Unmapped) e) ≡ true
-    go true t = rw t (pick-twice (ltb p s.v) true)
+    go : (b : Bool) → page_inside r p ≡ b → page_sound s.v s.f p (pick (page_inside r p) (page_entry Unmapped) e) ≡ true
+    go true t = rw t (pick_twice (ltb p s.v) true)
     go false t = rw t q
 
-pub released-keeps : (s : Pages) (r : Range) → anyMapped s r ≡ false → wellFormed s ≡ true → wellFormed (releasedOf s r) ≡ true
-unfolding releasedOf anyMapped notMappedIn
-released-keeps s r a w =
+pub released_keeps : (s : Pages) (r : Range) → any_mapped s r ≡ false → well_formed s ≡ true → well_formed (released_of s r) ≡ true
+unfolding released_of any_mapped not_mapped_in
+released_keeps s r a w =
     let q = sound s w in
     formed _
-    (pages-changed s q (mapEach (releasedEntry r) 0 s.pages) (length-mapEach (releasedEntry r) 0 s.pages ∙ q.long-pages)
+    (pages_changed s q (map_each (released_entry r) 0 s.pages) (length_map_each (released_entry r) 0 s.pages ∙ q.long_pages)
     (λ p b.
-    rw (getD-mapEach (releasedEntry r) 0 s.pages p (pageEntry Unmapped) (pageEntry Unmapped) (omega (arith, q.long-pages)), zero-add)
-    (released-sound s r p (get_or s.pages p (pageEntry Unmapped)) (q.page p b)))
+    rw (get_d_map_each (released_entry r) 0 s.pages p (page_entry Unmapped) (page_entry Unmapped) (omega (arith, q.long_pages)), zero-add)
+    (released_sound s r p (get_or s.pages p (page_entry Unmapped)) (q.page p b)))
     (λ k.
-    mappings-mapEach k (releasedEntry r) 0 s.pages (pageEntry Unmapped)
+    mappings_map_each k (released_entry r) 0 s.pages (page_entry Unmapped)
     (λ i b.
-    released-maps r (0 + i) k (get_or s.pages i (pageEntry Unmapped))
-    (not-true (pageInside r (0 + i) && isMapped (get_or s.pages i (pageEntry Unmapped)).state)
-    (each_at (notMappedIn r) 0 s.pages i (pageEntry Unmapped) b (not-false _ a))))))
+    released_maps r (0 + i) k (get_or s.pages i (page_entry Unmapped))
+    (not-true (page_inside r (0 + i) && is_mapped (get_or s.pages i (page_entry Unmapped)).state)
+    (each_at (not_mapped_in r) 0 s.pages i (page_entry Unmapped) b (not-false _ a))))))
 
 -- The state of a page after freeing and after releasing.
 module _ (s : Pages) (r : Range) (p : ℕ) (b : p < length s.pages) where
-  pub freed-at : pageAt (freedOf s r) p ≡ pick (pageInside r p && is_unmapped (pageAt s p)) Freed (pageAt s p)
-  unfolding pageAt freedOf freedEntry
-  freed-at =
-      ap (λ e. e.state) (getD-mapEach (freedEntry r) 0 s.pages p (pageEntry Unmapped) (pageEntry Unmapped) b)
-      ∙ rw zero-add (pick-state (pageInside r p && is_unmapped (get_or s.pages p (pageEntry Unmapped)).state) _ _)
+  pub freed_at : page_at (freed_of s r) p ≡ pick (page_inside r p && is_unmapped (page_at s p)) Freed (page_at s p)
+  unfolding page_at freed_of freed_entry
+  freed_at =
+      ap (λ e. e.state) (get_d_map_each (freed_entry r) 0 s.pages p (page_entry Unmapped) (page_entry Unmapped) b)
+      ∙ rw zero-add (pick_state (page_inside r p && is_unmapped (get_or s.pages p (page_entry Unmapped)).state) _ _)
 
-  pub released-at : pageAt (releasedOf s r) p ≡ pick (pageInside r p) Unmapped (pageAt s p)
-  unfolding pageAt releasedOf releasedEntry
-  released-at =
-      ap (λ e. e.state) (getD-mapEach (releasedEntry r) 0 s.pages p (pageEntry Unmapped) (pageEntry Unmapped) b)
-      ∙ rw zero-add (pick-state (pageInside r p) _ _)
+  pub released_at : page_at (released_of s r) p ≡ pick (page_inside r p) Unmapped (page_at s p)
+  unfolding page_at released_of released_entry
+  released_at =
+      ap (λ e. e.state) (get_d_map_each (released_entry r) 0 s.pages p (page_entry Unmapped) (page_entry Unmapped) b)
+      ∙ rw zero-add (pick_state (page_inside r p) _ _)
 
   -- Once no page of the range is Mapped and its Unmapped pages are Freed, all are Freed.
-  pub all-freed : anyMapped s r ≡ false → pageInside r p ≡ true → pageAt (freedOf s r) p ≡ Freed
-  all-freed a i = freed-at ∙ rw i (go (pageAt s p) refl)
+  pub all_freed_lem : any_mapped s r ≡ false → page_inside r p ≡ true → page_at (freed_of s r) p ≡ Freed
+  all_freed_lem a i = freed_at ∙ rw i (go (page_at s p) refl)
     where
-      go : (x : PageState) → pageAt s p ≡ x → pick (is_unmapped (pageAt s p)) Freed (pageAt s p) ≡ Freed
+      go : (x : PageState) → page_at s p ≡ x → pick (is_unmapped (page_at s p)) Freed (page_at s p) ≡ Freed
       go Unmapped e = rw e
       go Freed e = rw e
-      go (Mapped g) e = absurd (true≢false (sym (ap isMapped e) ∙ none-mapped-at s r p b a i))
+      go (Mapped g) e = absurd (true≢false (sym (ap is_mapped e) ∙ none_mapped_at s r p b a i))

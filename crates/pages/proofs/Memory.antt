@@ -10,22 +10,22 @@ use lib.Dec.{eqb}
 use borrow.Author.Tests.{eqb-true, leb-false, not-false, ne_eqb}
 use Rattle.capabilities.specs.Refusals.{first}
 use Rattle.capabilities.proofs.Choice.{and_left, and_right}
-use Rattle.capabilities.proofs.Refusals.{first-clear}
+use Rattle.capabilities.proofs.Refusals.{first_clear}
 use Rattle.pages.specs.declared.Frame.{Frame}
 use Rattle.pages.specs.Pages.{Pages}
 use Rattle.pages.specs.declared.FrameState.TheVariants.{Dirty, Free}
-use Rattle.pages.specs.Entries.{isDirty}
-use Rattle.pages.specs.Layer.{frame_at, serves, withFrame}
-use Rattle.pages.specs.Mapping.{zeroReasons, dirtyReasons, noFrame, cleared}
-use Rattle.pages.proofs.States.{is-dirty}
+use Rattle.pages.specs.Entries.{is_dirty}
+use Rattle.pages.specs.Layer.{frame_at, serves, with_frame}
+use Rattle.pages.specs.Mapping.{zero_reasons, dirty_reasons, no_frame, cleared}
+use Rattle.pages.proofs.States.{is_dirty_lem}
 
 -- The part comes back cleared, between what stood before it and what stood after it.
-pub put-cleared :
+pub put_cleared :
     (frame : Frame) (xs ys : List ℕ) → 16 * frame.0 + 16 ≤ length xs
     → ys ≡ replicate (length (take (16 * frame.0 + 16 - 16 * frame.0) (drop (16 * frame.0) xs))) 0
     → take (16 * frame.0) xs ++ (ys ++ drop (16 * frame.0 + 16 - 16 * frame.0) (drop (16 * frame.0) xs)) ≡ cleared frame xs
 unfolding cleared
-put-cleared frame xs ys h e =
+put_cleared frame xs ys h e =
     let a : ℕ = 16 * frame.0 in
     let n : a + 16 - a ≡ 16 = omega arith in
     let m : length (take 16 (drop a xs)) ≡ 16 = length-take-le 16 (drop a xs) (simp length-drop (omega arith)) in
@@ -38,17 +38,17 @@ served s cells tags e =
 
 -- What a granted zero knows of the lent lengths and the frame.
 pub record Served (s : Pages) (frame : Frame) (cells tags : ℕ) : Type 0 where
-  pub of-cells : cells ≡ 16 * s.f
-  pub of-tags : tags ≡ 16 * s.f
+  pub of_cells : cells ≡ 16 * s.f
+  pub of_tags : tags ≡ 16 * s.f
   pub below : frame.0 < s.f
   pub dirty : frame_at s frame.0 ≡ Dirty
 
-pub zero-served :
-    (s : Pages) (frame : Frame) (cells tags : ℕ) → first (zeroReasons s frame cells tags) ≡ 0 → Served s frame cells tags
-unfolding zeroReasons dirtyReasons
-zero-served s frame cells tags e =
-    let one = first-clear 2 (not (serves s cells tags)) _ (λ x. omega arith) e in
+pub zero_served :
+    (s : Pages) (frame : Frame) (cells tags : ℕ) → first (zero_reasons s frame cells tags) ≡ 0 → Served s frame cells tags
+unfolding zero_reasons dirty_reasons
+zero_served s frame cells tags e =
+    let one = first_clear 2 (not (serves s cells tags)) _ (λ x. omega arith) e in
     let both = served s cells tags (not-false _ one.0) in
-    let two = first-clear 12 (noFrame s frame) _ (λ x. omega arith) one.1 in
-    let three = first-clear 14 (not (isDirty (frame_at s frame.0))) _ (λ x. omega arith) two.1 in
-    record { of-cells = both.0; of-tags = both.1; below = leb-false s.f frame.0 two.0; dirty = is-dirty _ (not-false _ three.0) }
+    let two = first_clear 12 (no_frame s frame) _ (λ x. omega arith) one.1 in
+    let three = first_clear 14 (not (is_dirty (frame_at s frame.0))) _ (λ x. omega arith) two.1 in
+    record { of_cells = both.0; of_tags = both.1; below = leb-false s.f frame.0 two.0; dirty = is_dirty_lem _ (not-false _ three.0) }

@@ -10,151 +10,151 @@ use lib.Seq.{length-take-le}
 use lib.Dec.{leb}
 use borrow.Author.Tests.{leb-true, leb-false, le-leb, lt-leb}
 use Rattle.capabilities.specs.declared.Range.{Range}
-use Rattle.capabilities.specs.Lists.{pick, mapEach}
-use Rattle.capabilities.specs.Range.{pageInside}
+use Rattle.capabilities.specs.Lists.{pick, map_each}
+use Rattle.capabilities.specs.Range.{page_inside}
 use Rattle.capabilities.proofs.Choice.{pick_yes}
-use Rattle.capabilities.proofs.Lists.{mapEach-same, mapEach-agree, mapEach-append, mapEach-turn, mapEach-whole, part_length}
+use Rattle.capabilities.proofs.Lists.{map_each_same, map_each_agree, map_each_append, map_each_turn, map_each_whole, part_length}
 use Rattle.pages.specs.declared.PageState.TheVariants.{Unmapped, Freed}
 use Rattle.pages.specs.Pages.{PageEntry}
-use Rattle.pages.specs.Entries.{is_unmapped, pageEntry}
-use Rattle.pages.specs.Mapping.{freedEntry, freedOf, releasedEntry, releasedOf}
-use Rattle.pages.specs.Numbers.{pageFrom, pageCode, pageIn, layerOf, freedNumber, freedNumbers, releasedNumber, releasedNumbers}
+use Rattle.pages.specs.Entries.{is_unmapped, page_entry}
+use Rattle.pages.specs.Mapping.{freed_entry, freed_of, released_entry, released_of}
+use Rattle.pages.specs.Numbers.{page_from, page_code, page_in, layer_of, freed_number, freed_numbers, released_number, released_numbers}
 use Rattle.pages.proofs.OnNumbers.{beyond, passed}
 
 -- A loop over the range's pages alone, which makes g of each number.
 module _ (g : ℕ → ℕ) (from : ℕ) (l : List ℕ) where
   -- What it has made of the first numbers.
-  abbrev pub madeFrom : ℕ → ℕ → ℕ
-  madeFrom k x = pick (leb from k) (g x) x
+  abbrev pub made_from : ℕ → ℕ → ℕ
+  made_from k x = pick (leb from k) (g x) x
 
   abbrev pub walked : ℕ → List ℕ
-  walked i = mapEach madeFrom 0 (take i l) ++ drop i l
+  walked i = map_each made_from 0 (take i l) ++ drop i l
 
   pub walk_start : l ≡ walked from
   walk_start =
-      sym (ap (λ m. m ++ drop from l) (mapEach-same madeFrom 0 (take from l) (λ i x h. rw (zero-add, lt-leb from i (omega (arith, h, length-take from l))))) ∙ take-append-drop from l)
+      sym (ap (λ m. m ++ drop from l) (map_each_same made_from 0 (take from l) (λ i x h. rw (zero-add, lt-leb from i (omega (arith, h, length-take from l))))) ∙ take-append-drop from l)
 
-  pub walk-length : (i : ℕ) → length (walked i) ≡ length l
-  walk-length i = part_length madeFrom i l
+  pub walk_length : (i : ℕ) → length (walked i) ≡ length l
+  walk_length i = part_length made_from i l
 
   pub walk_more : (t : List ℕ) (i x : ℕ) → from ≤ i → i < length l → t ≡ walked i → x ≡ g (get_or t i 0) → set t i x ≡ walked (i + 1)
-  walk_more t i x p h e y = mapEach-turn madeFrom l t i 0 x h e (y ∙ sym (pick_yes (leb from i) (g (get_or t i 0)) (get_or t i 0) (le-leb from i p)))
+  walk_more t i x p h e y = map_each_turn made_from l t i 0 x h e (y ∙ sym (pick_yes (leb from i) (g (get_or t i 0)) (get_or t i 0) (le-leb from i p)))
 
   -- Where it stops, all of the range's numbers are made so, and no other.
   module _ (r : Range) (e : from ≡ (r.base + 15) / 16) where
-    abbrev madeIn : ℕ → ℕ → ℕ
-    madeIn k x = pick (pageInside r k) (g x) x
+    abbrev made_in : ℕ → ℕ → ℕ
+    made_in k x = pick (page_inside r k) (g x) x
 
-    rest : (i : ℕ) → min ((r.base + r.length + 15) / 16) (length l) ≤ i → mapEach madeIn 0 (take i l) ++ drop i l ≡ mapEach madeIn 0 l
+    rest : (i : ℕ) → min ((r.base + r.length + 15) / 16) (length l) ≤ i → map_each made_in 0 (take i l) ++ drop i l ≡ map_each made_in 0 l
     rest i h = go (leb i (length l)) refl
       where
-        go : (b : Bool) → leb i (length l) ≡ b → mapEach madeIn 0 (take i l) ++ drop i l ≡ mapEach madeIn 0 l
+        go : (b : Bool) → leb i (length l) ≡ b → map_each made_in 0 (take i l) ++ drop i l ≡ map_each made_in 0 l
         go true t =
             let s = leb-true i (length l) t in
-            let kept : mapEach madeIn i (drop i l) ≡ drop i l = mapEach-same madeIn i (drop i l) (λ j x q. rw (beyond r (i + j) (omega (arith, h, q, length-drop i l)))) in
-            sym (ap (mapEach madeIn 0) (sym (take-append-drop i l)) ∙ mapEach-append madeIn 0 (take i l) (drop i l)
-            ∙ ap (λ (n : ℕ). mapEach madeIn 0 (take i l) ++ mapEach madeIn n (drop i l)) (zero-add (length (take i l)) ∙ length-take-le i l s) ∙ ap (λ m. mapEach madeIn 0 (take i l) ++ m) kept)
-        go false t = let s = leb-false i (length l) t in mapEach-whole madeIn l i (omega arith)
+            let kept : map_each made_in i (drop i l) ≡ drop i l = map_each_same made_in i (drop i l) (λ j x q. rw (beyond r (i + j) (omega (arith, h, q, length-drop i l)))) in
+            sym (ap (map_each made_in 0) (sym (take-append-drop i l)) ∙ map_each_append made_in 0 (take i l) (drop i l)
+            ∙ ap (λ (n : ℕ). map_each made_in 0 (take i l) ++ map_each made_in n (drop i l)) (zero-add (length (take i l)) ∙ length-take-le i l s) ∙ ap (λ m. map_each made_in 0 (take i l) ++ m) kept)
+        go false t = let s = leb-false i (length l) t in map_each_whole made_in l i (omega arith)
 
     pub walk_end : (i : ℕ) → i - from ≤ min ((r.base + r.length + 15) / 16) (length l) - from → min ((r.base + r.length + 15) / 16) (length l) ≤ i
-        → walked i ≡ mapEach madeIn 0 l
+        → walked i ≡ map_each made_in 0 l
     walk_end i q h =
         ap (λ m. m ++ drop i l)
-        (mapEach-agree madeFrom madeIn 0 (take i l) (λ k x j. ap (λ b. pick b (g x) x) (sym (passed r (0 + k) from i (length l) e q (omega (arith, j, length-take i l))))))
+        (map_each_agree made_from made_in 0 (take i l) (λ k x j. ap (λ b. pick b (g x) x) (sym (passed r (0 + k) from i (length l) e q (omega (arith, j, length-take i l))))))
         ∙ rest i h
 
 abbrev number : PageEntry → ℕ
-number e = pageCode e.state
+number e = page_code e.state
 
 -- Numbers changed by one function, and their entries by another: read after the change, or before it.
-entries-each :
-    (g : ℕ → ℕ → ℕ) (h : ℕ → PageEntry → PageEntry) → ((k x : ℕ) → pageIn (g k x) ≡ h k (pageIn x))
-    → (k : ℕ) (l : List ℕ) → map pageIn (mapEach g k l) ≡ mapEach h k (map pageIn l)
-unfolding mapEach
-entries-each g h e k [] = refl
-entries-each g h e k (x ∷ l) = rw (e k x, entries-each g h e (suc k) l)
+entries_each :
+    (g : ℕ → ℕ → ℕ) (h : ℕ → PageEntry → PageEntry) → ((k x : ℕ) → page_in (g k x) ≡ h k (page_in x))
+    → (k : ℕ) (l : List ℕ) → map page_in (map_each g k l) ≡ map_each h k (map page_in l)
+unfolding map_each
+entries_each g h e k [] = refl
+entries_each g h e k (x ∷ l) = rw (e k x, entries_each g h e (suc k) l)
 
 -- Written after the change.
-numbers-each :
+numbers_each :
     (h : ℕ → PageEntry → PageEntry) (g : ℕ → ℕ → ℕ) (k : ℕ) (l : List ℕ)
-    → ((i : ℕ) → i < length l → pageCode (h (k + i) (pageIn (get_or l i 0))).state ≡ g (k + i) (get_or l i 0))
-    → map number (mapEach h k (map pageIn l)) ≡ mapEach g k l
-unfolding mapEach
-numbers-each h g k [] e = refl
-numbers-each h g k (x ∷ l) e =
-    rw (rw add-zero at (e 0 (omega arith)), numbers-each h g (suc k) l (λ i q. rw (suc-add, ← add-suc) (e (suc i) (omega arith))))
+    → ((i : ℕ) → i < length l → page_code (h (k + i) (page_in (get_or l i 0))).state ≡ g (k + i) (get_or l i 0))
+    → map number (map_each h k (map page_in l)) ≡ map_each g k l
+unfolding map_each
+numbers_each h g k [] e = refl
+numbers_each h g k (x ∷ l) e =
+    rw (rw add-zero at (e 0 (omega arith)), numbers_each h g (suc k) l (λ i q. rw (suc-add, ← add-suc) (e (suc i) (omega arith))))
 
-kept_at : (l : List ℕ) → map number (map pageIn l) ≡ l → (i : ℕ) → pageCode (pageFrom (get_or l i 0)) ≡ get_or l i 0
-unfolding pageCode pageFrom
+kept_at : (l : List ℕ) → map number (map page_in l) ≡ l → (i : ℕ) → page_code (page_from (get_or l i 0)) ≡ get_or l i 0
+unfolding page_code page_from
 kept_at l kept i =
-    sym (get_or-map number (map pageIn l) i (pageIn 0) ∙ ap number (get_or-map pageIn l i 0))
+    sym (get_or-map number (map page_in l) i (page_in 0) ∙ ap number (get_or-map page_in l i 0))
     ∙ ap (λ (m : List ℕ). get_or m i 0) kept
 
 -- 05.
-abbrev pub freedCode : ℕ → ℕ
-freedCode n = pick (is_unmapped (pageFrom n)) (pageCode Freed) n
+abbrev pub freed_code : ℕ → ℕ
+freed_code n = pick (is_unmapped (page_from n)) (page_code Freed) n
 
 module _ (r : Range) where
-  pub freed-made : (l : List ℕ) → mapEach (λ k x. pick (pageInside r k) (freedCode x) x) 0 l ≡ freedNumbers r l
-  unfolding freedNumbers freedNumber
-  freed-made l = mapEach-agree _ _ 0 l (λ i x h. go (pageInside r (0 + i)) (is_unmapped (pageFrom x)) x)
+  pub freed_made : (l : List ℕ) → map_each (λ k x. pick (page_inside r k) (freed_code x) x) 0 l ≡ freed_numbers r l
+  unfolding freed_numbers freed_number
+  freed_made l = map_each_agree _ _ 0 l (λ i x h. go (page_inside r (0 + i)) (is_unmapped (page_from x)) x)
     where
-      go : (a b : Bool) (x : ℕ) → pick a (pick b (pageCode Freed) x) x ≡ pick (a && b) (pageCode Freed) x
+      go : (a b : Bool) (x : ℕ) → pick a (pick b (page_code Freed) x) x ≡ pick (a && b) (page_code Freed) x
       go true b x = refl
       go false b x = refl
 
-  freed-entry : (k x : ℕ) → pageIn (freedNumber r k x) ≡ freedEntry r k (pageIn x)
-  unfolding freedNumber freedEntry
-  freed-entry k x = go (pageInside r k && is_unmapped (pageFrom x))
+  freed_entry_lem : (k x : ℕ) → page_in (freed_number r k x) ≡ freed_entry r k (page_in x)
+  unfolding freed_number freed_entry
+  freed_entry_lem k x = go (page_inside r k && is_unmapped (page_from x))
     where
-      go : (b : Bool) → pageIn (pick b (pageCode Freed) x) ≡ pick b (pageEntry Freed) (pageIn x)
-      go true = unfold pageFrom pageCode in refl
+      go : (b : Bool) → page_in (pick b (page_code Freed) x) ≡ pick b (page_entry Freed) (page_in x)
+      go true = unfold page_from page_code in refl
       go false = refl
 
-  freed-code : (k x : ℕ) → pageCode (pageFrom x) ≡ x → pageCode (freedEntry r k (pageIn x)).state ≡ freedNumber r k x
-  unfolding freedNumber freedEntry
-  freed-code k x e = go (pageInside r k && is_unmapped (pageFrom x))
+  freed_code_lem : (k x : ℕ) → page_code (page_from x) ≡ x → page_code (freed_entry r k (page_in x)).state ≡ freed_number r k x
+  unfolding freed_number freed_entry
+  freed_code_lem k x e = go (page_inside r k && is_unmapped (page_from x))
     where
-      go : (b : Bool) → pageCode (pick b (pageEntry Freed) (pageIn x)).state ≡ pick b (pageCode Freed) x
+      go : (b : Bool) → page_code (pick b (page_entry Freed) (page_in x)).state ≡ pick b (page_code Freed) x
       go true = refl
       go false = e
 
   module _ (l : List ℕ) (v f : ℕ) (frames : List ℕ) where
-    pub freed-reads : layerOf v f (freedNumbers r l) frames ≡ freedOf (layerOf v f l frames) r
-    unfolding freedNumbers freedOf
-    freed-reads = ap (λ m. record { v = v; f = f; pages = m; frames = (layerOf v f l frames).frames }) (entries-each (freedNumber r) (freedEntry r) freed-entry 0 l)
+    pub freed_reads : layer_of v f (freed_numbers r l) frames ≡ freed_of (layer_of v f l frames) r
+    unfolding freed_numbers freed_of
+    freed_reads = ap (λ m. record { v = v; f = f; pages = m; frames = (layer_of v f l frames).frames }) (entries_each (freed_number r) (freed_entry r) freed_entry_lem 0 l)
 
-    pub freed-written : map number (map pageIn l) ≡ l → map number (freedOf (layerOf v f l frames) r).pages ≡ freedNumbers r l
-    unfolding freedNumbers freedOf
-    freed-written kept = numbers-each (freedEntry r) (freedNumber r) 0 l (λ i h. freed-code (0 + i) (get_or l i 0) (kept_at l kept i))
+    pub freed_written : map number (map page_in l) ≡ l → map number (freed_of (layer_of v f l frames) r).pages ≡ freed_numbers r l
+    unfolding freed_numbers freed_of
+    freed_written kept = numbers_each (freed_entry r) (freed_number r) 0 l (λ i h. freed_code_lem (0 + i) (get_or l i 0) (kept_at l kept i))
 
 -- 07.
 module _ (r : Range) where
-  pub released-made : (l : List ℕ) → mapEach (λ k x. pick (pageInside r k) 0 x) 0 l ≡ releasedNumbers r l
-  unfolding releasedNumbers releasedNumber pageCode
-  released-made l = refl
+  pub released_made : (l : List ℕ) → map_each (λ k x. pick (page_inside r k) 0 x) 0 l ≡ released_numbers r l
+  unfolding released_numbers released_number page_code
+  released_made l = refl
 
-  released-entry : (k x : ℕ) → pageIn (releasedNumber r k x) ≡ releasedEntry r k (pageIn x)
-  unfolding releasedNumber releasedEntry
-  released-entry k x = go (pageInside r k)
+  released_entry_lem : (k x : ℕ) → page_in (released_number r k x) ≡ released_entry r k (page_in x)
+  unfolding released_number released_entry
+  released_entry_lem k x = go (page_inside r k)
     where
-      go : (b : Bool) → pageIn (pick b (pageCode Unmapped) x) ≡ pick b (pageEntry Unmapped) (pageIn x)
-      go true = unfold pageFrom pageCode in refl
+      go : (b : Bool) → page_in (pick b (page_code Unmapped) x) ≡ pick b (page_entry Unmapped) (page_in x)
+      go true = unfold page_from page_code in refl
       go false = refl
 
-  released-code : (k x : ℕ) → pageCode (pageFrom x) ≡ x → pageCode (releasedEntry r k (pageIn x)).state ≡ releasedNumber r k x
-  unfolding releasedNumber releasedEntry
-  released-code k x e = go (pageInside r k)
+  released_code : (k x : ℕ) → page_code (page_from x) ≡ x → page_code (released_entry r k (page_in x)).state ≡ released_number r k x
+  unfolding released_number released_entry
+  released_code k x e = go (page_inside r k)
     where
-      go : (b : Bool) → pageCode (pick b (pageEntry Unmapped) (pageIn x)).state ≡ pick b (pageCode Unmapped) x
+      go : (b : Bool) → page_code (pick b (page_entry Unmapped) (page_in x)).state ≡ pick b (page_code Unmapped) x
       go true = refl
       go false = e
 
   module _ (l : List ℕ) (v f : ℕ) (frames : List ℕ) where
-    pub released-reads : layerOf v f (releasedNumbers r l) frames ≡ releasedOf (layerOf v f l frames) r
-    unfolding releasedNumbers releasedOf
-    released-reads = ap (λ m. record { v = v; f = f; pages = m; frames = (layerOf v f l frames).frames }) (entries-each (releasedNumber r) (releasedEntry r) released-entry 0 l)
+    pub released_reads : layer_of v f (released_numbers r l) frames ≡ released_of (layer_of v f l frames) r
+    unfolding released_numbers released_of
+    released_reads = ap (λ m. record { v = v; f = f; pages = m; frames = (layer_of v f l frames).frames }) (entries_each (released_number r) (released_entry r) released_entry_lem 0 l)
 
-    pub released-written : map number (map pageIn l) ≡ l → map number (releasedOf (layerOf v f l frames) r).pages ≡ releasedNumbers r l
-    unfolding releasedNumbers releasedOf
-    released-written kept = numbers-each (releasedEntry r) (releasedNumber r) 0 l (λ i h. released-code (0 + i) (get_or l i 0) (kept_at l kept i))
+    pub released_written : map number (map page_in l) ≡ l → map number (released_of (layer_of v f l frames) r).pages ≡ released_numbers r l
+    unfolding released_numbers released_of
+    released_written kept = numbers_each (released_entry r) (released_number r) 0 l (λ i h. released_code (0 + i) (get_or l i 0) (kept_at l kept i))

@@ -5,19 +5,19 @@ use Rattle.pages.specs.declared.PageState.{PageState}
 use Rattle.pages.specs.declared.PageState.TheVariants.{Unmapped, Freed, Mapped}
 use Rattle.pages.specs.declared.FrameState.{FrameState}
 use Rattle.pages.specs.declared.FrameState.TheVariants.{Dirty, Free, Mapped as Shown}
-use Rattle.pages.specs.Entries.{is_unmapped, isDirty, isFree}
+use Rattle.pages.specs.Entries.{is_unmapped, is_dirty, is_free}
 
-pub is-unmapped : (x : PageState) → is_unmapped x ≡ true → x ≡ Unmapped
-is-unmapped Unmapped e = refl
-is-unmapped Freed e = absurd (false≢true e)
-is-unmapped (Mapped f) e = absurd (false≢true e)
+pub is_unmapped_lem : (x : PageState) → is_unmapped x ≡ true → x ≡ Unmapped
+is_unmapped_lem Unmapped e = refl
+is_unmapped_lem Freed e = absurd (false≢true e)
+is_unmapped_lem (Mapped f) e = absurd (false≢true e)
 
-pub is_free : (x : FrameState) → isFree x ≡ true → x ≡ Free
-is_free Dirty e = absurd (false≢true e)
-is_free Free e = refl
-is_free Shown e = absurd (false≢true e)
+pub is_free_lem : (x : FrameState) → is_free x ≡ true → x ≡ Free
+is_free_lem Dirty e = absurd (false≢true e)
+is_free_lem Free e = refl
+is_free_lem Shown e = absurd (false≢true e)
 
-pub is-dirty : (x : FrameState) → isDirty x ≡ true → x ≡ Dirty
-is-dirty Dirty e = refl
-is-dirty Free e = absurd (false≢true e)
-is-dirty Shown e = absurd (false≢true e)
+pub is_dirty_lem : (x : FrameState) → is_dirty x ≡ true → x ≡ Dirty
+is_dirty_lem Dirty e = refl
+is_dirty_lem Free e = absurd (false≢true e)
+is_dirty_lem Shown e = absurd (false≢true e)

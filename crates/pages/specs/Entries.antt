@@ -13,10 +13,10 @@ is_unmapped Unmapped = true
 is_unmapped Freed = false
 is_unmapped (Mapped f) = false
 
-abbrev pub isMapped : PageState → Bool
-isMapped Unmapped = false
-isMapped Freed = false
-isMapped (Mapped f) = true
+abbrev pub is_mapped : PageState → Bool
+is_mapped Unmapped = false
+is_mapped Freed = false
+is_mapped (Mapped f) = true
 
 -- The page maps this frame.
 abbrev pub maps : PageState → ℕ → Bool
@@ -25,34 +25,34 @@ maps Freed k = false
 maps (Mapped f) k = eqb f.0 k
 
 -- The number of the frame that the page maps, or 256, which is no frame's.
-abbrev pub frameNumber : PageState → ℕ
-frameNumber Unmapped = 256
-frameNumber Freed = 256
-frameNumber (Mapped f) = f.0
+abbrev pub frame_number : PageState → ℕ
+frame_number Unmapped = 256
+frame_number Freed = 256
+frame_number (Mapped f) = f.0
 
 -- If the page maps a frame, then one below f.
-abbrev pub mapsBelow : ℕ → PageState → Bool
-mapsBelow f Unmapped = true
-mapsBelow f Freed = true
-mapsBelow f (Mapped g) = ltb g.0 f
+abbrev pub maps_below : ℕ → PageState → Bool
+maps_below f Unmapped = true
+maps_below f Freed = true
+maps_below f (Mapped g) = ltb g.0 f
 
-abbrev pub isDirty : FrameState → Bool
-isDirty Dirty = true
-isDirty Free = false
-isDirty Shown = false
+abbrev pub is_dirty : FrameState → Bool
+is_dirty Dirty = true
+is_dirty Free = false
+is_dirty Shown = false
 
-abbrev pub isFree : FrameState → Bool
-isFree Dirty = false
-isFree Free = true
-isFree Shown = false
+abbrev pub is_free : FrameState → Bool
+is_free Dirty = false
+is_free Free = true
+is_free Shown = false
 
-abbrev pub isShown : FrameState → Bool
-isShown Dirty = false
-isShown Free = false
-isShown Shown = true
+abbrev pub is_shown : FrameState → Bool
+is_shown Dirty = false
+is_shown Free = false
+is_shown Shown = true
 
-abbrev pub pageEntry : PageState → PageEntry
-pageEntry s = record { state = s }
+abbrev pub page_entry : PageState → PageEntry
+page_entry s = record { state = s }
 
-abbrev pub frameEntry : FrameState → FrameEntry
-frameEntry s = record { state = s }
+abbrev pub frame_entry : FrameState → FrameEntry
+frame_entry s = record { state = s }

@@ -2,20 +2,20 @@
 use Rattle.std.specs.Prelude.{ℕ, Bool, true, false, not, ◌||◌}
 use Rattle.capabilities.specs.declared.Range.{Range}
 use Rattle.capabilities.specs.Lists.{each}
-use Rattle.capabilities.specs.Range.{pageInside}
+use Rattle.capabilities.specs.Range.{page_inside}
 use Rattle.pages.specs.Pages.{Pages}
 use Rattle.pages.specs.declared.PageState.{PageState}
 use Rattle.pages.specs.declared.PageState.TheVariants.{Unmapped, Freed, Mapped}
 use Rattle.pages.specs.Pages.{PageEntry}
 
-abbrev pub isFreed : PageState → Bool
-isFreed Unmapped = false
-isFreed Freed = true
-isFreed (Mapped f) = false
+abbrev pub is_freed : PageState → Bool
+is_freed Unmapped = false
+is_freed Freed = true
+is_freed (Mapped f) = false
 
 -- A page of the range is Freed; one outside may be anything.
-unfoldable pub freedIn : Range → ℕ → PageEntry → Bool
-freedIn r p e = not (pageInside r p) || isFreed e.state
+unfoldable pub freed_in : Range → ℕ → PageEntry → Bool
+freed_in r p e = not (page_inside r p) || is_freed e.state
 
-unfoldable pub allFreed : Pages → Range → Bool
-allFreed s r = each (freedIn r) 0 s.pages
+unfoldable pub all_freed : Pages → Range → Bool
+all_freed s r = each (freed_in r) 0 s.pages

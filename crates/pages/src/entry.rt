@@ -1,6 +1,6 @@
 // What the states of pages and frames say, one question a function.
 ghost use Rattle.std.specs.Prelude.{◌≡◌};
-ghost use Rattle.pages.specs.Entries.{is_unmapped, isMapped, isDirty, isFree, isShown, frameNumber};
+ghost use Rattle.pages.specs.Entries.{is_unmapped, is_mapped, is_dirty, is_free, is_shown, frame_number};
 
 use crate::{FrameState, PageState};
 
@@ -15,7 +15,7 @@ pub fn is_unmapped(state: PageState) -> bool
 }
 
 pub fn is_mapped(state: PageState) -> bool
-    ensures { result ≡ isMapped state }
+    ensures { result ≡ is_mapped state }
 {
     match state {
         PageState::Unmapped => false,
@@ -25,7 +25,7 @@ pub fn is_mapped(state: PageState) -> bool
 }
 
 pub fn is_dirty(state: FrameState) -> bool
-    ensures { result ≡ isDirty state }
+    ensures { result ≡ is_dirty state }
 {
     match state {
         FrameState::Dirty => true,
@@ -35,7 +35,7 @@ pub fn is_dirty(state: FrameState) -> bool
 }
 
 pub fn is_free(state: FrameState) -> bool
-    ensures { result ≡ isFree state }
+    ensures { result ≡ is_free state }
 {
     match state {
         FrameState::Dirty => false,
@@ -45,7 +45,7 @@ pub fn is_free(state: FrameState) -> bool
 }
 
 pub fn is_shown(state: FrameState) -> bool
-    ensures { result ≡ isShown state }
+    ensures { result ≡ is_shown state }
 {
     match state {
         FrameState::Dirty => false,
@@ -56,7 +56,7 @@ pub fn is_shown(state: FrameState) -> bool
 
 // The number of the frame that the page maps, or 256, which is no frame's.
 pub fn frame_number(state: PageState) -> usize
-    ensures { result ≡ frameNumber state }
+    ensures { result ≡ frame_number state }
 {
     match state {
         PageState::Unmapped => 256,

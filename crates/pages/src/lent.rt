@@ -4,10 +4,10 @@ ghost use Rattle.capabilities.specs.Lists.{pick};
 ghost use Rattle.capabilities.specs.Refusals.{first};
 ghost use Rattle.pages.specs.declared.PageState.TheVariants.{Freed, Mapped};
 ghost use Rattle.pages.specs.declared.FrameState.TheVariants.{Dirty, Free, Mapped as Shown};
-ghost use Rattle.pages.specs.Entries.{is_unmapped, isMapped, frameNumber};
-ghost use Rattle.pages.specs.Freed.{isFreed, allFreed};
-ghost use Rattle.pages.specs.Mapping.{mapReasons, unmapReasons, zeroReasons, cleared, place_in, lookupOf, anyMapped, freedOf, releasedOf};
-ghost use Rattle.pages.specs.Numbers.{pageFrom, pageCode, frameFrom, frameCode, layerOf, freedNumbers, releasedNumbers};
+ghost use Rattle.pages.specs.Entries.{is_unmapped, is_mapped, frame_number};
+ghost use Rattle.pages.specs.Freed.{is_freed, all_freed};
+ghost use Rattle.pages.specs.Mapping.{map_reasons, unmap_reasons, zero_reasons, cleared, place_in, lookup_of, any_mapped, freed_of, released_of};
+ghost use Rattle.pages.specs.Numbers.{page_from, page_code, frame_from, frame_code, layer_of, freed_numbers, released_numbers};
 
 use crate::entry::{frame_number, is_dirty, is_free, is_mapped, is_unmapped};
 use crate::numbers::{frame_from, page_from};
@@ -77,7 +77,7 @@ fn place_in(state: PageState, offset: usize) -> Place
 
 // The state of the page of this number; past the end it counts as an unused one.
 pub fn page_in(pages: &[u16], page: usize) -> PageState
-    ensures { result ≡ pageFrom (get_or pages.now page 0) }
+    ensures { result ≡ page_from (get_or pages.now page 0) }
 {
     if page < pages.len() {
         return page_from(pages[page]);
@@ -86,7 +86,7 @@ pub fn page_in(pages: &[u16], page: usize) -> PageState
 }
 
 pub fn frame_in(frames: &[u8], frame: usize) -> FrameState
-    ensures { result ≡ frameFrom (get_or frames.now frame 0) }
+    ensures { result ≡ frame_from (get_or frames.now frame 0) }
 {
     if frame < frames.len() {
         return frame_from(frames[frame]);
@@ -113,7 +113,7 @@ fn put_frame(frames: &mut [u8], frame: usize, code: u8)
 
 // Where a virtual cell lies in lent memory.
 pub fn lookup(v: u16, pages: &[u16], cell: u32) -> Place
-    ensures { (f : ℕ) (frames : List ℕ) → result ≡ lookupOf (layerOf v f pages.now frames) cell }
+    ensures { (f : ℕ) (frames : List ℕ) → result ≡ lookup_of (layer_of v f pages.now frames) cell }
 {
     let page = cell / 16;
     if page < v as u32 {
@@ -124,7 +124,7 @@ pub fn lookup(v: u16, pages: &[u16], cell: u32) -> Place
 }
 
 fn map_code(v: u16, f: u16, pages: &[u16], frames: &[u8], page: VirtualPage, frame: Frame) -> u8
-    ensures { result ≡ first (mapReasons (layerOf v f pages.now frames.now) page frame) }
+    ensures { result ≡ first (map_reasons (layer_of v f pages.now frames.now) page frame) }
 {
     let outside = (v <= page.0 as u16) | (f <= frame.0 as u16);
     let unmapped = is_unmapped(page_in(pages, page.0 as usize));
@@ -141,9 +141,9 @@ pub fn map(
     page: VirtualPage,
     frame: Frame,
 ) -> u8
-    ensures value { result ≡ first (mapReasons (layerOf v f pages.old frames.old) page frame) }
-    ensures pages_after { pages.new ≡ pick (eqb result 0) (set pages.old page.0 (pageCode (Mapped frame))) pages.old }
-    ensures frames_after { frames.new ≡ pick (eqb result 0) (set frames.old frame.0 (frameCode Shown)) frames.old }
+    ensures value { result ≡ first (map_reasons (layer_of v f pages.old frames.old) page frame) }
+    ensures pages_after { pages.new ≡ pick (eqb result 0) (set pages.old page.0 (page_code (Mapped frame))) pages.old }
+    ensures frames_after { frames.new ≡ pick (eqb result 0) (set frames.old frame.0 (frame_code Shown)) frames.old }
 {
     let code = map_code(v, f, &pages[..], &frames[..], page, frame);
     if code != 0 {
@@ -155,7 +155,7 @@ pub fn map(
 }
 
 fn unmap_code(v: u16, pages: &[u16], page: VirtualPage, claimed: bool) -> u8
-    ensures { (f : ℕ) (frames : List ℕ) → result ≡ first (unmapReasons (layerOf v f pages.now frames) page claimed) }
+    ensures { (f : ℕ) (frames : List ℕ) → result ≡ first (unmap_reasons (layer_of v f pages.now frames) page claimed) }
 {
     let mapped = is_mapped(page_in(pages, page.0 as usize));
     first(
@@ -167,9 +167,9 @@ fn unmap_code(v: u16, pages: &[u16], page: VirtualPage, claimed: bool) -> u8
 
 // 09: the page is Freed and the frame that it showed Dirty, or the refusal; it is told whether the page has a claim.
 pub fn unmap(v: u16, pages: &mut [u16], frames: &mut [u8], page: VirtualPage, claimed: bool) -> u8
-    ensures by_index { (f : ℕ) → result ≡ first (unmapReasons (layerOf v f pages.old frames.old) page claimed) }
-    ensures pages_after { pages.new ≡ pick (eqb result 0) (set pages.old page.0 (pageCode Freed)) pages.old }
-    ensures frames_after { frames.new ≡ pick (eqb result 0) (set frames.old (frameNumber (pageFrom (get_or pages.old page.0 0))) (frameCode Dirty)) frames.old }
+    ensures by_index { (f : ℕ) → result ≡ first (unmap_reasons (layer_of v f pages.old frames.old) page claimed) }
+    ensures pages_after { pages.new ≡ pick (eqb result 0) (set pages.old page.0 (page_code Freed)) pages.old }
+    ensures frames_after { frames.new ≡ pick (eqb result 0) (set frames.old (frame_number (page_from (get_or pages.old page.0 0))) (frame_code Dirty)) frames.old }
 {
     let code = unmap_code(v, &pages[..], page, claimed);
     if code != 0 {
@@ -182,7 +182,7 @@ pub fn unmap(v: u16, pages: &mut [u16], frames: &mut [u8], page: VirtualPage, cl
 }
 
 fn zero_code(f: u16, frames: &[u8], frame: Frame, cells: usize, tags: usize) -> u8
-    ensures { (v : ℕ) (pages : List ℕ) → result ≡ first (zeroReasons (layerOf v f pages frames.now) frame cells tags) }
+    ensures { (v : ℕ) (pages : List ℕ) → result ≡ first (zero_reasons (layer_of v f pages frames.now) frame cells tags) }
 {
     let size = 16 * (f as usize);
     let served = (cells == size) & (tags == size);
@@ -196,8 +196,8 @@ fn zero_code(f: u16, frames: &[u8], frame: Frame, cells: usize, tags: usize) -> 
 
 // 0A: the frame's cells and tags are 0 and the frame is Free, or the refusal.
 pub fn zero(f: u16, frames: &mut [u8], frame: Frame, cells: &mut [u64], tags: &mut [u8]) -> u8
-    ensures by_index { (v : ℕ) (pages : List ℕ) → result ≡ first (zeroReasons (layerOf v f pages frames.old) frame (length cells.old) (length tags.old)) }
-    ensures frames_after { frames.new ≡ pick (eqb result 0) (set frames.old frame.0 (frameCode Free)) frames.old }
+    ensures by_index { (v : ℕ) (pages : List ℕ) → result ≡ first (zero_reasons (layer_of v f pages frames.old) frame (length cells.old) (length tags.old)) }
+    ensures frames_after { frames.new ≡ pick (eqb result 0) (set frames.old frame.0 (frame_code Free)) frames.old }
     ensures cells_after { cells.new ≡ pick (eqb result 0) (cleared frame cells.old) cells.old }
     ensures tags_after { tags.new ≡ pick (eqb result 0) (cleared frame tags.old) tags.old }
 {
@@ -221,7 +221,7 @@ fn lesser(a: usize, b: usize) -> usize
 }
 
 fn shows(code: u16) -> bool
-    ensures { result ≡ isMapped (pageFrom code) }
+    ensures { result ≡ is_mapped (page_from code) }
 {
     1 < code
 }
@@ -243,7 +243,7 @@ fn end_page(range: Range, count: usize) -> usize
 
 // Whether a page of the range is Mapped.
 pub fn any_mapped(pages: &[u16], range: Range) -> bool
-    ensures { (v f : ℕ) (frames : List ℕ) → result ≡ anyMapped (layerOf v f pages.now frames) range }
+    ensures { (v f : ℕ) (frames : List ℕ) → result ≡ any_mapped (layer_of v f pages.now frames) range }
 {
     let upto = end_page(range, pages.len());
     let mut any = false;
@@ -256,14 +256,14 @@ pub fn any_mapped(pages: &[u16], range: Range) -> bool
 }
 
 fn is_freed(code: u16) -> bool
-    ensures { result ≡ isFreed (pageFrom code) }
+    ensures { result ≡ is_freed (page_from code) }
 {
     code == 1
 }
 
 // Whether all pages of the range are Freed.
 pub fn all_freed(pages: &[u16], range: Range) -> bool
-    ensures { (v f : ℕ) (frames : List ℕ) → result ≡ allFreed (layerOf v f pages.now frames) range }
+    ensures { (v f : ℕ) (frames : List ℕ) → result ≡ all_freed (layer_of v f pages.now frames) range }
 {
     let upto = end_page(range, pages.len());
     let mut all = true;
@@ -276,15 +276,15 @@ pub fn all_freed(pages: &[u16], range: Range) -> bool
 }
 
 fn freed(code: u16) -> u16
-    ensures { result ≡ pick (is_unmapped (pageFrom code)) (pageCode Freed) code }
+    ensures { result ≡ pick (is_unmapped (page_from code)) (page_code Freed) code }
 {
     if code == 0 { 1 } else { code }
 }
 
 // 05: the Unmapped pages of the range become Freed.
 pub fn free(pages: &mut [u16], range: Range)
-    ensures pages_after { pages.new ≡ freedNumbers range pages.old }
-    ensures by_index { (v f : ℕ) (frames : List ℕ) → layerOf v f pages.new frames ≡ freedOf (layerOf v f pages.old frames) range }
+    ensures pages_after { pages.new ≡ freed_numbers range pages.old }
+    ensures by_index { (v f : ℕ) (frames : List ℕ) → layer_of v f pages.new frames ≡ freed_of (layer_of v f pages.old frames) range }
 {
     let upto = end_page(range, pages.len());
     let mut p = first_page(range);
@@ -296,8 +296,8 @@ pub fn free(pages: &mut [u16], range: Range)
 
 // 07: the pages of the range become Unmapped.
 pub fn release(pages: &mut [u16], range: Range)
-    ensures pages_after { pages.new ≡ releasedNumbers range pages.old }
-    ensures by_index { (v f : ℕ) (frames : List ℕ) → layerOf v f pages.new frames ≡ releasedOf (layerOf v f pages.old frames) range }
+    ensures pages_after { pages.new ≡ released_numbers range pages.old }
+    ensures by_index { (v f : ℕ) (frames : List ℕ) → layer_of v f pages.new frames ≡ released_of (layer_of v f pages.old frames) range }
 {
     let upto = end_page(range, pages.len());
     let mut p = first_page(range);

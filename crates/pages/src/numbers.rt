@@ -1,12 +1,12 @@
 // How pages and frames lie in memory: one number an entry.
 ghost use Rattle.std.specs.Prelude.{◌≡◌};
-ghost use Rattle.pages.specs.Numbers.{pageFrom, frameFrom};
+ghost use Rattle.pages.specs.Numbers.{page_from, frame_from};
 
 use crate::{Frame, FrameState, PageState};
 
 // The state that a page's number reads as.
 pub fn page_from(code: u16) -> PageState
-    ensures { result ≡ pageFrom code }
+    ensures { result ≡ page_from code }
 {
     if code == 0 {
         return PageState::Unmapped;
@@ -19,7 +19,7 @@ pub fn page_from(code: u16) -> PageState
 
 // The state that a frame's number reads as.
 pub fn frame_from(code: u8) -> FrameState
-    ensures { result ≡ frameFrom code }
+    ensures { result ≡ frame_from code }
 {
     if code == 0 {
         return FrameState::Dirty;

@@ -2,13 +2,13 @@
 ghost use Rattle.std.specs.Prelude.{◌≤◌, true, ◌&&◌, ◌≡◌, map, leb, eqb, length, replicate};
 ghost use Rattle.capabilities.specs.Lists.{pick, each};
 ghost use Rattle.pages.specs.Layer.{Tally};
-ghost use Rattle.pages.specs.Numbers.{pageIn, layerSound};
-ghost use Rattle.pages.specs.Sound.{isUnused, showsBelow, isCounted};
+ghost use Rattle.pages.specs.Numbers.{page_in, layer_sound};
+ghost use Rattle.pages.specs.Sound.{is_unused, shows_below, is_counted};
 
 use crate::layer::in_range;
 
 fn pages_unused(pages: &[u16]) -> bool
-    ensures { result ≡ each isUnused 0 pages.now }
+    ensures { result ≡ each is_unused 0 pages.now }
 {
     let mut unused = true;
     let mut p: usize = 0;
@@ -20,7 +20,7 @@ fn pages_unused(pages: &[u16]) -> bool
 }
 
 fn frames_unused(frames: &[u8]) -> bool
-    ensures { result ≡ each isUnused 0 frames.now }
+    ensures { result ≡ each is_unused 0 frames.now }
 {
     let mut unused = true;
     let mut k: usize = 0;
@@ -36,8 +36,8 @@ fn counts(f: u16, pages: &[u16], tally: &mut [u16; 128]) -> bool
     requires f_bound { f ≤ 128 }
     requires pages_len_bound { length pages.now ≤ 256 }
     requires tally_value { tally.old ≡ replicate 128 0 }
-    ensures value { result ≡ each (showsBelow f) 0 pages.now }
-    ensures tally { result ≡ true → Tally tally.new (map pageIn pages.now) }
+    ensures value { result ≡ each (shows_below f) 0 pages.now }
+    ensures tally { result ≡ true → Tally tally.new (map page_in pages.now) }
 {
     let limit = f + 2;
     let mut p: usize = 0;
@@ -64,7 +64,7 @@ fn frame_counted(shown: u16, code: u8) -> bool
 // Whether each frame is Mapped if one page shows it, and else shown by none.
 fn frames_counted(frames: &[u8], tally: &[u16; 128]) -> bool
     requires { length frames.now ≤ 128 }
-    ensures { result ≡ each (isCounted tally.now) 0 frames.now }
+    ensures { result ≡ each (is_counted tally.now) 0 frames.now }
 {
     let mut sound = true;
     let mut k: usize = 0;
@@ -78,7 +78,7 @@ fn frames_counted(frames: &[u8], tally: &[u16; 128]) -> bool
 
 // The page layer's part of "A state is well formed", on numbers.
 pub fn layer_sound(v: u16, f: u16, pages: &[u16], frames: &[u8]) -> bool
-    ensures { result ≡ layerSound v f pages.now frames.now }
+    ensures { result ≡ layer_sound v f pages.now frames.now }
 {
     let sized = (pages.len() == 256) & (frames.len() == 128);
     if !(in_range(v, f) & sized) {

@@ -11,38 +11,38 @@ use Rattle.capabilities.specs.Lists.{pick}
 use Rattle.capabilities.proofs.Choice.{and_right}
 use Rattle.pages.specs.Layer.{in_range}
 use Rattle.machine.specs.State.{State}
-use Rattle.machine.specs.Formed.{wellFormed, fresh, start_of}
-use Rattle.machine.specs.Command.{ran, commandOf}
-use Rattle.machine.proofs.Keeps.{start-formed}
+use Rattle.machine.specs.Formed.{well_formed, fresh, start_of}
+use Rattle.machine.specs.Command.{ran, command_of}
+use Rattle.machine.proofs.Keeps.{start_formed}
 use Rattle.arrays.specs.declared.Arrays.{Arrays}
 use Rattle.arrays.specs.declared.Answer.{Answer}
 use Rattle.arrays.specs.declared.Numbers.{Numbers}
-use Rattle.arrays.specs.Reading.{arrays, state_of, arraysOf, Formed}
+use Rattle.arrays.specs.Reading.{arrays, state_of, arrays_of, Formed}
 use Rattle.arrays.specs.Steps.{leaving}
-use Rattle.arrays.proofs.RoundTrip.{state-back-again, written-formed}
-use Rattle.arrays.proofs.Starting.{firstNumber, rootNumber, fresh_in}
-use Rattle.lines.specs.Laid.{Laid, laidIn}
+use Rattle.arrays.proofs.RoundTrip.{state_back_again, written_formed}
+use Rattle.arrays.proofs.Starting.{first_number, root_number, fresh_in}
+use Rattle.lines.specs.Laid.{Laid, laid_in}
 use Rattle.lines.specs.Lines.{line_of}
-use Rattle.lines.proofs.Laying.{laid_in}
-use Rattle.session_rules.specs.Session.{endsSession, zeroed, lines_from}
+use Rattle.lines.proofs.Laying.{laid_in_lem}
+use Rattle.session_rules.specs.Session.{ends_session, zeroed, lines_from}
 use Rattle.session_rules.proofs.Sessions as sessions
-use Rattle.session_rules.proofs.Sessions.{Going, going-none, going-all, goes_on, take-zeroed}
-use Rattle.step.specs.Entries.{ranOn, commandJudgedOn}
-use Rattle.step.proofs.Running.{Kept, kept, commanded, ran-formed, ran_on, ran-sized}
+use Rattle.session_rules.proofs.Sessions.{Going, going_none, going_all, goes_on_lem, take_zeroed}
+use Rattle.step.specs.Entries.{ran_on, command_judged_on}
+use Rattle.step.proofs.Running.{Kept, kept, commanded, ran_formed, ran_on_lem, ran_sized}
 
 -- How far a session on arrays has come.
 pub record Arriving (input : List ℕ) (a₀ : Arrays) (cells₀ tags₀ out₀ : List ℕ) (begin : ℕ) (a : Arrays) (cells tags out : List ℕ) (at end : ℕ) : Type 0 where
   pub first : Formed a₀
   pub formed : Formed a
   pub fits : (length cells ≡ 16 * a.nums.f) × (length tags ≡ 16 * a.nums.f)
-  pub of-cells : length cells ≡ length cells₀
-  pub of-tags : length tags ≡ length tags₀
+  pub of_cells : length cells ≡ length cells₀
+  pub of_tags : length tags ≡ length tags₀
   pub going : Going input (state_of a₀) cells₀ tags₀ out₀ begin cells tags out (state_of a) at end
 
 pub arriving : (input : List ℕ) (a : Arrays) (cells tags out : List ℕ) (begin : ℕ) → Formed a → (length cells ≡ 16 * a.nums.f) × (length tags ≡ 16 * a.nums.f)
     → 3 ≤ length input → begin ≤ 26 → Arriving input a cells tags out begin a cells tags out 3 begin
 arriving input a cells tags out begin f m h b =
-    record { first = f; formed = f; fits = m; of-cells = refl; of-tags = refl; going = going-none input (state_of a) cells tags out begin f.well h b }
+    record { first = f; formed = f; fits = m; of_cells = refl; of_tags = refl; going = going_none input (state_of a) cells tags out begin f.well h b }
 
 module _ {input : List ℕ} {a₀ : Arrays} {cells₀ tags₀ out₀ : List ℕ} {begin : ℕ} {a : Arrays} {cells tags out : List ℕ} {at end : ℕ}
     (v : Arriving input a₀ cells₀ tags₀ out₀ begin a cells tags out at end) where
@@ -50,96 +50,96 @@ module _ {input : List ℕ} {a₀ : Arrays} {cells₀ tags₀ out₀ : List ℕ}
   g = v.going
 
   pub arrived : length input ≤ at → Laid (lines_from (length input) (state_of a₀) input 3 cells₀ tags₀) begin out₀ end out × (end ≤ 13 * length input)
-  arrived h = (going-all input (state_of a₀) cells₀ tags₀ out₀ begin cells tags out (state_of a) at end g h, omega (arith, g.room, g.within))
+  arrived h = (going_all input (state_of a₀) cells₀ tags₀ out₀ begin cells tags out (state_of a) at end g h, omega (arith, g.room, g.within))
 
   pub near : length input ≤ 32768 → end < 4294967296
   near h = omega (arith, g.room, g.within)
 
   -- One turn of the loop.
   module _ (more : at < length input) {r : Answer} {a' : Arrays} {cells' tags' : List ℕ} {n : ℕ}
-      (e : ranOn (leaving r a' cells' tags') n ≡ commandJudgedOn a input at cells tags)
+      (e : ran_on (leaving r a' cells' tags') n ≡ command_judged_on a input at cells tags)
       {end₁ : ℕ} {out₁ : List ℕ} (ends : end₁ ≡ end + length (line_of r.code r.number r.tag))
-      (lies : out₁ ≡ laidIn (line_of r.code r.number r.tag) end out) (short : r.code < 100 → end₁ ≤ end + 26) where
+      (lies : out₁ ≡ laid_in (line_of r.code r.number r.tag) end out) (short : r.code < 100 → end₁ ≤ end + 26) where
     put : Laid (line_of r.code r.number r.tag) end out end₁ out₁
-    put = laid_in (line_of r.code r.number r.tag) end end₁ out ends lies
+    put = laid_in_lem (line_of r.code r.number r.tag) end end₁ out ends lies
 
-    abbrev on : ran (commanded r a' n) cells' tags' ≡ commandOf (state_of a) input at cells tags
-    on = ran_on a v.formed input at cells tags r a' cells' tags' n e
+    abbrev on : ran (commanded r a' n) cells' tags' ≡ command_of (state_of a) input at cells tags
+    on = ran_on_lem a v.formed input at cells tags r a' cells' tags' n e
 
-    pub turn_stopped : endsSession r.code ≡ true → Laid (lines_from (length input) (state_of a₀) input 3 cells₀ tags₀) begin out₀ end₁ out₁ × (end₁ ≤ 13 * length input)
+    pub turn_stopped : ends_session r.code ≡ true → Laid (lines_from (length input) (state_of a₀) input 3 cells₀ tags₀) begin out₀ end₁ out₁ × (end₁ ≤ 13 * length input)
     turn_stopped z = (
       sessions.stopped input (state_of a₀) cells₀ tags₀ out₀ begin cells tags out (state_of a) at end g more (commanded r a' n) cells' tags' on end₁ out₁ put short z,
       sessions.bounded input (state_of a₀) cells₀ tags₀ out₀ begin cells tags out (state_of a) at end g more (commanded r a' n) cells' tags' on end₁ out₁ put short,
     )
 
-    pub turn-within : at + n ≤ length input
-    turn-within = sessions.used-within input (state_of a₀) cells₀ tags₀ out₀ begin cells tags out (state_of a) at end g more (commanded r a' n) cells' tags' on end₁ out₁ put short
+    pub turn_within : at + n ≤ length input
+    turn_within = sessions.used_within input (state_of a₀) cells₀ tags₀ out₀ begin cells tags out (state_of a) at end g more (commanded r a' n) cells' tags' on end₁ out₁ put short
 
-    pub turn-some : endsSession r.code ≡ false → 2 ≤ n
-    turn-some z = sessions.used-some input (state_of a₀) cells₀ tags₀ out₀ begin cells tags out (state_of a) at end g more (commanded r a' n) cells' tags' on end₁ out₁ put short z
+    pub turn_some : ends_session r.code ≡ false → 2 ≤ n
+    turn_some z = sessions.used_some input (state_of a₀) cells₀ tags₀ out₀ begin cells tags out (state_of a) at end g more (commanded r a' n) cells' tags' on end₁ out₁ put short z
 
     cells_same : length cells' ≡ length cells
-    cells_same = sessions.cells-kept input (state_of a₀) cells₀ tags₀ out₀ begin cells tags out (state_of a) at end g more (commanded r a' n) cells' tags' on end₁ out₁ put short
+    cells_same = sessions.cells_kept input (state_of a₀) cells₀ tags₀ out₀ begin cells tags out (state_of a) at end g more (commanded r a' n) cells' tags' on end₁ out₁ put short
 
-    tags-same : length tags' ≡ length tags
-    tags-same = sessions.tags-kept input (state_of a₀) cells₀ tags₀ out₀ begin cells tags out (state_of a) at end g more (commanded r a' n) cells' tags' on end₁ out₁ put short
+    tags_same : length tags' ≡ length tags
+    tags_same = sessions.tags_kept input (state_of a₀) cells₀ tags₀ out₀ begin cells tags out (state_of a) at end g more (commanded r a' n) cells' tags' on end₁ out₁ put short
 
-    abbrev f-same : a'.nums.f ≡ a.nums.f
-    f-same = ran-sized a v.formed input at cells tags r a' cells' tags' n e
+    abbrev f_same : a'.nums.f ≡ a.nums.f
+    f_same = ran_sized a v.formed input at cells tags r a' cells' tags' n e
 
-    pub turn-kept : Kept a₀ a'
-    turn-kept = kept v.first (ran-formed a v.formed input at cells tags r a' cells' tags' n e)
+    pub turn_kept : Kept a₀ a'
+    turn_kept = kept v.first (ran_formed a v.formed input at cells tags r a' cells' tags' n e)
 
-    pub turn-cells : length cells' ≡ length cells₀
-    turn-cells = cells_same ∙ v.of-cells
+    pub turn_cells : length cells' ≡ length cells₀
+    turn_cells = cells_same ∙ v.of_cells
 
-    pub turn-tags : length tags' ≡ length tags₀
-    turn-tags = tags-same ∙ v.of-tags
+    pub turn_tags : length tags' ≡ length tags₀
+    turn_tags = tags_same ∙ v.of_tags
 
-    pub turn-out : length out₁ ≡ length out₀
-    turn-out = put.size ∙ g.laid.size
+    pub turn_out : length out₁ ≡ length out₀
+    turn_out = put.size ∙ g.laid.size
 
-    pub turn_on : endsSession r.code ≡ false → Arriving input a₀ cells₀ tags₀ out₀ begin a' cells' tags' out₁ (at + n) end₁
+    pub turn_on : ends_session r.code ≡ false → Arriving input a₀ cells₀ tags₀ out₀ begin a' cells' tags' out₁ (at + n) end₁
     turn_on z = record {
       first = v.first;
-      formed = ran-formed a v.formed input at cells tags r a' cells' tags' n e;
-      fits = (cells_same ∙ v.fits.0 ∙ ap (λ (x : ℕ). 16 * x) (sym f-same), tags-same ∙ v.fits.1 ∙ ap (λ (x : ℕ). 16 * x) (sym f-same));
-      of-cells = turn-cells;
-      of-tags = turn-tags;
-      going = goes_on input (state_of a₀) cells₀ tags₀ out₀ begin cells tags out (state_of a) at end g more (commanded r a' n) cells' tags' on end₁ out₁ put short z;
+      formed = ran_formed a v.formed input at cells tags r a' cells' tags' n e;
+      fits = (cells_same ∙ v.fits.0 ∙ ap (λ (x : ℕ). 16 * x) (sym f_same), tags_same ∙ v.fits.1 ∙ ap (λ (x : ℕ). 16 * x) (sym f_same));
+      of_cells = turn_cells;
+      of_tags = turn_tags;
+      going = goes_on_lem input (state_of a₀) cells₀ tags₀ out₀ begin cells tags out (state_of a) at end g more (commanded r a' n) cells' tags' on end₁ out₁ put short z;
     }
 
 -- The arrays of a start that is granted.
 module _ (v f : ℕ) (e : in_range v f ≡ true) where
-  abbrev first-arrays : Numbers → Arrays
-  first-arrays n =
-      arrays n (replicate 64 0) (replicate 64 0) (replicate 8 0) (replicate 8 0) (set (replicate 64 0) 0 (firstNumber v)) (replicate 256 0) (replicate 128 0)
-      (set (replicate 32 0) 0 rootNumber) (replicate 8192 0)
+  abbrev first_arrays : Numbers → Arrays
+  first_arrays n =
+      arrays n (replicate 64 0) (replicate 64 0) (replicate 8 0) (replicate 8 0) (set (replicate 64 0) 0 (first_number v)) (replicate 256 0) (replicate 128 0)
+      (set (replicate 32 0) 0 root_number) (replicate 8192 0)
 
-  fresh-well : wellFormed (fresh v f) ≡ true
+  fresh_well : well_formed (fresh v f) ≡ true
   unfolding start_of
-  fresh-well = start-formed v f (ap (λ (b : Bool). pick b 0 1) e)
+  fresh_well = start_formed v f (ap (λ (b : Bool). pick b 0 1) e)
 
-  pub frames-most : 16 * f ≤ 2048
-  frames-most = let small : f ≤ 128 = leb-true f 128 (and_right (ltb 0 f) (leb f 128) (and_right (ltb 0 v && leb v 256) (ltb 0 f && leb f 128) e)) in omega (arith, small)
+  pub frames_most : 16 * f ≤ 2048
+  frames_most = let small : f ≤ 128 = leb-true f 128 (and_right (ltb 0 f) (leb f 128) (and_right (ltb 0 v && leb v 256) (ltb 0 f && leb f 128) e)) in omega (arith, small)
 
-  pub lent-zeroed : take {A = ℕ} (16 * f) (replicate 2048 0) ≡ zeroed f
-  lent-zeroed = take-zeroed (16 * f) 2048 frames-most
+  pub lent_zeroed : take {A = ℕ} (16 * f) (replicate 2048 0) ≡ zeroed f
+  lent_zeroed = take_zeroed (16 * f) 2048 frames_most
 
   -- Their small numbers are a start's.
   module _ (n : Numbers) (own : n ≡ record { v = v; f = f; count = 1; place = 0; base = 0; length = 0 }) where
-    written : arraysOf (fresh v f) ≡ first-arrays n
-    written = fresh_in v f e ∙ ap (λ (x : Numbers). first-arrays x) (sym own)
+    written : arrays_of (fresh v f) ≡ first_arrays n
+    written = fresh_in v f e ∙ ap (λ (x : Numbers). first_arrays x) (sym own)
 
-    pub begun-formed : Formed (first-arrays n)
-    begun-formed = subst Formed written (written-formed (fresh v f) fresh-well)
+    pub begun_formed : Formed (first_arrays n)
+    begun_formed = subst Formed written (written_formed (fresh v f) fresh_well)
 
-    begun-state : state_of (first-arrays n) ≡ fresh v f
-    begun-state = ap state_of (sym written) ∙ state-back-again (fresh v f) fresh-well
+    begun_state : state_of (first_arrays n) ≡ fresh v f
+    begun_state = ap state_of (sym written) ∙ state_back_again (fresh v f) fresh_well
 
     pub begun_lines : (input : List ℕ) (begin : ℕ) (out : List ℕ) (end : ℕ) (out₁ : List ℕ)
-        → Laid (lines_from (length input) (state_of (first-arrays n)) input 3 (take (16 * f) (replicate 2048 0)) (take (16 * f) (replicate 2048 0))) begin out end out₁
+        → Laid (lines_from (length input) (state_of (first_arrays n)) input 3 (take (16 * f) (replicate 2048 0)) (take (16 * f) (replicate 2048 0))) begin out end out₁
         → Laid (lines_from (length input) (fresh v f) input 3 (zeroed f) (zeroed f)) begin out end out₁
     begun_lines input begin out end out₁ put =
-        subst (λ (x : List ℕ). Laid (lines_from (length input) (fresh v f) input 3 x x) begin out end out₁) lent-zeroed
-        (subst (λ (s : State). Laid (lines_from (length input) s input 3 (take (16 * f) (replicate 2048 0)) (take (16 * f) (replicate 2048 0))) begin out end out₁) begun-state put)
+        subst (λ (x : List ℕ). Laid (lines_from (length input) (fresh v f) input 3 x x) begin out end out₁) lent_zeroed
+        (subst (λ (s : State). Laid (lines_from (length input) s input 3 (take (16 * f) (replicate 2048 0)) (take (16 * f) (replicate 2048 0))) begin out end out₁) begun_state put)

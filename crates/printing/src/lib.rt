@@ -1,6 +1,6 @@
 // The lines of a session, put into a lent buffer if they fit. The state is tested at every command, or not: the lines are the same.
 ghost use Rattle.std.specs.Prelude.{◌≡◌};
-ghost use Rattle.session_rules.specs.Session.{lines_of, printed, printOf};
+ghost use Rattle.session_rules.specs.Session.{lines_of, printed, print_of};
 
 use crate::session::{lines, looked_at};
 
@@ -8,7 +8,7 @@ mod session;
 
 // Counts the lines first, and puts them into the buffer if they fit.
 fn print_counted(checked: bool, input: &[u8], out: &mut [u8]) -> usize
-    ensures { printed result out.new ≡ printOf (lines_of input.now) out.old }
+    ensures { printed result out.new ≡ print_of (lines_of input.now) out.old }
 {
     let mut none = [0u8; 1];
     let len = lines(checked, input, &mut none);
@@ -21,7 +21,7 @@ fn print_counted(checked: bool, input: &[u8], out: &mut [u8]) -> usize
 // Puts the lines first in the buffer, and answers how long they are; 0 with nothing written if they do not fit. They are counted
 // first only if the buffer could be too short. With `checked` the state is tested at every command.
 pub fn print(checked: bool, input: &[u8], out: &mut [u8]) -> usize
-    ensures { printed result out.new ≡ printOf (lines_of input.now) out.old }
+    ensures { printed result out.new ≡ print_of (lines_of input.now) out.old }
 {
     if out.len() < 6 {
         return print_counted(checked, input, out);

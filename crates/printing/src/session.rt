@@ -6,7 +6,7 @@ ghost use Rattle.arrays.specs.Reading.{arrays, state_of, Formed};
 ghost use Rattle.arrays.specs.Steps.{leaving};
 ghost use Rattle.lines.specs.Laid.{Laid};
 ghost use Rattle.session_rules.specs.Session.{zeroed, lines_from, lines_read, lines_of, Spared};
-ghost use Rattle.step.specs.Entries.{ranOn, commandJudgedOn};
+ghost use Rattle.step.specs.Entries.{ran_on, command_judged_on};
 
 use arrays::Numbers;
 use calls_in_place::word_calls::coded;
@@ -39,7 +39,7 @@ fn one(
 ) -> Ended
     requires formed { Formed (arrays nums words.old marks.old mail.old flags.old rows.old pages.old frames.old principals.old counts.old) }
     requires cells_len { (length cells.old ≡ 16 * nums.f) × (length tags.old ≡ 16 * nums.f) }
-    ensures { ranOn (leaving result.answer (arrays result.nums words.new marks.new mail.new flags.new rows.new pages.new frames.new principals.new counts.new) cells.new tags.new) result.used ≡ commandJudgedOn (arrays nums words.old marks.old mail.old flags.old rows.old pages.old frames.old principals.old counts.old) input.now at cells.old tags.old }
+    ensures { ran_on (leaving result.answer (arrays result.nums words.new marks.new mail.new flags.new rows.new pages.new frames.new principals.new counts.new) cells.new tags.new) result.used ≡ command_judged_on (arrays nums words.old marks.old mail.old flags.old rows.old pages.old frames.old principals.old counts.old) input.now at cells.old tags.old }
 {
     if checked {
         if !formed(

@@ -7,27 +7,27 @@ use Rattle.capabilities.specs.Lists.{pick}
 use Rattle.capabilities.specs.Range.{inside}
 use Rattle.pages.specs.declared.Place.{Place}
 use Rattle.pages.specs.declared.Place.TheVariants.{At, Nowhere}
-use Rattle.pages.specs.Mapping.{lookupOf}
+use Rattle.pages.specs.Mapping.{lookup_of}
 use Rattle.table.specs.Table.{Table}
-use Rattle.table.specs.Find.{findOf, rowOf}
+use Rattle.table.specs.Find.{find_of, row_of}
 use Rattle.table.specs.Rows.{range_of}
 use Rattle.reservations.specs.Revocation.{revoked}
 use Rattle.calls.specs.declared.Call.{Call}
 use Rattle.words.specs.declared.Slot.{Slot}
-use Rattle.words.specs.Words.{empty, named, registerOf, mailboxOf, word_at, stored}
+use Rattle.words.specs.Words.{empty, named, register_of, mailbox_of, word_at, stored}
 use Rattle.machine.specs.State.{Answered}
 use Rattle.machine.specs.State.{State}
-use Rattle.machine.specs.Roles.{Role, takes, collects, fills, stores, grants, receives, plain, roleOf, callerOf}
+use Rattle.machine.specs.Roles.{Role, takes, collects, fills, stores, grants, receives, plain, role_of, caller_of}
 use Rattle.machine.specs.Reasons.{reads}
 use Rattle.histories.specs.Runs.{Machine, outcome, next, granted}
 
 -- The call is the house's.
 abbrev pub housed : ℕ → Call → Bool
-housed house c = eqb (callerOf c) house
+housed house c = eqb (caller_of c) house
 
 -- "Its range is the cells of the reservation in one of its granted takes": of the one that the house holds and that begins at base.
-unfoldable pub takenRange : Table → ℕ → ℕ → Range
-takenRange t house base = range_of (rowOf t (findOf t house base))
+unfoldable pub taken_range : Table → ℕ → ℕ → Range
+taken_range t house base = range_of (row_of t (find_of t house base))
 
 -- "Its time begins after that take" and lasts, with its range; then it is over.
 pub data Time : Type 0 where
@@ -47,38 +47,38 @@ collecting (grants x to) = false
 collecting (receives d) = false
 collecting plain = false
 
-abbrev pub isCollect : Call → Bool
-isCollect c = collecting (roleOf c).role
+abbrev pub is_collect : Call → Bool
+is_collect c = collecting (role_of c).role
 
 -- "It ends with the first granted collect after that take of a revocation whose range contains all of the house's range".
 unfoldable pub ending : Range → Machine → Call → Bool
-ending r m c = (isCollect c && granted m c) && contains (revoked m.state.core) r
+ending r m c = (is_collect c && granted m c) && contains (revoked m.state.core) r
 
 unfoldable pub until : Time → Machine → Call → Time
 until (lasting r) m c = pick (ending r m c) over (lasting r)
 until over m c = over
 
 -- ".. or with the list if none comes": the time after a list of calls.
-unfoldable pub timeAfter : Time → Machine → List Call → Time
-timeAfter t m [] = t
-timeAfter t m (c ∷ l) = timeAfter (until t m c) (next m c) l
+unfoldable pub time_after : Time → Machine → List Call → Time
+time_after t m [] = t
+time_after t m (c ∷ l) = time_after (until t m c) (next m c) l
 
 -- "A capability is into the range if one of its cells, base to base + length − 1, lies there": neither is empty, and each
--- begins before the other ends. (The law `into-cell` says it by a cell.)
+-- begins before the other ends. (The law `into_cell` says it by a cell.)
 unfoldable pub into : Range → ℕ → Bool
 into r c =
     (ltb 0 (length_of c) && ltb 0 r.length) && (ltb (base_of c) (r.base + r.length) && ltb r.base (base_of c + length_of c))
 
 -- A word is a capability into the range.
-abbrev pub capabilityInto : Range → Slot → Bool
-capabilityInto r w = w.tag && into r w.cell
+abbrev pub capability_into : Range → Slot → Bool
+capability_into r w = w.tag && into r w.cell
 
 -- "A store, granted or refused, is aimed into the range if its a holds a capability into the range, or if the cell at
 -- base + off lies there, base being bits 0 to 15 of a, tagged or not." One whose party or a is above 7 has no a.
 unfoldable pub aimed : Range → State → ℕ → ℕ → ℕ → Bool
 aimed r s p a off =
-    let w = registerOf s.registers p a in
-    (named p && named a) && (capabilityInto r w || inside r (base_of w.cell + off))
+    let w = register_of s.registers p a in
+    (named p && named a) && (capability_into r w || inside r (base_of w.cell + off))
 
 -- "The house's loads, narrows, numbers and aimed stores": those of a party p by their role.
 abbrev pub strikes : Range → State → ℕ → Role → Bool
@@ -91,7 +91,7 @@ strikes r s p (receives d) = false
 strikes r s p plain = false
 
 abbrev pub private : Range → State → Call → Bool
-private r s c = strikes r s (callerOf c) (roleOf c).role
+private r s c = strikes r s (caller_of c) (role_of c).role
 
 -- "Strike from each list the house's loads, narrows, numbers and aimed stores in its time."
 unfoldable pub struck : ℕ → Time → Machine → Call → Bool
@@ -126,19 +126,19 @@ left house t m (c ∷ l) =
 
 -- A call of party p "grants a capability into the range or stores one to a cell outside", by its role. What the filter strips
 -- of its tag is none.
-abbrev pub handsOut : Range → State → ℕ → Role → Bool
-handsOut r s p (takes base reg permissions) = false
-handsOut r s p collects = false
-handsOut r s p (fills from d) = false
-handsOut r s p (stores a off x) =
-    capabilityInto r (stored s.core (registerOf s.registers p x))
-    && not (inside r (base_of (registerOf s.registers p a).cell + off))
-handsOut r s p (grants x to) = capabilityInto r (registerOf s.registers p x)
-handsOut r s p (receives d) = false
-handsOut r s p plain = false
+abbrev pub hands_out : Range → State → ℕ → Role → Bool
+hands_out r s p (takes base reg permissions) = false
+hands_out r s p collects = false
+hands_out r s p (fills from d) = false
+hands_out r s p (stores a off x) =
+    capability_into r (stored s.core (register_of s.registers p x))
+    && not (inside r (base_of (register_of s.registers p a).cell + off))
+hands_out r s p (grants x to) = capability_into r (register_of s.registers p x)
+hands_out r s p (receives d) = false
+hands_out r s p plain = false
 
 abbrev pub betrays : Range → State → Call → Bool
-betrays r s c = handsOut r s (callerOf c) (roleOf c).role
+betrays r s c = hands_out r s (caller_of c) (role_of c).role
 
 -- A granted one of the house's calls, in its time, that is left and betrays.
 unfoldable pub indiscreet : ℕ → Time → Machine → Call → Bool
@@ -172,12 +172,12 @@ pub data Sight : Type 0 where
   dark : Sight
   shown : Slot → Sight
 
-abbrev pub sightAt : Place → List ℕ → List ℕ → Sight
-sightAt Nowhere cells tags = dark
-sightAt (At at) cells tags = shown (word_at cells tags at)
+abbrev pub sight_at : Place → List ℕ → List ℕ → Sight
+sight_at Nowhere cells tags = dark
+sight_at (At at) cells tags = shown (word_at cells tags at)
 
 unfoldable pub sight : Machine → ℕ → Sight
-sight m v = sightAt (lookupOf m.state.core.pages v) m.cells m.tags
+sight m v = sight_at (lookup_of m.state.core.pages v) m.cells m.tags
 
 -- The cells that are not compared: those in the range, while the time lasts.
 unfoldable pub hidden : Time → ℕ → Bool
@@ -185,13 +185,13 @@ hidden (lasting r) v = inside r v
 hidden over v = false
 
 -- Document 02, 2026-04: who took each of the table's reservations.
-abbrev pub takersIn : Machine → List ℕ
-takersIn m = map (λ r. r.taker) m.state.core.table.rows
+abbrev pub takers_in : Machine → List ℕ
+takers_in m = map (λ r. r.taker) m.state.core.table.rows
 
 -- "Compared after both lists are: .. the registers and mailbox of each other party; which cells outside the range lie in
 -- Mapped pages, with number and tag; and, if the collect came, the same inside the range." By document 02, "takers are equal too".
 pub record Alike (house : ℕ) (t : Time) (g h : Machine) : Type 0 where
-  pub registers : (p r : ℕ) → (p ≡ house → ⊥) → registerOf g.state.registers p r ≡ registerOf h.state.registers p r
-  pub mailboxes : (p : ℕ) → (p ≡ house → ⊥) → mailboxOf g.state.mailboxes p ≡ mailboxOf h.state.mailboxes p
+  pub registers : (p r : ℕ) → (p ≡ house → ⊥) → register_of g.state.registers p r ≡ register_of h.state.registers p r
+  pub mailboxes : (p : ℕ) → (p ≡ house → ⊥) → mailbox_of g.state.mailboxes p ≡ mailbox_of h.state.mailboxes p
   pub cells : (v : ℕ) → hidden t v ≡ false → sight g v ≡ sight h v
-  pub takers : takersIn g ≡ takersIn h
+  pub takers : takers_in g ≡ takers_in h

@@ -17,60 +17,60 @@ use Rattle.calls.specs.Reader.{read_of}
 use Rattle.words.specs.Words.{empty}
 use Rattle.machine.specs.State.{State}
 use Rattle.machine.specs.Step.{Outcome, refused}
-use Rattle.machine.specs.Command.{used, onReading, commandJudged, commandOf}
-use Rattle.machine.proofs.Judging.{judged-step, judged-command}
-use Rattle.machine.proofs.Order.{late-code}
-use Rattle.arrays.specs.Reading.{arraysOf}
+use Rattle.machine.specs.Command.{used, on_reading, command_judged, command_of}
+use Rattle.machine.proofs.Judging.{judged_step, judged_command}
+use Rattle.machine.proofs.Order.{late_code}
+use Rattle.arrays.specs.Reading.{arrays_of}
 use Rattle.arrays.specs.Steps.{answer, leaving, left_of}
-use Rattle.arrays.proofs.RoundTrip.{state-back-again, written-formed}
-use Rattle.formed.specs.Test.{formedOf}
+use Rattle.arrays.proofs.RoundTrip.{state_back_again, written_formed}
+use Rattle.formed.specs.Test.{formed_of}
 use Rattle.formed.proofs.Tested.{passing}
-use Rattle.session_rules.specs.Session.{endsSession}
-use Rattle.step.specs.Entries.{ranOn, ranOf, commandJudgedOn, commandOn}
+use Rattle.session_rules.specs.Session.{ends_session}
+use Rattle.step.specs.Entries.{ran_on, ran_of, command_judged_on, command_on}
 use Rattle.histories.specs.Runs.{Machine, outcome, next}
 use Rattle.histories.specs.Forming.{Standing}
-use Rattle.histories.proofs.Forming.{standing-serves, standing-code}
+use Rattle.histories.proofs.Forming.{standing_serves, standing_code}
 use Rattle.refinement.specs.Calls.{written}
 
 module _ (m : Machine) (v f : ℕ) (k : Standing m v f) where
   -- Its writing passes the test, and reads back as it was.
-  pub passes : formedOf (arraysOf m.state) ≡ true
-  passes = passing (arraysOf m.state) (written-formed m.state k.formed)
+  pub passes : formed_of (arrays_of m.state) ≡ true
+  passes = passing (arrays_of m.state) (written_formed m.state k.formed)
 
   -- An answer of a history ends no run.
-  late : (n : ℕ) → 3 < n → endsSession n ≡ false
+  late : (n : ℕ) → 3 < n → ends_session n ≡ false
   late n h = ap (λ (b : Bool). leb 1 n && b) (lt-leb n 3 h) ∙ never (leb 1 n)
 
-  pub goes_on : (c : Call) → endsSession (outcome m c).answer.code ≡ false
-  goes_on c =
-      ap (λ (n : ℕ). endsSession n) (standing-code m v f c k) ∙ ⊎_elim (λ z. ap (λ (n : ℕ). endsSession n) z) (λ z. late _ z) (late-code m.state c m.cells m.tags)
+  pub goes_on_lem : (c : Call) → ends_session (outcome m c).answer.code ≡ false
+  goes_on_lem c =
+      ap (λ (n : ℕ). ends_session n) (standing_code m v f c k) ∙ ⊎_elim (λ z. ap (λ (n : ℕ). ends_session n) z) (λ z. late _ z) (late_code m.state c m.cells m.tags)
 
   module _ (input : List ℕ) (at : ℕ) where
-    judged-reading : commandJudged m.state input at m.cells m.tags ≡ onReading m.state (read_of (drop at input)) m.cells m.tags
-    unfolding commandJudged
-    judged-reading =
-        pick_yes (serves m.state.core.pages (length m.cells) (length m.tags)) (onReading m.state (read_of (drop at input)) m.cells m.tags)
-        (used 0 (refused 2 m.state m.cells m.tags)) (standing-serves m v f k)
+    judged_reading : command_judged m.state input at m.cells m.tags ≡ on_reading m.state (read_of (drop at input)) m.cells m.tags
+    unfolding command_judged
+    judged_reading =
+        pick_yes (serves m.state.core.pages (length m.cells) (length m.tags)) (on_reading m.state (read_of (drop at input)) m.cells m.tags)
+        (used 0 (refused 2 m.state m.cells m.tags)) (standing_serves m v f k)
 
     -- By value, and in place.
-    pub command-reading : commandOf m.state input at m.cells m.tags ≡ onReading m.state (read_of (drop at input)) m.cells m.tags
-    command-reading = sym (judged-command m.state input at m.cells m.tags k.formed) ∙ judged-reading
+    pub command_reading : command_of m.state input at m.cells m.tags ≡ on_reading m.state (read_of (drop at input)) m.cells m.tags
+    command_reading = sym (judged_command m.state input at m.cells m.tags k.formed) ∙ judged_reading
 
-    by-reading : commandOn (arraysOf m.state) input at m.cells m.tags ≡ ranOf (onReading m.state (read_of (drop at input)) m.cells m.tags)
-    unfolding commandOn commandJudgedOn
-    by-reading =
-        pick_yes (formedOf (arraysOf m.state)) (commandJudgedOn (arraysOf m.state) input at m.cells m.tags) (ranOn (leaving (answer 1 empty) (arraysOf m.state) m.cells m.tags) 0) passes
-        ∙ ap (λ (s : State). ranOf (commandJudged s input at m.cells m.tags)) (state-back-again m.state k.formed) ∙ ap ranOf judged-reading
+    by_reading : command_on (arrays_of m.state) input at m.cells m.tags ≡ ran_of (on_reading m.state (read_of (drop at input)) m.cells m.tags)
+    unfolding command_on command_judged_on
+    by_reading =
+        pick_yes (formed_of (arrays_of m.state)) (command_judged_on (arrays_of m.state) input at m.cells m.tags) (ran_on (leaving (answer 1 empty) (arrays_of m.state) m.cells m.tags) 0) passes
+        ∙ ap (λ (s : State). ran_of (command_judged s input at m.cells m.tags)) (state_back_again m.state k.formed) ∙ ap ran_of judged_reading
 
-    pub command-call : (c : Call) (n : ℕ) → read_of (drop at input) ≡ Read c n
-        → commandOn (arraysOf m.state) input at m.cells m.tags
-        ≡ ranOn (leaving (written (outcome m c).answer) (arraysOf (next m c).state) (next m c).cells (next m c).tags) n
-    unfolding ranOf onReading left_of outcome next
-    command-call c n e =
-        by-reading ∙ ap (λ (r : Reading). ranOf (onReading m.state r m.cells m.tags)) e
-        ∙ ap (λ (o : Outcome). ranOn (left_of o) n) (judged-step m.state c m.cells m.tags k.formed)
+    pub command_call : (c : Call) (n : ℕ) → read_of (drop at input) ≡ Read c n
+        → command_on (arrays_of m.state) input at m.cells m.tags
+        ≡ ran_on (leaving (written (outcome m c).answer) (arrays_of (next m c).state) (next m c).cells (next m c).tags) n
+    unfolding ran_of on_reading left_of outcome next
+    command_call c n e =
+        by_reading ∙ ap (λ (r : Reading). ran_of (on_reading m.state r m.cells m.tags)) e
+        ∙ ap (λ (o : Outcome). ran_on (left_of o) n) (judged_step m.state c m.cells m.tags k.formed)
 
-    pub command-none : read_of (drop at input) ≡ Refused
-        → commandOn (arraysOf m.state) input at m.cells m.tags ≡ ranOn (leaving (answer 3 empty) (arraysOf m.state) m.cells m.tags) 0
-    unfolding ranOf onReading left_of
-    command-none e = by-reading ∙ ap (λ (r : Reading). ranOf (onReading m.state r m.cells m.tags)) e
+    pub command_none : read_of (drop at input) ≡ Refused
+        → command_on (arrays_of m.state) input at m.cells m.tags ≡ ran_on (leaving (answer 3 empty) (arrays_of m.state) m.cells m.tags) 0
+    unfolding ran_of on_reading left_of
+    command_none e = by_reading ∙ ap (λ (r : Reading). ran_of (on_reading m.state r m.cells m.tags)) e

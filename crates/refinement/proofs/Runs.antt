@@ -15,76 +15,76 @@ use Rattle.calls.specs.declared.Reading.{Reading}
 use Rattle.calls.specs.declared.Reading.TheVariants.{Read, Refused}
 use Rattle.calls.specs.Reader.{read_of}
 use Rattle.words.specs.Words.{byte_of}
-use Rattle.arrays.specs.Reading.{arraysOf}
+use Rattle.arrays.specs.Reading.{arrays_of}
 use Rattle.arrays.specs.Steps.{answer}
-use Rattle.session_rules.specs.Session.{endsSession}
-use Rattle.entries.specs.Runs.{Run, answerNumbers, run_of, resting, preceded, runOn}
-use Rattle.entries.proofs.Repeating.{preceded-rest, run-next, run_past}
+use Rattle.session_rules.specs.Session.{ends_session}
+use Rattle.entries.specs.Runs.{Run, answer_numbers, run_of, resting, preceded, run_on}
+use Rattle.entries.proofs.Repeating.{preceded_rest, run_next, run_past}
 use Rattle.entries.proofs.Repeating.{next as onNext}
 use Rattle.histories.specs.Runs.{Machine, outcome, next, run, answers}
 use Rattle.histories.specs.Forming.{Standing}
-use Rattle.histories.proofs.Forming.{standing-next}
+use Rattle.histories.proofs.Forming.{standing_next}
 use Rattle.refinement.specs.Calls.{written}
-use Rattle.refinement.specs.Inputs.{Parse, parse, reading, readThen, parseFrom}
+use Rattle.refinement.specs.Inputs.{Parse, parse, reading, read_then, parse_from}
 use Rattle.refinement.specs.Bytes.{replying, replies}
-use Rattle.refinement.specs.Answers.{numbersOf, noCall}
-use Rattle.refinement.proofs.Inputs.{read-long, read-within}
-use Rattle.refinement.proofs.Commands.{goes_on, command-call, command-none}
+use Rattle.refinement.specs.Answers.{numbers_of, no_call_numbers}
+use Rattle.refinement.proofs.Inputs.{read_long, read_within}
+use Rattle.refinement.proofs.Commands.{goes_on_lem, command_call, command_none}
 
 -- What the history of a parse leaves, as a run.
 abbrev pub run_by : Machine → Parse → Run
 run_by m p =
-    run_of (length p.calls + byte_of p.stuck) p.at (arraysOf (run m p.calls).state) (run m p.calls).cells (run m p.calls).tags
-    (numbersOf (replies p.calls (answers m p.calls)) ++ pick p.stuck noCall [])
+    run_of (length p.calls + byte_of p.stuck) p.at (arrays_of (run m p.calls).state) (run m p.calls).cells (run m p.calls).tags
+    (numbers_of (replies p.calls (answers m p.calls)) ++ pick p.stuck no_call_numbers [])
 
 -- A call before a parse is a command before its run.
-run-first : (m : Machine) (c : Call) (p : Parse) → preceded 1 (replying c (outcome m c).answer).numbers (run_by (next m c) p) ≡ run_by m (reading c p)
-unfolding run answers replies numbersOf
-run-first m c p =
+run_first : (m : Machine) (c : Call) (p : Parse) → preceded 1 (replying c (outcome m c).answer).numbers (run_by (next m c) p) ≡ run_by m (reading c p)
+unfolding run answers replies numbers_of
+run_first m c p =
     let count : 1 + (length p.calls + byte_of p.stuck) ≡ length (c ∷ p.calls) + byte_of p.stuck = omega arith in
     let after : Machine = next m c in
-    ap (λ (n : ℕ). run_of n p.at (arraysOf (run after p.calls).state) (run after p.calls).cells (run after p.calls).tags
-    ((replying c (outcome m c).answer).numbers ++ (numbersOf (replies p.calls (answers after p.calls)) ++ pick p.stuck noCall []))) count
+    ap (λ (n : ℕ). run_of n p.at (arrays_of (run after p.calls).state) (run after p.calls).cells (run after p.calls).tags
+    ((replying c (outcome m c).answer).numbers ++ (numbers_of (replies p.calls (answers after p.calls)) ++ pick p.stuck no_call_numbers []))) count
 
 module _ (input : List ℕ) where
   -- No byte, or bytes that read as no call.
-  stuck-here : (room : ℕ) (m : Machine) (v f : ℕ) (at : ℕ) → Standing m v f → read_of (drop at input) ≡ Refused → (b : Bool) → ltb at (length input) ≡ b
-      → runOn (suc room) (arraysOf m.state) input at m.cells m.tags ≡ run_by m (parse [] at b)
-  unfolding run answers replies numbersOf
-  stuck-here room m v f at k e true h =
+  stuck_here : (room : ℕ) (m : Machine) (v f : ℕ) (at : ℕ) → Standing m v f → read_of (drop at input) ≡ Refused → (b : Bool) → ltb at (length input) ≡ b
+      → run_on (suc room) (arrays_of m.state) input at m.cells m.tags ≡ run_by m (parse [] at b)
+  unfolding run answers replies numbers_of
+  stuck_here room m v f at k e true h =
       let stays : at + 0 ≡ at = omega arith in
-      run-next input at room (arraysOf m.state) m.cells m.tags (ltb-true at (length input) h)
-      ∙ ap (onNext input at room) (command-none m v f k input at e)
-      ∙ preceded-rest 1 noCall (at + 0) (arraysOf m.state) m.cells m.tags
-      ∙ ap (λ (n : ℕ). run_of 1 n (arraysOf m.state) m.cells m.tags noCall) stays
-  stuck-here room m v f at k e false h = run_past input at (suc room) (arraysOf m.state) m.cells m.tags (ltb-false at (length input) h)
+      run_next input at room (arrays_of m.state) m.cells m.tags (ltb-true at (length input) h)
+      ∙ ap (onNext input at room) (command_none m v f k input at e)
+      ∙ preceded_rest 1 no_call_numbers (at + 0) (arrays_of m.state) m.cells m.tags
+      ∙ ap (λ (n : ℕ). run_of 1 n (arrays_of m.state) m.cells m.tags no_call_numbers) stays
+  stuck_here room m v f at k e false h = run_past input at (suc room) (arrays_of m.state) m.cells m.tags (ltb-false at (length input) h)
 
   -- A call, and the run after it.
-  call-here : (room : ℕ) (m : Machine) (v f : ℕ) (at : ℕ) → Standing m v f → (c : Call) (n : ℕ) → read_of (drop at input) ≡ Read c n → (p : Parse)
-      → runOn room (arraysOf (next m c).state) input (at + n) (next m c).cells (next m c).tags ≡ run_by (next m c) p
-      → runOn (suc room) (arraysOf m.state) input at m.cells m.tags ≡ run_by m (reading c p)
-  call-here room m v f at k c n e p later =
+  call_here : (room : ℕ) (m : Machine) (v f : ℕ) (at : ℕ) → Standing m v f → (c : Call) (n : ℕ) → read_of (drop at input) ≡ Read c n → (p : Parse)
+      → run_on room (arrays_of (next m c).state) input (at + n) (next m c).cells (next m c).tags ≡ run_by (next m c) p
+      → run_on (suc room) (arrays_of m.state) input at m.cells m.tags ≡ run_by m (reading c p)
+  call_here room m v f at k c n e p later =
       let a = written (outcome m c).answer in
-      let there = arraysOf (next m c).state in
-      run-next input at room (arraysOf m.state) m.cells m.tags (read-within input at c n e)
-      ∙ ap (onNext input at room) (command-call m v f k input at c n e)
-      ∙ ap (preceded 1 (answerNumbers a n))
-      (pick_no (endsSession (outcome m c).answer.code) (resting (at + n) there (next m c).cells (next m c).tags) (runOn room there input (at + n) (next m c).cells (next m c).tags) (goes_on m v f k c)
+      let there = arrays_of (next m c).state in
+      run_next input at room (arrays_of m.state) m.cells m.tags (read_within input at c n e)
+      ∙ ap (onNext input at room) (command_call m v f k input at c n e)
+      ∙ ap (preceded 1 (answer_numbers a n))
+      (pick_no (ends_session (outcome m c).answer.code) (resting (at + n) there (next m c).cells (next m c).tags) (run_on room there input (at + n) (next m c).cells (next m c).tags) (goes_on_lem m v f k c)
       ∙ later)
-      ∙ ap (λ (j : ℕ). preceded 1 (answerNumbers a j) (run_by (next m c) p)) (read-long (drop at input) c n e) ∙ run-first m c p
+      ∙ ap (λ (j : ℕ). preceded 1 (answer_numbers a j) (run_by (next m c) p)) (read_long (drop at input) c n e) ∙ run_first m c p
 
-  pub run-parse : (room : ℕ) (m : Machine) (v f : ℕ) (at : ℕ) → Standing m v f
-      → runOn room (arraysOf m.state) input at m.cells m.tags ≡ run_by m (parseFrom room input at)
-  unfolding runOn parseFrom run answers replies numbersOf
-  run-parse zero m v f at k = refl
-  run-parse (suc room) m v f at k = go (read_of (drop at input)) refl (run-parse room)
+  pub run_parse : (room : ℕ) (m : Machine) (v f : ℕ) (at : ℕ) → Standing m v f
+      → run_on room (arrays_of m.state) input at m.cells m.tags ≡ run_by m (parse_from room input at)
+  unfolding run_on parse_from run answers replies numbers_of
+  run_parse zero m v f at k = refl
+  run_parse (suc room) m v f at k = go (read_of (drop at input)) refl (run_parse room)
     where
       go : (r : Reading) → read_of (drop at input) ≡ r
-          → ((m : Machine) (v f : ℕ) (at : ℕ) → Standing m v f → runOn room (arraysOf m.state) input at m.cells m.tags ≡ run_by m (parseFrom room input at))
-          → runOn (suc room) (arraysOf m.state) input at m.cells m.tags ≡ run_by m (readThen (read_of (drop at input)) at (ltb at (length input)) (λ next. parseFrom room input next))
+          → ((m : Machine) (v f : ℕ) (at : ℕ) → Standing m v f → run_on room (arrays_of m.state) input at m.cells m.tags ≡ run_by m (parse_from room input at))
+          → run_on (suc room) (arrays_of m.state) input at m.cells m.tags ≡ run_by m (read_then (read_of (drop at input)) at (ltb at (length input)) (λ next. parse_from room input next))
       go (Read c n) e later =
-          call-here room m v f at k c n e (parseFrom room input (at + n)) (later (next m c) v f (at + n) (standing-next m v f c k))
-          ∙ ap (λ (r : Reading). run_by m (readThen r at (ltb at (length input)) (λ next. parseFrom room input next))) (sym e)
+          call_here room m v f at k c n e (parse_from room input (at + n)) (later (next m c) v f (at + n) (standing_next m v f c k))
+          ∙ ap (λ (r : Reading). run_by m (read_then r at (ltb at (length input)) (λ next. parse_from room input next))) (sym e)
       go Refused e later =
-          stuck-here room m v f at k e (ltb at (length input)) refl
-          ∙ ap (λ (r : Reading). run_by m (readThen r at (ltb at (length input)) (λ next. parseFrom room input next))) (sym e)
+          stuck_here room m v f at k e (ltb at (length input)) refl
+          ∙ ap (λ (r : Reading). run_by m (read_then r at (ltb at (length input)) (λ next. parse_from room input next))) (sym e)

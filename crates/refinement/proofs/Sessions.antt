@@ -16,91 +16,91 @@ use Rattle.calls.specs.declared.Reading.TheVariants.{Read, Refused}
 use Rattle.calls.specs.Reader.{read_of}
 use Rattle.machine.specs.Formed.{start_of}
 use Rattle.machine.specs.Step.{Outcome}
-use Rattle.machine.specs.Command.{Ran, used, onReading, commandOf}
-use Rattle.machine.proofs.Judging.{judged-step}
+use Rattle.machine.specs.Command.{Ran, used, on_reading, command_of}
+use Rattle.machine.proofs.Judging.{judged_step}
 use Rattle.lines.specs.Lines.{line_of}
-use Rattle.session_rules.specs.Session.{endsSession, lineThen, lines_from, zeroed, linesStarted, lines_read, lines_of}
-use Rattle.session_rules.proofs.Sessions.{lines-enough, take_within}
+use Rattle.session_rules.specs.Session.{ends_session, line_then, lines_from, zeroed, lines_started, lines_read, lines_of}
+use Rattle.session_rules.proofs.Sessions.{lines_enough, take_within}
 use Rattle.histories.specs.Runs.{Machine, outcome, next, answers, begun, Begins}
 use Rattle.histories.specs.Forming.{Standing}
-use Rattle.histories.proofs.Forming.{standing-next, standing-begun}
-use Rattle.refinement.specs.Inputs.{Parse, parse, reading, readThen, parseFrom}
-use Rattle.refinement.specs.Sessions.{answerLines, historyLines, startedLines, sessionLines, SessionsAreHistories}
-use Rattle.refinement.proofs.Inputs.{read-within}
-use Rattle.refinement.proofs.Commands.{goes_on, command-reading}
+use Rattle.histories.proofs.Forming.{standing_next, standing_begun}
+use Rattle.refinement.specs.Inputs.{Parse, parse, reading, read_then, parse_from}
+use Rattle.refinement.specs.Sessions.{answer_lines, history_lines, started_lines, session_lines, SessionsAreHistories}
+use Rattle.refinement.proofs.Inputs.{read_within}
+use Rattle.refinement.proofs.Commands.{goes_on_lem, command_reading}
 
 -- A command's line and the lines after it.
 abbrev following : ℕ → List ℕ → ℕ → Ran → List ℕ
-following n input at r = lineThen r.command.answered (lines_from n r.command.answered.state input (at + r.command.used) r.cells r.tags)
+following n input at r = line_then r.command.answered (lines_from n r.command.answered.state input (at + r.command.used) r.cells r.tags)
 
 module _ (input : List ℕ) where
   module _ (n : ℕ) (m : Machine) (v f : ℕ) (at : ℕ) (k : Standing m v f) where
-    here : ltb at (length input) ≡ true → lines_from (suc n) m.state input at m.cells m.tags ≡ following n input at (onReading m.state (read_of (drop at input)) m.cells m.tags)
+    here : ltb at (length input) ≡ true → lines_from (suc n) m.state input at m.cells m.tags ≡ following n input at (on_reading m.state (read_of (drop at input)) m.cells m.tags)
     unfolding lines_from
     here h =
-        pick_yes (ltb at (length input)) (following n input at (commandOf m.state input at m.cells m.tags)) [] h
-        ∙ ap (following n input at) (command-reading m v f k input at)
+        pick_yes (ltb at (length input)) (following n input at (command_of m.state input at m.cells m.tags)) [] h
+        ∙ ap (following n input at) (command_reading m v f k input at)
 
     call_line : (c : Call) (j : ℕ) → read_of (drop at input) ≡ Read c j → (p : Parse)
-        → lines_from n (next m c).state input (at + j) (next m c).cells (next m c).tags ≡ historyLines (next m c) p
-        → lines_from (suc n) m.state input at m.cells m.tags ≡ historyLines m (reading c p)
-    unfolding onReading outcome next answers answerLines
+        → lines_from n (next m c).state input (at + j) (next m c).cells (next m c).tags ≡ history_lines (next m c) p
+        → lines_from (suc n) m.state input at m.cells m.tags ≡ history_lines m (reading c p)
+    unfolding on_reading outcome next answers answer_lines
     call_line c j e p later =
         let a = (outcome m c).answer in
-        here (lt-ltb at (length input) (read-within input at c j e))
-        ∙ ap (λ (r : Reading). following n input at (onReading m.state r m.cells m.tags)) e
-        ∙ ap (λ (o : Outcome). following n input at (used j o)) (judged-step m.state c m.cells m.tags k.formed)
+        here (lt-ltb at (length input) (read_within input at c j e))
+        ∙ ap (λ (r : Reading). following n input at (on_reading m.state r m.cells m.tags)) e
+        ∙ ap (λ (o : Outcome). following n input at (used j o)) (judged_step m.state c m.cells m.tags k.formed)
         ∙ ap (λ (l : List ℕ). line_of a.code a.number a.tag ++ l)
-        (pick_no (endsSession a.code) [] (lines_from n (next m c).state input (at + j) (next m c).cells (next m c).tags) (goes_on m v f k c) ∙ later)
-        ∙ sym (append_assoc (line_of a.code a.number a.tag) (answerLines (answers (next m c) p.calls)) (pick p.stuck (line_of 3 0 false) []))
+        (pick_no (ends_session a.code) [] (lines_from n (next m c).state input (at + j) (next m c).cells (next m c).tags) (goes_on_lem m v f k c) ∙ later)
+        ∙ sym (append_assoc (line_of a.code a.number a.tag) (answer_lines (answers (next m c) p.calls)) (pick p.stuck (line_of 3 0 false) []))
 
-    no_line : read_of (drop at input) ≡ Refused → (b : Bool) → ltb at (length input) ≡ b → lines_from (suc n) m.state input at m.cells m.tags ≡ historyLines m (parse [] at b)
-    unfolding lines_from onReading answers answerLines
+    no_line : read_of (drop at input) ≡ Refused → (b : Bool) → ltb at (length input) ≡ b → lines_from (suc n) m.state input at m.cells m.tags ≡ history_lines m (parse [] at b)
+    unfolding lines_from on_reading answers answer_lines
     no_line e true h =
-        here h ∙ ap (λ (r : Reading). following n input at (onReading m.state r m.cells m.tags)) e ∙ append-nil (line_of 3 0 false)
-    no_line e false h = pick_no (ltb at (length input)) (following n input at (commandOf m.state input at m.cells m.tags)) [] h
+        here h ∙ ap (λ (r : Reading). following n input at (on_reading m.state r m.cells m.tags)) e ∙ append-nil (line_of 3 0 false)
+    no_line e false h = pick_no (ltb at (length input)) (following n input at (command_of m.state input at m.cells m.tags)) [] h
 
-  lines-parse : (n : ℕ) (m : Machine) (v f : ℕ) (at : ℕ) → Standing m v f → lines_from n m.state input at m.cells m.tags ≡ historyLines m (parseFrom n input at)
-  unfolding lines_from parseFrom answers answerLines
-  lines-parse zero m v f at k = refl
-  lines-parse (suc n) m v f at k = go (read_of (drop at input)) refl (lines-parse n)
+  lines_parse : (n : ℕ) (m : Machine) (v f : ℕ) (at : ℕ) → Standing m v f → lines_from n m.state input at m.cells m.tags ≡ history_lines m (parse_from n input at)
+  unfolding lines_from parse_from answers answer_lines
+  lines_parse zero m v f at k = refl
+  lines_parse (suc n) m v f at k = go (read_of (drop at input)) refl (lines_parse n)
     where
       go : (r : Reading) → read_of (drop at input) ≡ r
-          → ((m : Machine) (v f : ℕ) (at : ℕ) → Standing m v f → lines_from n m.state input at m.cells m.tags ≡ historyLines m (parseFrom n input at))
-          → lines_from (suc n) m.state input at m.cells m.tags ≡ historyLines m (readThen (read_of (drop at input)) at (ltb at (length input)) (λ next. parseFrom n input next))
+          → ((m : Machine) (v f : ℕ) (at : ℕ) → Standing m v f → lines_from n m.state input at m.cells m.tags ≡ history_lines m (parse_from n input at))
+          → lines_from (suc n) m.state input at m.cells m.tags ≡ history_lines m (read_then (read_of (drop at input)) at (ltb at (length input)) (λ next. parse_from n input next))
       go (Read c j) e later =
-          call_line n m v f at k c j e (parseFrom n input (at + j)) (later (next m c) v f (at + j) (standing-next m v f c k))
-          ∙ ap (λ (r : Reading). historyLines m (readThen r at (ltb at (length input)) (λ next. parseFrom n input next))) (sym e)
+          call_line n m v f at k c j e (parse_from n input (at + j)) (later (next m c) v f (at + j) (standing_next m v f c k))
+          ∙ ap (λ (r : Reading). history_lines m (read_then r at (ltb at (length input)) (λ next. parse_from n input next))) (sym e)
       go Refused e later =
           no_line n m v f at k e (ltb at (length input)) refl
-          ∙ ap (λ (r : Reading). historyLines m (readThen r at (ltb at (length input)) (λ next. parseFrom n input next))) (sym e)
+          ∙ ap (λ (r : Reading). history_lines m (read_then r at (ltb at (length input)) (λ next. parse_from n input next))) (sym e)
 
   -- After a start.
   module _ (room : ℕ) (enough : length input ≤ room) (v f : ℕ) where
     rest : List ℕ
     rest = lines_from (length input) (start_of v f).state input 3 (zeroed f) (zeroed f)
 
-    rest-is : (start_of v f).code ≡ 0 → rest ≡ historyLines (begun v f (zeroed f) (zeroed f)) (parseFrom room input 3)
+    rest_is : (start_of v f).code ≡ 0 → rest ≡ history_lines (begun v f (zeroed f) (zeroed f)) (parse_from room input 3)
     unfolding rest begun
-    rest-is e =
-        let b : Begins v f (zeroed f) (zeroed f) = record { granted = e; of-cells = length-replicate (16 * f) 0; of-tags = length-replicate (16 * f) 0 } in
-        lines-enough (length input) room (start_of v f).state input 3 (zeroed f) (zeroed f) (omega arith) (omega arith)
-        ∙ lines-parse room (begun v f (zeroed f) (zeroed f)) v f 3 (standing-begun v f (zeroed f) (zeroed f) b)
+    rest_is e =
+        let b : Begins v f (zeroed f) (zeroed f) = record { granted = e; of_cells = length-replicate (16 * f) 0; of_tags = length-replicate (16 * f) 0 } in
+        lines_enough (length input) room (start_of v f).state input 3 (zeroed f) (zeroed f) (omega arith) (omega arith)
+        ∙ lines_parse room (begun v f (zeroed f) (zeroed f)) v f 3 (standing_begun v f (zeroed f) (zeroed f) b)
 
     -- The code of a start is 0 or 1.
-    started : linesStarted input v f ≡ startedLines room input v f
+    started : lines_started input v f ≡ started_lines room input v f
     unfolding start_of rest
     started = go (in_range v f) refl
       where
-        go : (b : Bool) → in_range v f ≡ b → lineThen (start_of v f) rest ≡ startedLines room input v f
-        go true e = rw e (ap (λ (l : List ℕ). line_of 0 0 false ++ l) (rest-is (ap (λ (b : Bool). pick b 0 1) e)))
+        go : (b : Bool) → in_range v f ≡ b → line_then (start_of v f) rest ≡ started_lines room input v f
+        go true e = rw e (ap (λ (l : List ℕ). line_of 0 0 false ++ l) (rest_is (ap (λ (b : Bool). pick b 0 1) e)))
         go false e = rw e (append-nil (line_of 1 0 false))
 
-  pub lines-read : (room : ℕ) → length input ≤ room → lines_read input ≡ sessionLines room input
-  unfolding lines_read sessionLines
-  lines-read room h =
+  pub lines_read_lem : (room : ℕ) → length input ≤ room → lines_read input ≡ session_lines room input
+  unfolding lines_read session_lines
+  lines_read_lem room h =
       ap (λ (l : List ℕ). pick (ltb (length input) 3) (line_of 1 0 false) l) (started room h (256 * get_or input 0 0 + get_or input 1 0) (get_or input 2 0))
 
-pub sessions-are-histories : SessionsAreHistories
+pub sessions_are_histories : SessionsAreHistories
 unfolding lines_of
-sessions-are-histories input room h = let l : length (take 32768 input) ≤ length input = take_within 32768 input in lines-read (take 32768 input) room (omega arith)
+sessions_are_histories input room h = let l : length (take 32768 input) ≤ length input = take_within 32768 input in lines_read_lem (take 32768 input) room (omega arith)

@@ -7,11 +7,11 @@ use Rattle.calls.specs.Commands.{bytes_of}
 use Rattle.words.specs.Words.{byte_of}
 use Rattle.machine.specs.State.{Answered}
 use Rattle.arrays.specs.declared.Arrays.{Arrays}
-use Rattle.arrays.specs.Reading.{arraysOf, state_of}
+use Rattle.arrays.specs.Reading.{arrays_of, state_of}
 use Rattle.histories.specs.Runs.{Machine, machine, run, answers, begun}
-use Rattle.cetomuhi.specs.Lent.{Lent, lent, arraysIn}
-use Rattle.cetomuhi.specs.Exports.{startLent}
-use Rattle.refinement.specs.Uses.{Served, serving, Use, command, Entries, exported, begins, calls_of, Reply, reply, servedAll, repliesOf}
+use Rattle.cetomuhi.specs.Lent.{Lent, lent, arrays_in}
+use Rattle.cetomuhi.specs.Exports.{start_lent}
+use Rattle.refinement.specs.Uses.{Served, serving, Use, command, Entries, exported, begins, calls_of, Reply, reply, served_all, replies_of}
 
 -- Arrays as the ten lists that cross the boundary; a machine so written; and the machine that what is lent reads as.
 abbrev pub lent_of : Arrays → Lent
@@ -20,16 +20,16 @@ lent_of a =
     lent (n.v ∷ n.f ∷ n.count ∷ n.place ∷ n.base ∷ n.length ∷ []) a.words a.marks a.mail a.flags a.rows a.pages a.frames a.principals a.counts
 
 abbrev pub writing : Machine → Served
-writing m = serving (lent_of (arraysOf m.state)) m.cells m.tags
+writing m = serving (lent_of (arrays_of m.state)) m.cells m.tags
 
-abbrev pub machineIn : Served → Machine
-machineIn s = machine (state_of (arraysIn s.lent)) s.cells s.tags
+abbrev pub machine_in : Served → Machine
+machine_in s = machine (state_of (arrays_in s.lent)) s.cells s.tags
 
 -- A start with code 0, over memory of 16 F cells and tags.
 pub record Starts (v f : ℕ) (l : Lent) (cells tags : List ℕ) : Type 0 where
-  pub granted : (startLent v f l).code ≡ 0
-  pub of-cells : length cells ≡ 16 * f
-  pub of-tags : length tags ≡ 16 * f
+  pub granted : (start_lent v f l).code ≡ 0
+  pub of_cells : length cells ≡ 16 * f
+  pub of_tags : length tags ≡ 16 * f
 
 -- A history's answer to a call as four numbers: code, number, tag as 0 or 1, and as bytes used the length of the call's bytes.
 abbrev pub replying : Call → Answered → Reply
@@ -42,8 +42,8 @@ replies (c ∷ calls) (a ∷ l) = replying c a ∷ replies calls l
 
 -- What entries leave and answer is what the history of the calls leaves and answers.
 pub record Refined (e : Entries) (s : Served) (m : Machine) (uses : List Use) : Type 0 where
-  pub left : servedAll e s uses ≡ writing (run m (calls_of uses))
-  pub answered : repliesOf e s uses ≡ replies (calls_of uses) (answers m (calls_of uses))
+  pub left : served_all e s uses ≡ writing (run m (calls_of uses))
+  pub answered : replies_of e s uses ≡ replies (calls_of uses) (answers m (calls_of uses))
 
 abbrev pub Refines : Entries → Type 0
 Refines e =
@@ -57,7 +57,7 @@ BytesAreHistories = Refines exported
 abbrev pub BytesReach : Type 0
 BytesReach =
     (v f : ℕ) (l : Lent) (cells tags : List ℕ) → Starts v f l cells tags → (uses : List Use)
-    → machineIn (servedAll exported (begins v f l cells tags) uses) ≡ run (begun v f cells tags) (calls_of uses)
+    → machine_in (served_all exported (begins v f l cells tags) uses) ≡ run (begun v f cells tags) (calls_of uses)
 
 -- And there is no history that bytes do not reach: each call by a command of its own.
 abbrev pub sending : List Call → List Use

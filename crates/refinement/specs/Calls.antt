@@ -6,9 +6,9 @@ use Rattle.machine.specs.State.{Answered}
 use Rattle.histories.specs.Runs.{Machine, run, answers, begun, Begins}
 use Rattle.arrays.specs.declared.Answer.{Answer}
 use Rattle.arrays.specs.declared.Arrays.{Arrays}
-use Rattle.arrays.specs.Reading.{arraysOf}
-use Rattle.step.specs.Entries.{stepOn}
-use Rattle.entries.specs.ByValue.{startOn}
+use Rattle.arrays.specs.Reading.{arrays_of}
+use Rattle.step.specs.Entries.{step_on}
+use Rattle.entries.specs.ByValue.{start_on}
 
 -- What calls leave: their answers in order, the arrays, and the lent cells and tags.
 pub record Trace : Type 0 where
@@ -25,20 +25,20 @@ abbrev pub preceding : Answer → Trace → Trace
 preceding r t = trace (r ∷ t.answers) t.arrays t.cells t.tags
 
 -- By the entry, call after call.
-unfoldable pub stepsOn : Arrays → List Call → List ℕ → List ℕ → Trace
-stepsOn a [] cells tags = trace [] a cells tags
-stepsOn a (c ∷ calls) cells tags =
-    let l = stepOn a c cells tags in
-    preceding l.answer (stepsOn l.arrays calls l.cells l.tags)
+unfoldable pub steps_on : Arrays → List Call → List ℕ → List ℕ → Trace
+steps_on a [] cells tags = trace [] a cells tags
+steps_on a (c ∷ calls) cells tags =
+    let l = step_on a c cells tags in
+    preceding l.answer (steps_on l.arrays calls l.cells l.tags)
 
 -- By the history: its answers without their states, and what it leaves, written.
 abbrev pub written : Answered → Answer
 written a = record { code = a.code; number = a.number; tag = a.tag }
 
-abbrev pub traceOf : Machine → List Call → Trace
-traceOf m calls = trace (map written (answers m calls)) (arraysOf (run m calls).state) (run m calls).cells (run m calls).tags
+abbrev pub trace_of : Machine → List Call → Trace
+trace_of m calls = trace (map written (answers m calls)) (arrays_of (run m calls).state) (run m calls).cells (run m calls).tags
 
 abbrev pub CallsAreHistories : Type 0
 CallsAreHistories =
     (v f : ℕ) (cells tags : List ℕ) → Begins v f cells tags → (calls : List Call)
-    → stepsOn (startOn v f).arrays calls cells tags ≡ traceOf (begun v f cells tags) calls
+    → steps_on (start_on v f).arrays calls cells tags ≡ trace_of (begun v f cells tags) calls

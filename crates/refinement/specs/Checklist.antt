@@ -10,14 +10,14 @@ use Rattle.histories.specs.Survivors.{NoSurvivorAt, NoSurvivorUntilTakenAt}
 use Rattle.histories.specs.Losing.{TiledAt}
 use Rattle.histories.specs.Restoring.{NothingLostAt}
 use Rattle.cetomuhi.specs.Lent.{Lent}
-use Rattle.refinement.specs.Uses.{Use, exported, begins, calls_of, servedAll}
-use Rattle.refinement.specs.Bytes.{machineIn, Starts}
+use Rattle.refinement.specs.Uses.{Use, exported, begins, calls_of, served_all}
+use Rattle.refinement.specs.Bytes.{machine_in, Starts}
 
 -- A machine is reached with V and F by these calls, and so has a property of what is reached.
 pub record ByCalls (P : (m : Machine) → Reached m → Type 0) (v f : ℕ) (calls : List Call) (m : Machine) : Type 0 where
   pub reached : Reached m
-  pub of-v : reached.v ≡ v
-  pub of-f : reached.f ≡ f
+  pub of_v : reached.v ≡ v
+  pub of_f : reached.f ≡ f
   pub by : reached.calls ≡ calls
   pub holds : P m reached
 
@@ -25,7 +25,7 @@ pub record ByCalls (P : (m : Machine) → Reached m → Type 0) (v f : ℕ) (cal
 abbrev pub OfLibrary : ((m : Machine) → Reached m → Type 0) → Type 0
 OfLibrary P =
     (v f : ℕ) (l : Lent) (cells tags : List ℕ) → Starts v f l cells tags → (uses : List Use)
-    → ByCalls P v f (calls_of uses) (machineIn (servedAll exported (begins v f l cells tags) uses))
+    → ByCalls P v f (calls_of uses) (machine_in (served_all exported (begins v f l cells tags) uses))
 
 -- Whatever holds of all that is reached is so.
 abbrev pub FromHistories : Type 1

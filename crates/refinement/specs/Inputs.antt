@@ -20,10 +20,10 @@ abbrev pub reading : Call → Parse → Parse
 reading c p = parse (c ∷ p.calls) p.at p.stuck
 
 -- What is read at a place, and the rest of the input after it.
-abbrev pub readThen : Reading → ℕ → Bool → (ℕ → Parse) → Parse
-readThen (Read c n) at more rest = reading c (rest (at + n))
-readThen Refused at more rest = parse [] at more
+abbrev pub read_then : Reading → ℕ → Bool → (ℕ → Parse) → Parse
+read_then (Read c n) at more rest = reading c (rest (at + n))
+read_then Refused at more rest = parse [] at more
 
-unfoldable pub parseFrom : ℕ → List ℕ → ℕ → Parse
-parseFrom zero input at = parse [] at false
-parseFrom (suc room) input at = readThen (read_of (drop at input)) at (ltb at (length input)) (λ next. parseFrom room input next)
+unfoldable pub parse_from : ℕ → List ℕ → ℕ → Parse
+parse_from zero input at = parse [] at false
+parse_from (suc room) input at = read_then (read_of (drop at input)) at (ltb at (length input)) (λ next. parse_from room input next)

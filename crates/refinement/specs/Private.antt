@@ -5,18 +5,18 @@
 use Rattle.std.specs.Prelude.{ℕ, ◌+◌, ◌*◌, ◌<◌, Bool, false, not, List, ◌∷◌, ◌++◌, ◌≡◌, get_or}
 use Rattle.capabilities.specs.Lists.{filter}
 use Rattle.pages.specs.declared.Place.TheVariants.{At}
-use Rattle.pages.specs.Mapping.{lookupOf}
+use Rattle.pages.specs.Mapping.{lookup_of}
 use Rattle.calls.specs.declared.Call.{Call}
-use Rattle.privacy.specs.Rule.{housed, Time, timeAfter, hidden}
-use Rattle.privacy.specs.Claim.{Within, time, afterTake}
+use Rattle.privacy.specs.Rule.{housed, Time, time_after, hidden}
+use Rattle.privacy.specs.Claim.{Within, time, after_take}
 use Rattle.cetomuhi.specs.Lent.{Lent}
-use Rattle.cetomuhi.specs.Exports.{costLent}
-use Rattle.refinement.specs.Uses.{Served, Use, exported, begins, calls_of, Reply, servedAll, repliesOf}
-use Rattle.refinement.specs.Bytes.{machineIn, Starts}
+use Rattle.cetomuhi.specs.Exports.{cost_lent}
+use Rattle.refinement.specs.Uses.{Served, Use, exported, begins, calls_of, Reply, served_all, replies_of}
+use Rattle.refinement.specs.Bytes.{machine_in, Starts}
 
 -- A reply to another party than the house.
-abbrev pub toOther : ℕ → Reply → Bool
-toOther house r = not (housed house r.call)
+abbrev pub to_other : ℕ → Reply → Bool
+to_other house r = not (housed house r.call)
 
 -- A number of a list in both.
 abbrev pub SameAt : ℕ → List ℕ → List ℕ → Type 0
@@ -27,7 +27,7 @@ SameAt i xs ys = get_or xs i 0 ≡ get_or ys i 0
 -- cell shows, but for those in the range while the house's time lasts. So questions are answered alike: about reservations, since they go
 -- by numbers and rows, and what each page costs.
 pub record Unnoticed (house : ℕ) (t : Time) (g h : Served) (r q : List Reply) : Type 0 where
-  pub replies : filter (toOther house) r ≡ filter (toOther house) q
+  pub replies : filter (to_other house) r ≡ filter (to_other house) q
   pub numbers : g.lent.numbers ≡ h.lent.numbers
   pub rows : g.lent.rows ≡ h.lent.rows
   pub pages : g.lent.pages ≡ h.lent.pages
@@ -36,8 +36,8 @@ pub record Unnoticed (house : ℕ) (t : Time) (g h : Served) (r q : List Reply) 
   pub counts : g.lent.counts ≡ h.lent.counts
   pub registers : (p i : ℕ) → p < 8 → i < 8 → (p ≡ house → ⊥) → SameAt (8 * p + i) g.lent.words h.lent.words × SameAt (8 * p + i) g.lent.marks h.lent.marks
   pub mailboxes : (p : ℕ) → (p ≡ house → ⊥) → SameAt p g.lent.mail h.lent.mail × SameAt p g.lent.flags h.lent.flags
-  pub shown : (n at : ℕ) → hidden t n ≡ false → lookupOf (machineIn g).state.core.pages n ≡ At at → SameAt at g.cells h.cells × SameAt at g.tags h.tags
-  pub costs : (n : ℕ) → costLent g.lent n ≡ costLent h.lent n
+  pub shown : (n at : ℕ) → hidden t n ≡ false → lookup_of (machine_in g).state.core.pages n ≡ At at → SameAt at g.cells h.cells × SameAt at g.tags h.tags
+  pub costs : (n : ℕ) → cost_lent g.lent n ≡ cost_lent h.lent n
 
 abbrev pub LibraryPrivacy : Type 0
 LibraryPrivacy =
@@ -45,6 +45,6 @@ LibraryPrivacy =
     → Within v f cells tags before take house base reg permissions after₁ after₂
     → (l₁ l₂ : Lent) → Starts v f l₁ cells tags → Starts v f l₂ cells tags
     → (uses₁ uses₂ : List Use) → calls_of uses₁ ≡ before ++ take ∷ after₁ → calls_of uses₂ ≡ before ++ take ∷ after₂
-    → Unnoticed house (timeAfter (time v f cells tags before take house base reg permissions) (afterTake v f cells tags before take house base reg permissions) after₁)
-    (servedAll exported (begins v f l₁ cells tags) uses₁) (servedAll exported (begins v f l₂ cells tags) uses₂)
-    (repliesOf exported (begins v f l₁ cells tags) uses₁) (repliesOf exported (begins v f l₂ cells tags) uses₂)
+    → Unnoticed house (time_after (time v f cells tags before take house base reg permissions) (after_take v f cells tags before take house base reg permissions) after₁)
+    (served_all exported (begins v f l₁ cells tags) uses₁) (served_all exported (begins v f l₂ cells tags) uses₂)
+    (replies_of exported (begins v f l₁ cells tags) uses₁) (replies_of exported (begins v f l₂ cells tags) uses₂)

@@ -5,8 +5,8 @@ use Rattle.capabilities.specs.Lists.{pick}
 use Rattle.calls.specs.declared.Call.{Call}
 use Rattle.maps.specs.declared.Question.{Question}
 use Rattle.cetomuhi.specs.Lent.{Lent}
-use Rattle.cetomuhi.specs.Exports.{Done, done, Reached, startLent, commandLent, commandsLent}
-use Rattle.refinement.specs.Inputs.{parseFrom}
+use Rattle.cetomuhi.specs.Exports.{Done, done, Reached, start_lent, command_lent, commands_lent}
+use Rattle.refinement.specs.Inputs.{parse_from}
 
 -- All that is lent and kept from one use to the next.
 pub record Served : Type 0 where
@@ -34,28 +34,28 @@ pub record Entries : Type 0 where
 
 -- Those that are exported.
 abbrev pub exported : Entries
-exported = record { command = commandLent; commands = commandsLent }
+exported = record { command = command_lent; commands = commands_lent }
 
 -- What a start lends on, with the server's cells and tags.
 abbrev pub begins : ℕ → ℕ → Lent → List ℕ → List ℕ → Served
-begins v f l cells tags = serving (startLent v f l).lent cells tags
+begins v f l cells tags = serving (start_lent v f l).lent cells tags
 
 -- A question is lent everything unchangeable: it keeps all, and there is no answer to a call.
 abbrev pub asked : Served → Done
 asked s = done 0 s.lent s.cells s.tags []
 
 -- The calls that a use's bytes read as: one if there is room for its answer, which is four numbers; of a run one for every four.
-unfoldable pub callsIn : Use → List Call
-callsIn (command input at answers) = (parseFrom (pick (leb 4 (length answers)) 1 0) input at).calls
-callsIn (commands input at answers) = (parseFrom (length answers / 4) input at).calls
-callsIn formed = []
-callsIn (cost n) = []
-callsIn (list q count bases) = []
-callsIn (nearest cell cells found base) = []
+unfoldable pub calls_in : Use → List Call
+calls_in (command input at answers) = (parse_from (pick (leb 4 (length answers)) 1 0) input at).calls
+calls_in (commands input at answers) = (parse_from (length answers / 4) input at).calls
+calls_in formed = []
+calls_in (cost n) = []
+calls_in (list q count bases) = []
+calls_in (nearest cell cells found base) = []
 
 unfoldable pub calls_of : List Use → List Call
 calls_of [] = []
-calls_of (u ∷ uses) = callsIn u ++ calls_of uses
+calls_of (u ∷ uses) = calls_in u ++ calls_of uses
 
 -- A call and the four numbers that answer it.
 pub record Reply : Type 0 where
@@ -66,9 +66,9 @@ abbrev pub reply : Call → List ℕ → Reply
 reply c numbers = record { call = c; numbers = numbers }
 
 -- The first four of lent answers are the first call's, and so on.
-unfoldable pub repliesIn : List Call → List ℕ → List Reply
-repliesIn [] numbers = []
-repliesIn (c ∷ calls) numbers = reply c (take 4 numbers) ∷ repliesIn calls (drop 4 numbers)
+unfoldable pub replies_in : List Call → List ℕ → List Reply
+replies_in [] numbers = []
+replies_in (c ∷ calls) numbers = reply c (take 4 numbers) ∷ replies_in calls (drop 4 numbers)
 
 module _ (e : Entries) where
   -- What a use leaves of all that is lent.
@@ -83,11 +83,11 @@ module _ (e : Entries) where
   abbrev pub served : Served → Use → Served
   served s u = serving (used s u).lent (used s u).cells (used s u).tags
 
-  unfoldable pub servedAll : Served → List Use → Served
-  servedAll s [] = s
-  servedAll s (u ∷ uses) = servedAll (served s u) uses
+  unfoldable pub served_all : Served → List Use → Served
+  served_all s [] = s
+  served_all s (u ∷ uses) = served_all (served s u) uses
 
   -- The replies to all commands that read as calls, as they stand in the lent answers after each use.
-  unfoldable pub repliesOf : Served → List Use → List Reply
-  repliesOf s [] = []
-  repliesOf s (u ∷ uses) = repliesIn (callsIn u) (used s u).answers ++ repliesOf (served s u) uses
+  unfoldable pub replies_of : Served → List Use → List Reply
+  replies_of s [] = []
+  replies_of s (u ∷ uses) = replies_in (calls_in u) (used s u).answers ++ replies_of (served s u) uses

@@ -5,9 +5,9 @@ use Rattle.calls.specs.declared.Call.TheVariants.{Take, Give, Map, Zero}
 use Rattle.calls.specs.Commands.{page, frame}
 use Rattle.maps.specs.declared.Question.TheVariants.{Sharing}
 use Rattle.cetomuhi.specs.Lent.{Lent, lent}
-use Rattle.cetomuhi.specs.Exports.{Done, done, reached, commandLent, commandsLent}
-use Rattle.refinement.specs.Inputs.{parseFrom}
-use Rattle.refinement.specs.Uses.{Served, Use, command, commands, formed, cost, list, Entries, exported, begins, calls_of, reply, servedAll, repliesOf}
+use Rattle.cetomuhi.specs.Exports.{Done, done, reached, command_lent, commands_lent}
+use Rattle.refinement.specs.Inputs.{parse_from}
+use Rattle.refinement.specs.Uses.{Served, Use, command, commands, formed, cost, list, Entries, exported, begins, calls_of, reply, served_all, replies_of}
 use Rattle.refinement.specs.Bytes.{Refines, Starts}
 
 -- ---- A server
@@ -42,49 +42,49 @@ uses =
 pub record Comes : Type 0 where
   pub starts : Starts 2 1 zeros sevens tagged
   pub calls : calls_of uses ≡ Zero 0 (frame 0) ∷ Map 0 (page 0) (frame 0) ∷ Give 0 0 1 ∷ Take 1 0 2 ∷ []
-  pub answers : repliesOf exported start uses
+  pub answers : replies_of exported start uses
       ≡ reply (Zero 0 (frame 0)) (0 ∷ 0 ∷ 0 ∷ 3 ∷ [])
       ∷ reply (Map 0 (page 0) (frame 0)) (0 ∷ 0 ∷ 0 ∷ 4 ∷ [])
       ∷ reply (Give 0 0 1) (0 ∷ 0 ∷ 0 ∷ 5 ∷ [])
       ∷ reply (Take 1 0 2) (0 ∷ 32 ∷ 0 ∷ 5 ∷ [])
       ∷ []
-  pub word : get_or (servedAll exported start uses).lent.words 10 0 ≡ 12886999040
-  pub mark : get_or (servedAll exported start uses).lent.marks 10 0 ≡ 1
+  pub word : get_or (served_all exported start uses).lent.words 10 0 ≡ 12886999040
+  pub mark : get_or (served_all exported start uses).lent.marks 10 0 ≡ 1
 
 -- ---- Wrong entries
 -- Works on a copy of the arrays, and hands the old ones back; answers and memory are right.
 abbrev pub uncopied : Lent → Done → Done
 uncopied l d = done d.count l d.cells d.tags d.answers
 
-abbrev pub onCopies : Entries
-onCopies = record {
-  command = λ l input at cells tags buffer. uncopied l (commandLent l input at cells tags buffer);
-  commands = λ l input at cells tags buffer. let r = commandsLent l input at cells tags buffer in reached r.at (uncopied l r.done);
+abbrev pub on_copies : Entries
+on_copies = record {
+  command = λ l input at cells tags buffer. uncopied l (command_lent l input at cells tags buffer);
+  commands = λ l input at cells tags buffer. let r = commands_lent l input at cells tags buffer in reached r.at (uncopied l r.done);
 }
 
 -- Skips the first command of a run.
 abbrev pub skipping : Entries
 skipping = record {
-  command = commandLent;
-  commands = λ l input at cells tags buffer. commandsLent l input (parseFrom 1 input at).at cells tags buffer;
+  command = command_lent;
+  commands = λ l input at cells tags buffer. commands_lent l input (parse_from 1 input at).at cells tags buffer;
 }
 
 -- Does a command without putting its answer.
 abbrev pub silent : Entries
 silent = record {
-  command = λ l input at cells tags buffer. let d = commandLent l input at cells tags buffer in done d.count d.lent d.cells d.tags buffer;
-  commands = commandsLent;
+  command = λ l input at cells tags buffer. let d = command_lent l input at cells tags buffer in done d.count d.lent d.cells d.tags buffer;
+  commands = commands_lent;
 }
 
 -- Does a command for whose answer there is no room.
 abbrev pub roomless : Entries
 roomless = record {
-  command = λ l input at cells tags buffer. commandLent l input at cells tags (buffer ++ replicate 4 0);
-  commands = commandsLent;
+  command = λ l input at cells tags buffer. command_lent l input at cells tags (buffer ++ replicate 4 0);
+  commands = commands_lent;
 }
 
 pub record AllExcluded : Type 0 where
-  pub onCopies-not : Refines onCopies → ⊥
-  pub skipping-not : Refines skipping → ⊥
-  pub silent-not : Refines silent → ⊥
-  pub roomless-not : Refines roomless → ⊥
+  pub on_copies_not : Refines on_copies → ⊥
+  pub skipping_not : Refines skipping → ⊥
+  pub silent_not : Refines silent → ⊥
+  pub roomless_not : Refines roomless → ⊥

@@ -2,25 +2,25 @@
 use Prim.Native.Nat.{ℕ}
 use mathlib.Core.Path.{◌≡◌, refl}
 use Rattle.claims.specs.Claims.{Claims}
-use Rattle.reservations.specs.Core.{Core, withClaims}
-use Rattle.reservations.specs.Revocation.{running, revoked, dying, revocationSound, coreSound}
+use Rattle.reservations.specs.Core.{Core, with_claims}
+use Rattle.reservations.specs.Revocation.{running, revoked, dying, revocation_sound, core_sound}
 
 module _ (c : Core) (x : Claims) where
   abbrev other : Core
-  other = withClaims c x
+  other = with_claims c x
 
-  pub running-apart : running other ≡ running c
+  pub running_apart : running other ≡ running c
   unfolding running
-  running-apart = refl
+  running_apart = refl
 
-  pub revoked-apart : revoked other ≡ revoked c
+  pub revoked_apart : revoked other ≡ revoked c
   unfolding revoked
-  revoked-apart = refl
+  revoked_apart = refl
 
-  pub dying-apart : (cell : ℕ) → dying other cell ≡ dying c cell
+  pub dying_apart : (cell : ℕ) → dying other cell ≡ dying c cell
   unfolding dying running revoked
-  dying-apart cell = refl
+  dying_apart cell = refl
 
-  pub sound-apart : coreSound other ≡ coreSound c
-  unfolding coreSound revocationSound running revoked
-  sound-apart = refl
+  pub sound_apart : core_sound other ≡ core_sound c
+  unfolding core_sound revocation_sound running revoked
+  sound_apart = refl

@@ -15,109 +15,109 @@ use Rattle.capabilities.specs.Range.{inside}
 use Rattle.capabilities.specs.Refusals.{first}
 use Rattle.capabilities.proofs.Choice.{pick_yes}
 use Rattle.capabilities.proofs.Deaths.{none_dies}
-use Rattle.pages.specs.Mapping.{freedOf, releasedOf}
+use Rattle.pages.specs.Mapping.{freed_of, released_of}
 use Rattle.table.specs.declared.Found.{Found}
 use Rattle.table.specs.declared.Found.TheVariants.{At, Nowhere}
-use Rattle.table.specs.Rows.{isRevoking, live, blank, range_of}
-use Rattle.table.specs.Find.{findOf, begins, missing, revokingOf, rowOf, with_row}
-use Rattle.table.specs.Tiling.{tableSound, covers}
+use Rattle.table.specs.Rows.{is_revoking, live, blank, range_of}
+use Rattle.table.specs.Find.{find_of, begins, missing, revoking_of, row_of, with_row}
+use Rattle.table.specs.Tiling.{table_sound, covers}
 use Rattle.table.proofs.Finding.{found_at}
 use Rattle.table.proofs.Sound.{sound}
-use Rattle.table.proofs.Kept.{row-live}
-use Rattle.table.proofs.Cells.{none-lost}
-use Rattle.table.proofs.Unrevoked.{with-live}
+use Rattle.table.proofs.Kept.{row_live}
+use Rattle.table.proofs.Cells.{none_lost}
+use Rattle.table.proofs.Unrevoked.{with_live}
 use Rattle.table.proofs.After.{Replaced}
 use Rattle.reservations.specs.Core.{Core}
-use Rattle.reservations.specs.Revocation.{running, revoked, dying, revokeReasonsAt, revokeReasons, revokingRow, revokeAt, revokeOf, collectReasons, collectedRow, collected, collectOf, coreSound}
-use Rattle.reservations.proofs.CoreKept.{core-facts}
-use Rattle.reservations.proofs.Revocations.{Revokes, revoke-clear, collect-clear, collected-at, core-revoke, core-collect}
+use Rattle.reservations.specs.Revocation.{running, revoked, dying, revoke_reasons_at, revoke_reasons, revoking_row, revoke_at, revoke_of, collect_reasons, collected_row, collected, collect_of, core_sound}
+use Rattle.reservations.proofs.CoreKept.{core_facts}
+use Rattle.reservations.proofs.Revocations.{Revokes, revoke_clear, collect_clear, collected_at, core_revoke, core_collect}
 
-module _ (c : Core) (ok : coreSound c ≡ true) where
+module _ (c : Core) (ok : core_sound c ≡ true) where
   abbrev cells : ℕ
   cells = 16 * c.pages.v
 
-  revoke-at-after : (party base : ℕ) (g : Found) → findOf c.table party base ≡ g → Revokes c g → (i : ℕ) × Replaced c.table (revokeAt c g).table party base i 1 (revokingRow (get_or (live c.table) i blank) ∷ [])
-  unfolding revokeAt
-  revoke-at-after party base (At i) e k =
+  revoke_at_after : (party base : ℕ) (g : Found) → find_of c.table party base ≡ g → Revokes c g → (i : ℕ) × Replaced c.table (revoke_at c g).table party base i 1 (revoking_row (get_or (live c.table) i blank) ∷ [])
+  unfolding revoke_at
+  revoke_at_after party base (At i) e k =
       let t = c.table in
-      let here = found_at (begins party base) (live t) i blank (unfold findOf in e) in
-      let row = row-live t i here.0 in (
+      let here = found_at (begins party base) (live t) i blank (unfold find_of in e) in
+      let row = row_live t i here.0 in (
         i,
         record {
           found = e;
           within = omega (arith, here.0);
           named = here.1;
-          now = ap (λ r. live (with_row t (At i) (revokingRow r))) row ∙ with-live cells t (sound cells t (core-facts c ok).rows) i here.0 (revokingRow (get_or (live t) i blank));
+          now = ap (λ r. live (with_row t (At i) (revoking_row r))) row ∙ with_live cells t (sound cells t (core_facts c ok).rows) i here.0 (revoking_row (get_or (live t) i blank));
         },
       )
-  revoke-at-after party base Nowhere e k = absurd (true≢false k.found)
+  revoke_at_after party base Nowhere e k = absurd (true≢false k.found)
 
   -- A granted revoke: the named reservation is Revoking, and its pages are freed.
-  pub revoke-after : (party base : ℕ) → (revokeOf c party base).code ≡ 0 → (i : ℕ) × Replaced c.table (revokeOf c party base).core.table party base i 1 (revokingRow (get_or (live c.table) i blank) ∷ [])
-  unfolding revokeOf revokeReasons
-  revoke-after party base z =
-      let f = findOf c.table party base in
-      let (i, r) = revoke-at-after party base f refl (revoke-clear c f z) in
-      let e = pick_yes (eqb (first (revokeReasonsAt c f)) 0) (revokeAt c f) c (eq-eqb (first (revokeReasonsAt c f)) 0 z) in
+  pub revoke_after : (party base : ℕ) → (revoke_of c party base).code ≡ 0 → (i : ℕ) × Replaced c.table (revoke_of c party base).core.table party base i 1 (revoking_row (get_or (live c.table) i blank) ∷ [])
+  unfolding revoke_of revoke_reasons
+  revoke_after party base z =
+      let f = find_of c.table party base in
+      let (i, r) = revoke_at_after party base f refl (revoke_clear c f z) in
+      let e = pick_yes (eqb (first (revoke_reasons_at c f)) 0) (revoke_at c f) c (eq-eqb (first (revoke_reasons_at c f)) 0 z) in
       (i, record { found = r.found; within = r.within; named = r.named; now = ap (λ x. live x.table) e ∙ r.now })
 
-  collected-after : (f : Found) → revokingOf c.table ≡ f → running c ≡ true
-      → (i : ℕ) × (i < length (live c.table)) × (isRevoking (get_or (live c.table) i blank).state ≡ true)
-      × (live (collected c).table ≡ take i (live c.table) ++ collectedRow (get_or (live c.table) i blank) ∷ drop (i + 1) (live c.table))
-  collected-after (At i) e run =
+  collected_after : (f : Found) → revoking_of c.table ≡ f → running c ≡ true
+      → (i : ℕ) × (i < length (live c.table)) × (is_revoking (get_or (live c.table) i blank).state ≡ true)
+      × (live (collected c).table ≡ take i (live c.table) ++ collected_row (get_or (live c.table) i blank) ∷ drop (i + 1) (live c.table))
+  collected_after (At i) e run =
       let t = c.table in
-      let here = found_at (λ r. isRevoking r.state) (live t) i blank (unfold revokingOf in e) in (
+      let here = found_at (λ r. is_revoking r.state) (live t) i blank (unfold revoking_of in e) in (
         i,
         here.0,
         here.1,
-        ap (λ x. live x.table) (collected-at c (At i) e) ∙ ap (λ r. live (with_row t (At i) (collectedRow r))) (row-live t i here.0)
-            ∙ with-live cells t (sound cells t (core-facts c ok).rows) i here.0 (collectedRow (get_or (live t) i blank)),
+        ap (λ x. live x.table) (collected_at c (At i) e) ∙ ap (λ r. live (with_row t (At i) (collected_row r))) (row_live t i here.0)
+            ∙ with_live cells t (sound cells t (core_facts c ok).rows) i here.0 (collected_row (get_or (live t) i blank)),
       )
-  collected-after Nowhere e run = absurd (true≢false (sym (ap (λ f. missing f) e) ∙ not-true (missing (revokingOf c.table)) (unfold running in run)))
+  collected_after Nowhere e run = absurd (true≢false (sym (ap (λ f. missing f) e) ∙ not-true (missing (revoking_of c.table)) (unfold running in run)))
 
   -- A granted collect: the Revoking reservation is Open.
-  pub collect-after : (collectOf c).code ≡ 0
-      → (i : ℕ) × (i < length (live c.table)) × (isRevoking (get_or (live c.table) i blank).state ≡ true)
-      × (live (collectOf c).core.table ≡ take i (live c.table) ++ collectedRow (get_or (live c.table) i blank) ∷ drop (i + 1) (live c.table))
-  unfolding collectOf
-  collect-after z =
-      let (i, h, r, e) = collected-after (revokingOf c.table) refl (not-false (running c) (collect-clear c z).0) in
-      (i, h, r, ap (λ x. live x.table) (pick_yes (eqb (first (collectReasons c)) 0) (collected c) c (eq-eqb (first (collectReasons c)) 0 z)) ∙ e)
+  pub collect_after : (collect_of c).code ≡ 0
+      → (i : ℕ) × (i < length (live c.table)) × (is_revoking (get_or (live c.table) i blank).state ≡ true)
+      × (live (collect_of c).core.table ≡ take i (live c.table) ++ collected_row (get_or (live c.table) i blank) ∷ drop (i + 1) (live c.table))
+  unfolding collect_of
+  collect_after z =
+      let (i, h, r, e) = collected_after (revoking_of c.table) refl (not-false (running c) (collect_clear c z).0) in
+      (i, h, r, ap (λ x. live x.table) (pick_yes (eqb (first (collect_reasons c)) 0) (collected c) c (eq-eqb (first (collect_reasons c)) 0 z)) ∙ e)
 
-  same-v : (b : Bool) (x : Core) → x.pages.v ≡ c.pages.v → (pick b x c).pages.v ≡ c.pages.v
-  same-v true x e = e
-  same-v false x e = refl
+  same_v : (b : Bool) (x : Core) → x.pages.v ≡ c.pages.v → (pick b x c).pages.v ≡ c.pages.v
+  same_v true x e = e
+  same_v false x e = refl
 
   -- No cell is lost by a revoke or a collect.
-  pub revoke-covers : (party base cell : ℕ) → covers (revokeOf c party base).core.table cell ≡ covers c.table cell
-  unfolding revokeOf revokeAt freedOf
-  revoke-covers party base cell =
-      let x = (revokeOf c party base).core in
-      let v = same-v (eqb (first (revokeReasons c party base)) 0) (revokeAt c (findOf c.table party base)) refl in
-      none-lost cells c.table x.table cell (core-facts c ok).rows (subst (λ k. tableSound (16 * k) x.table ≡ true) v (core-facts x (core-revoke c ok party base)).rows)
+  pub revoke_covers : (party base cell : ℕ) → covers (revoke_of c party base).core.table cell ≡ covers c.table cell
+  unfolding revoke_of revoke_at freed_of
+  revoke_covers party base cell =
+      let x = (revoke_of c party base).core in
+      let v = same_v (eqb (first (revoke_reasons c party base)) 0) (revoke_at c (find_of c.table party base)) refl in
+      none_lost cells c.table x.table cell (core_facts c ok).rows (subst (λ k. table_sound (16 * k) x.table ≡ true) v (core_facts x (core_revoke c ok party base)).rows)
 
-  pub collect-covers : (cell : ℕ) → covers (collectOf c).core.table cell ≡ covers c.table cell
-  unfolding collectOf collected releasedOf
-  collect-covers cell =
-      let x = (collectOf c).core in
-      let v = same-v (eqb (first (collectReasons c)) 0) (collected c) refl in
-      none-lost cells c.table x.table cell (core-facts c ok).rows (subst (λ k. tableSound (16 * k) x.table ≡ true) v (core-facts x (core-collect c ok)).rows)
+  pub collect_covers : (cell : ℕ) → covers (collect_of c).core.table cell ≡ covers c.table cell
+  unfolding collect_of collected released_of
+  collect_covers cell =
+      let x = (collect_of c).core in
+      let v = same_v (eqb (first (collect_reasons c)) 0) (collected c) refl in
+      none_lost cells c.table x.table cell (core_facts c ok).rows (subst (λ k. table_sound (16 * k) x.table ≡ true) v (core_facts x (core_collect c ok)).rows)
 
 -- Where no revocation runs the revoked range is empty, so that the range alone says what dies.
-empty-range : (c : Core) (f : Found) → revokingOf c.table ≡ f → running c ≡ false → (revoked c).length ≡ 0
-unfolding revoked rowOf
-empty-range c (At i) e q = absurd (true≢false (sym (not-false (missing (revokingOf c.table)) (unfold running in q)) ∙ ap missing e))
-empty-range c Nowhere e q = ap (λ f. (range_of (rowOf c.table f)).length) e
+empty_range : (c : Core) (f : Found) → revoking_of c.table ≡ f → running c ≡ false → (revoked c).length ≡ 0
+unfolding revoked row_of
+empty_range c (At i) e q = absurd (true≢false (sym (not-false (missing (revoking_of c.table)) (unfold running in q)) ∙ ap missing e))
+empty_range c Nowhere e q = ap (λ f. (range_of (row_of c.table f)).length) e
 
-pub dying-dies : (c : Core) (cell : ℕ) → dying c cell ≡ dies (revoked c) cell
+pub dying_dies : (c : Core) (cell : ℕ) → dying c cell ≡ dies (revoked c) cell
 unfolding dying
-dying-dies c cell = go (running c) refl
+dying_dies c cell = go (running c) refl
   where
     go : (a : Bool) → running c ≡ a → running c && dies (revoked c) cell ≡ dies (revoked c) cell
     go true p = rw p refl
-    go false p = rw p (sym (none_dies (revoked c) cell (empty-range c (revokingOf c.table) refl p)))
+    go false p = rw p (sym (none_dies (revoked c) cell (empty_range c (revoking_of c.table) refl p)))
 
 -- What dies, by its base.
-pub dying-inside : (c : Core) (cell : ℕ) → dying c cell ≡ inside (revoked c) (base_of cell)
+pub dying_inside : (c : Core) (cell : ℕ) → dying c cell ≡ inside (revoked c) (base_of cell)
 unfolding dies
-dying-inside c cell = dying-dies c cell
+dying_inside c cell = dying_dies c cell

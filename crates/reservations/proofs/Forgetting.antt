@@ -9,76 +9,76 @@ use Rattle.capabilities.specs.Capability.{base_of}
 use Rattle.capabilities.specs.Lists.{pick}
 use Rattle.capabilities.specs.Death.{dies}
 use Rattle.capabilities.specs.Refusals.{reason}
-use Rattle.pages.specs.Freed.{allFreed}
-use Rattle.pages.specs.Mapping.{anyMapped, freedOf, releasedOf}
-use Rattle.table.specs.Rows.{isRevoking, range_of, forgetTable}
-use Rattle.table.specs.Find.{missing, findOf, revokingOf, rowOf, with_row}
-use Rattle.reservations.specs.Core.{Core, withTable, unswept}
-use Rattle.reservations.specs.Revocation.{forgetCore, running, revoked, dying, wholePages, revokeReasonsAt, revokeReasons, revokingRow, revokeAt, revokeOf, collectReasons, collectedRow, collected, collectOf, revocationSound, coreSound}
-use Rattle.reservations.proofs.CoreKept.{core-facts, core-made}
-use Rattle.table.proofs.Forgetting.{granted-like, table-twice, find-forgets, revoking-forgets, row-forgets, put-by, sound-forgets}
+use Rattle.pages.specs.Freed.{all_freed}
+use Rattle.pages.specs.Mapping.{any_mapped, freed_of, released_of}
+use Rattle.table.specs.Rows.{is_revoking, range_of, forget_table}
+use Rattle.table.specs.Find.{missing, find_of, revoking_of, row_of, with_row}
+use Rattle.reservations.specs.Core.{Core, with_table, unswept}
+use Rattle.reservations.specs.Revocation.{forget_core, running, revoked, dying, whole_pages, revoke_reasons_at, revoke_reasons, revoking_row, revoke_at, revoke_of, collect_reasons, collected_row, collected, collect_of, revocation_sound, core_sound}
+use Rattle.reservations.proofs.CoreKept.{core_facts, core_made}
+use Rattle.table.proofs.Forgetting.{granted_like, table_twice, find_forgets, revoking_forgets, row_forgets, put_by, sound_forgets}
 
 module _ (c : Core) where
-  pub core-twice : forgetCore (forgetCore c) ≡ forgetCore c
-  core-twice = ap (λ t. withTable c t) (table-twice c.table)
+  pub core_twice : forget_core (forget_core c) ≡ forget_core c
+  core_twice = ap (λ t. with_table c t) (table_twice c.table)
 
-  pub running-forgets : running (forgetCore c) ≡ running c
+  pub running_forgets : running (forget_core c) ≡ running c
   unfolding running
-  running-forgets = ap (λ f. not (missing f)) (revoking-forgets c.table)
+  running_forgets = ap (λ f. not (missing f)) (revoking_forgets c.table)
 
-  pub revoked-forgets : revoked (forgetCore c) ≡ revoked c
+  pub revoked_forgets : revoked (forget_core c) ≡ revoked c
   unfolding revoked
-  revoked-forgets = ap (λ f. range_of (rowOf (forgetTable c.table) f)) (revoking-forgets c.table) ∙ ap range_of (row-forgets c.table (revokingOf c.table))
+  revoked_forgets = ap (λ f. range_of (row_of (forget_table c.table) f)) (revoking_forgets c.table) ∙ ap range_of (row_forgets c.table (revoking_of c.table))
 
   -- The same capabilities die.
-  pub dying-forgets : dying (forgetCore c) ≡ dying c
+  pub dying_forgets : dying (forget_core c) ≡ dying c
   unfolding dying
-  dying-forgets = ap (λ b cell. b && dies (revoked (forgetCore c)) cell) running-forgets ∙ ap (λ r cell. running c && dies r cell) revoked-forgets
+  dying_forgets = ap (λ b cell. b && dies (revoked (forget_core c)) cell) running_forgets ∙ ap (λ r cell. running c && dies r cell) revoked_forgets
 
-  pub revoke-reasons : (party base : ℕ) → revokeReasons (forgetCore c) party base ≡ revokeReasons c party base
-  unfolding revokeReasons revokeReasonsAt
-  revoke-reasons party base =
-      let f = findOf c.table party base in
-      ap (revokeReasonsAt (forgetCore c)) (find-forgets c.table party base)
-      ∙ ap (λ r. reason 6 (missing f) ∷ reason 7 (isRevoking r.state) ∷ reason 10 (not (wholePages r)) ∷ reason 11 (running (forgetCore c)) ∷ reason 13 (anyMapped c.pages (range_of r)) ∷ []) (row-forgets c.table f)
-      ∙ ap (λ b. reason 6 (missing f) ∷ reason 7 (isRevoking (rowOf c.table f).state) ∷ reason 10 (not (wholePages (rowOf c.table f))) ∷ reason 11 b ∷ reason 13 (anyMapped c.pages (range_of (rowOf c.table f))) ∷ []) running-forgets
+  pub revoke_reasons_lem : (party base : ℕ) → revoke_reasons (forget_core c) party base ≡ revoke_reasons c party base
+  unfolding revoke_reasons revoke_reasons_at
+  revoke_reasons_lem party base =
+      let f = find_of c.table party base in
+      ap (revoke_reasons_at (forget_core c)) (find_forgets c.table party base)
+      ∙ ap (λ r. reason 6 (missing f) ∷ reason 7 (is_revoking r.state) ∷ reason 10 (not (whole_pages r)) ∷ reason 11 (running (forget_core c)) ∷ reason 13 (any_mapped c.pages (range_of r)) ∷ []) (row_forgets c.table f)
+      ∙ ap (λ b. reason 6 (missing f) ∷ reason 7 (is_revoking (row_of c.table f).state) ∷ reason 10 (not (whole_pages (row_of c.table f))) ∷ reason 11 b ∷ reason 13 (any_mapped c.pages (range_of (row_of c.table f))) ∷ []) running_forgets
 
-  pub revoke-forgets : (party base : ℕ) → forgetCore (revokeOf (forgetCore c) party base).core ≡ forgetCore (revokeOf c party base).core
-  unfolding revokeOf revokeAt
-  revoke-forgets party base =
+  pub revoke_forgets : (party base : ℕ) → forget_core (revoke_of (forget_core c) party base).core ≡ forget_core (revoke_of c party base).core
+  unfolding revoke_of revoke_at
+  revoke_forgets party base =
       let t = c.table in
-      let f = findOf t party base in
-      granted-like forgetCore (revoke-reasons party base)
-      (ap (λ u. unswept c (freedOf c.pages (range_of (rowOf (forgetTable t) (findOf (forgetTable t) party base)))) u)
-      (put-by t revokingRow (λ r. refl) (findOf (forgetTable t) party base) f (find-forgets t party base))
-      ∙ ap (λ x. unswept c (freedOf c.pages (range_of (rowOf (forgetTable t) x))) (forgetTable (with_row t f (revokingRow (rowOf t f))))) (find-forgets t party base)
-      ∙ ap (λ r. unswept c (freedOf c.pages (range_of r)) (forgetTable (with_row t f (revokingRow (rowOf t f))))) (row-forgets t f))
-      core-twice
+      let f = find_of t party base in
+      granted_like forget_core (revoke_reasons_lem party base)
+      (ap (λ u. unswept c (freed_of c.pages (range_of (row_of (forget_table t) (find_of (forget_table t) party base)))) u)
+      (put_by t revoking_row (λ r. refl) (find_of (forget_table t) party base) f (find_forgets t party base))
+      ∙ ap (λ x. unswept c (freed_of c.pages (range_of (row_of (forget_table t) x))) (forget_table (with_row t f (revoking_row (row_of t f))))) (find_forgets t party base)
+      ∙ ap (λ r. unswept c (freed_of c.pages (range_of r)) (forget_table (with_row t f (revoking_row (row_of t f))))) (row_forgets t f))
+      core_twice
 
-  pub collect-reasons : collectReasons (forgetCore c) ≡ collectReasons c
-  unfolding collectReasons
-  collect-reasons = ap (λ b. reason 11 (not b || not (leb (16 * c.pages.f) c.place)) ∷ []) running-forgets
+  pub collect_reasons_lem : collect_reasons (forget_core c) ≡ collect_reasons c
+  unfolding collect_reasons
+  collect_reasons_lem = ap (λ b. reason 11 (not b || not (leb (16 * c.pages.f) c.place)) ∷ []) running_forgets
 
-  pub collect-forgets : forgetCore (collectOf (forgetCore c)).core ≡ forgetCore (collectOf c).core
-  unfolding collectOf collected
-  collect-forgets =
+  pub collect_forgets : forget_core (collect_of (forget_core c)).core ≡ forget_core (collect_of c).core
+  unfolding collect_of collected
+  collect_forgets =
       let t = c.table in
-      granted-like forgetCore collect-reasons
-      (ap (λ u. unswept c (releasedOf c.pages (revoked (forgetCore c))) u) (put-by t collectedRow (λ r. refl) (revokingOf (forgetTable t)) (revokingOf t) (revoking-forgets t))
-      ∙ ap (λ r. unswept c (releasedOf c.pages r) (forgetTable (with_row t (revokingOf t) (collectedRow (rowOf t (revokingOf t)))))) revoked-forgets)
-      core-twice
+      granted_like forget_core collect_reasons_lem
+      (ap (λ u. unswept c (released_of c.pages (revoked (forget_core c))) u) (put_by t collected_row (λ r. refl) (revoking_of (forget_table t)) (revoking_of t) (revoking_forgets t))
+      ∙ ap (λ r. unswept c (released_of c.pages r) (forget_table (with_row t (revoking_of t) (collected_row (row_of t (revoking_of t)))))) revoked_forgets)
+      core_twice
 
-  revocation-forgets : revocationSound (forgetCore c) ≡ revocationSound c
-  unfolding revocationSound
-  revocation-forgets =
-      let bare = forgetCore c in
+  revocation_forgets : revocation_sound (forget_core c) ≡ revocation_sound c
+  unfolding revocation_sound
+  revocation_forgets =
+      let bare = forget_core c in
       let t = c.table in
-      ap (λ b. pick b (wholePages (rowOf bare.table (revokingOf bare.table)) && allFreed c.pages (revoked bare)) (eqb c.place 0)) running-forgets
-      ∙ ap (λ r. pick (running c) (wholePages (rowOf bare.table (revokingOf bare.table)) && allFreed c.pages r) (eqb c.place 0)) revoked-forgets
-      ∙ ap (λ f. pick (running c) (wholePages (rowOf bare.table f) && allFreed c.pages (revoked c)) (eqb c.place 0)) (revoking-forgets t)
-      ∙ ap (λ r. pick (running c) (wholePages r && allFreed c.pages (revoked c)) (eqb c.place 0)) (row-forgets t (revokingOf t))
+      ap (λ b. pick b (whole_pages (row_of bare.table (revoking_of bare.table)) && all_freed c.pages (revoked bare)) (eqb c.place 0)) running_forgets
+      ∙ ap (λ r. pick (running c) (whole_pages (row_of bare.table (revoking_of bare.table)) && all_freed c.pages r) (eqb c.place 0)) revoked_forgets
+      ∙ ap (λ f. pick (running c) (whole_pages (row_of bare.table f) && all_freed c.pages (revoked c)) (eqb c.place 0)) (revoking_forgets t)
+      ∙ ap (λ r. pick (running c) (whole_pages r && all_freed c.pages (revoked c)) (eqb c.place 0)) (row_forgets t (revoking_of t))
 
-  pub core-forgets : coreSound c ≡ true → coreSound (forgetCore c) ≡ true
-  core-forgets e =
-      let k = core-facts c e in
-      core-made (forgetCore c) k.layer (sound-forgets (16 * c.pages.v) c.table k.rows) k.place (revocation-forgets ∙ k.revocation)
+  pub core_forgets : core_sound c ≡ true → core_sound (forget_core c) ≡ true
+  core_forgets e =
+      let k = core_facts c e in
+      core_made (forget_core c) k.layer (sound_forgets (16 * c.pages.v) c.table k.rows) k.place (revocation_forgets ∙ k.revocation)

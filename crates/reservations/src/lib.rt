@@ -3,7 +3,7 @@ pub mod lent;
 
 ghost use Rattle.std.specs.Prelude.{◌≡◌};
 ghost use Rattle.table.specs.Rows.{range_of};
-ghost use Rattle.reservations.specs.Revocation.{wholePages, revokingTaker, revokingRow, collectedRow};
+ghost use Rattle.reservations.specs.Revocation.{whole_pages, revoking_taker, revoking_row, collected_row};
 
 use capabilities::Range;
 use table::row::is_open;
@@ -19,21 +19,21 @@ pub fn range_of(row: Reservation) -> Range
 }
 
 pub fn whole_pages(row: Reservation) -> bool
-    ensures { result ≡ wholePages row }
+    ensures { result ≡ whole_pages row }
 {
     (row.base % 16 == 0) & (row.length % 16 == 0)
 }
 
 // The taker of a Taken one stays; an Open one had none, and gets 0.
 pub fn revoking_taker(row: Reservation) -> u8
-    ensures { result ≡ revokingTaker row }
+    ensures { result ≡ revoking_taker row }
 {
     let state = row.state;
     if is_open(state) { 0 } else { row.taker }
 }
 
 pub fn revoking_row(row: Reservation) -> Reservation
-    ensures { result ≡ revokingRow row }
+    ensures { result ≡ revoking_row row }
 {
     Reservation {
         base: row.base,
@@ -45,7 +45,7 @@ pub fn revoking_row(row: Reservation) -> Reservation
 }
 
 pub fn collected_row(row: Reservation) -> Reservation
-    ensures { result ≡ collectedRow row }
+    ensures { result ≡ collected_row row }
 {
     Reservation {
         base: row.base,

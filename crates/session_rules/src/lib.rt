@@ -1,9 +1,9 @@
 // The lines of a session as the rules give them, and whether a refusal ends it.
 ghost use Rattle.std.specs.Prelude.{◌≡◌};
-ghost use Rattle.session_rules.specs.Session.{endsSession};
+ghost use Rattle.session_rules.specs.Session.{ends_session};
 
 pub fn ends(code: u8) -> bool
-    ensures { result ≡ endsSession code }
+    ensures { result ≡ ends_session code }
 {
     (1 <= code) & (code <= 3)
 }

@@ -11,49 +11,49 @@ use borrow.Author.Tests.{le-leb}
 use Rattle.capabilities.specs.Lists.{pick, filter}
 use Rattle.capabilities.proofs.Flatten.{map_same}
 use Rattle.machine.proofs.Computing.{computing}
-use Rattle.session_rules.specs.Session.{printed, printOf}
+use Rattle.session_rules.specs.Session.{printed, print_of}
 use Rattle.histories.specs.Runs.{begun}
 use Rattle.short_histories.specs.Listed.{choices, operands, listed}
-use Rattle.short_histories.specs.Text.{bytesIn, digit, digits, hexLine, line_of}
-use Rattle.short_histories.specs.Histories.{freshOne, grantsAll, sequences, counts, histories, text}
-use Rattle.short_histories.specs.Found.{byRules, foundBy, found}
-use Rattle.short_histories.proofs.Continuing.{continued-all, continued-ruled, histories-continued, fresh-standing}
+use Rattle.short_histories.specs.Text.{bytes_in, digit, digits, hex_line, line_of}
+use Rattle.short_histories.specs.Histories.{fresh_one, grants_all, sequences, counts, histories, text}
+use Rattle.short_histories.specs.Found.{by_rules, found_by, found}
+use Rattle.short_histories.proofs.Continuing.{continued_all, continued_ruled, histories_continued, fresh_standing}
 
 -- What the histories compute with, named once.
-unfoldable pub computingHistories : ℕ
-unfolding foundBy byRules found freshOne choices operands listed bytesIn digit digits hexLine line_of begun flatten computing
-computingHistories = 0
+unfoldable pub computing_histories : ℕ
+unfolding found_by by_rules found fresh_one choices operands listed bytes_in digit digits hex_line line_of begun flatten computing
+computing_histories = 0
 
-pub found_all : (n : ℕ) → filter (grantsAll freshOne) (sequences n) ≡ found n
+pub found_all : (n : ℕ) → filter (grants_all fresh_one) (sequences n) ≡ found n
 unfolding found
-found_all n = sym (continued-all n freshOne) ∙ continued-ruled n freshOne 1 1 fresh-standing
+found_all n = sym (continued_all n fresh_one) ∙ continued_ruled n fresh_one 1 1 fresh_standing
 
-pub histories-found : histories ≡ flatten (map found counts)
+pub histories_found : histories ≡ flatten (map found counts)
 unfolding found
-histories-found = histories-continued ∙ ap flatten (map_same _ found counts (λ n. continued-ruled n freshOne 1 1 fresh-standing))
+histories_found = histories_continued ∙ ap flatten (map_same _ found counts (λ n. continued_ruled n fresh_one 1 1 fresh_standing))
 
 -- So many of 0, 1, 2 and 3 commands.
-found-counts : map (λ n. length (found n)) counts ≡ 1 ∷ 6 ∷ 30 ∷ 150 ∷ []
-unfolding computingHistories
-found-counts = refl
+found_counts : map (λ n. length (found n)) counts ≡ 1 ∷ 6 ∷ 30 ∷ 150 ∷ []
+unfolding computing_histories
+found_counts = refl
 
-pub history-counts : map (λ n. length (filter (grantsAll freshOne) (sequences n))) counts ≡ 1 ∷ 6 ∷ 30 ∷ 150 ∷ []
-history-counts = map_same _ _ counts (λ n. ap length (found_all n)) ∙ found-counts
+pub history_counts : map (λ n. length (filter (grants_all fresh_one) (sequences n))) counts ≡ 1 ∷ 6 ∷ 30 ∷ 150 ∷ []
+history_counts = map_same _ _ counts (λ n. ap length (found_all n)) ∙ found_counts
 
-found-length : length (flatten (map line_of (flatten (map found counts)))) ≡ 5043
-unfolding computingHistories
-found-length = refl
+found_length : length (flatten (map line_of (flatten (map found counts)))) ≡ 5043
+unfolding computing_histories
+found_length = refl
 
-pub text-length : length text ≡ 5043
+pub text_length : length text ≡ 5043
 unfolding text
-text-length = ap (λ hs. length (flatten (map line_of hs))) histories-found ∙ found-length
+text_length = ap (λ hs. length (flatten (map line_of hs))) histories_found ∙ found_length
 
 -- A buffer of just that length holds the text and nothing else.
-pub fills : (out : List ℕ) (n : ℕ) (after : List ℕ) → length out ≡ 5043 → printed n after ≡ printOf text out → after ≡ text
-unfolding printOf
+pub fills : (out : List ℕ) (n : ℕ) (after : List ℕ) → length out ≡ 5043 → printed n after ≡ print_of text out → after ≡ text
+unfolding print_of
 fills out n after long e =
     ap (λ p. p.buffer) (e ∙ ap (λ b. pick b (printed (length text) (text ++ drop (length text) out)) (printed 0 out)) fits)
-    ∙ ap (λ l. text ++ l) (drop_of_length-le out {i = length text} (omega (arith, long, text-length))) ∙ append-nil text
+    ∙ ap (λ l. text ++ l) (drop_of_length-le out {i = length text} (omega (arith, long, text_length))) ∙ append-nil text
   where
     fits : leb (length text) (length out) ≡ true
-    fits = le-leb (length text) (length out) (omega (arith, long, text-length))
+    fits = le-leb (length text) (length out) (omega (arith, long, text_length))

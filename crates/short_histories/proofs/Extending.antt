@@ -8,55 +8,55 @@ use mathlib.Core.Path.{◌≡◌, refl, sym, ◌∙◌, ap}
 use lib.ListN.{length, get_or}
 use lib.Dec.{leb}
 use borrow.Author.Tests.{leb-true}
-use Rattle.capabilities.specs.Lists.{pick, each, mapEach}
+use Rattle.capabilities.specs.Lists.{pick, each, map_each}
 use Rattle.capabilities.proofs.Lists.{each_at}
 use Rattle.calls.specs.Commands.{bytes_of}
 use Rattle.calls.specs.declared.Call.{Call}
 use Rattle.calls.specs.declared.Call.TheVariants.{Collect}
 use Rattle.arrays.specs.declared.Arrays.{Arrays}
-use Rattle.step.specs.Entries.{stepOn}
+use Rattle.step.specs.Entries.{step_on}
 use Rattle.short_histories.specs.Listed.{choices, operands, listed}
-use Rattle.short_histories.specs.Text.{hexLine}
-use Rattle.short_histories.specs.Walk.{leading, ledBy, onward, linesOn}
-use Rattle.short_histories.proofs.Numbered.{listed-length}
+use Rattle.short_histories.specs.Text.{hex_line}
+use Rattle.short_histories.specs.Walk.{leading, led_by, onward, lines_on}
+use Rattle.short_histories.proofs.Numbered.{listed_length}
 
 -- The listed command of a number; of no other is asked.
-abbrev pub numberedCall : ℕ → Call
-numberedCall k = get_or listed k (Collect 0)
+abbrev pub numbered_call : ℕ → Call
+numbered_call k = get_or listed k (Collect 0)
 
 -- A listed command has six bytes at most.
-short-bytes : each (λ k c. leb (length (bytes_of c)) 6) 0 listed ≡ true
-unfolding each mapEach listed choices operands flatten
-short-bytes = refl
+short_bytes : each (λ k c. leb (length (bytes_of c)) 6) 0 listed ≡ true
+unfolding each map_each listed choices operands flatten
+short_bytes = refl
 
-pub listed-short : (k : ℕ) → k < 40 → length (bytes_of (numberedCall k)) ≤ 6
-listed-short k h =
-    leb-true (length (bytes_of (numberedCall k))) 6 (each_at (λ k c. leb (length (bytes_of c)) 6) 0 listed k (Collect 0) (rw listed-length h) short-bytes)
+pub listed_short : (k : ℕ) → k < 40 → length (bytes_of (numbered_call k)) ≤ 6
+listed_short k h =
+    leb-true (length (bytes_of (numbered_call k))) 6 (each_at (λ k c. leb (length (bytes_of c)) 6) 0 listed k (Collect 0) (rw listed_length h) short_bytes)
 
 -- What goes on from a call, of the lines with so many commands more.
 abbrev pub part_of : ℕ → List ℕ → Arrays → List ℕ → List ℕ → Call → List ℕ
-part_of more bytes a cells tags c = onward (linesOn (more - 1)) bytes c (ledBy (stepOn a c cells tags))
+part_of more bytes a cells tags c = onward (lines_on (more - 1)) bytes c (led_by (step_on a c cells tags))
 
 module _ (more : ℕ) (bytes : List ℕ) (a : Arrays) (cells tags : List ℕ) where
-  pub lines_none : more ≡ 0 → linesOn more bytes a cells tags ≡ hexLine bytes
-  unfolding linesOn
-  lines_none e = ap (λ n. linesOn n bytes a cells tags) e
+  pub lines_none : more ≡ 0 → lines_on more bytes a cells tags ≡ hex_line bytes
+  unfolding lines_on
+  lines_none e = ap (λ n. lines_on n bytes a cells tags) e
 
-  pub lines-parts : (more ≡ 0 → ⊥) → linesOn more bytes a cells tags ≡ flatten (map (part_of more bytes a cells tags) listed)
-  lines-parts f =
+  pub lines_parts : (more ≡ 0 → ⊥) → lines_on more bytes a cells tags ≡ flatten (map (part_of more bytes a cells tags) listed)
+  lines_parts f =
       let up : more ≡ suc (more - 1) = omega (arith, f) in
-      ap (λ n. linesOn n bytes a cells tags) up ∙ unfold linesOn in refl
+      ap (λ n. lines_on n bytes a cells tags) up ∙ unfold lines_on in refl
 
-  module _ (k : ℕ) (call : Call) (is : call ≡ numberedCall k) (granted : Bool) (b : Arrays) (cells₂ tags₂ : List ℕ)
-      (led : leading granted b cells₂ tags₂ ≡ ledBy (stepOn a call cells tags)) where
-    tried : part_of more bytes a cells tags (numberedCall k) ≡ pick granted (linesOn (more - 1) (bytes ++ bytes_of call) b cells₂ tags₂) []
-    tried = ap (part_of more bytes a cells tags) (sym is) ∙ ap (onward (linesOn (more - 1)) bytes call) (sym led) ∙ unfold onward in refl
+  module _ (k : ℕ) (call : Call) (is : call ≡ numbered_call k) (granted : Bool) (b : Arrays) (cells₂ tags₂ : List ℕ)
+      (led : leading granted b cells₂ tags₂ ≡ led_by (step_on a call cells tags)) where
+    tried : part_of more bytes a cells tags (numbered_call k) ≡ pick granted (lines_on (more - 1) (bytes ++ bytes_of call) b cells₂ tags₂) []
+    tried = ap (part_of more bytes a cells tags) (sym is) ∙ ap (onward (lines_on (more - 1)) bytes call) (sym led) ∙ unfold onward in refl
 
-    pub part-granted : granted ≡ true → (longer : List ℕ) → longer ≡ bytes ++ bytes_of call
-        → linesOn (more - 1) longer b cells₂ tags₂ ≡ part_of more bytes a cells tags (numberedCall k)
-    part-granted g longer e =
-        ap (λ l. linesOn (more - 1) l b cells₂ tags₂) e
-        ∙ sym (tried ∙ ap (λ t. pick t (linesOn (more - 1) (bytes ++ bytes_of call) b cells₂ tags₂) []) g)
+    pub part_granted : granted ≡ true → (longer : List ℕ) → longer ≡ bytes ++ bytes_of call
+        → lines_on (more - 1) longer b cells₂ tags₂ ≡ part_of more bytes a cells tags (numbered_call k)
+    part_granted g longer e =
+        ap (λ l. lines_on (more - 1) l b cells₂ tags₂) e
+        ∙ sym (tried ∙ ap (λ t. pick t (lines_on (more - 1) (bytes ++ bytes_of call) b cells₂ tags₂) []) g)
 
-    pub part-refused : granted ≡ false → [] ≡ part_of more bytes a cells tags (numberedCall k)
-    part-refused g = sym (tried ∙ ap (λ t. pick t (linesOn (more - 1) (bytes ++ bytes_of call) b cells₂ tags₂) []) g)
+    pub part_refused : granted ≡ false → [] ≡ part_of more bytes a cells tags (numbered_call k)
+    part_refused g = sym (tried ∙ ap (λ t. pick t (lines_on (more - 1) (bytes ++ bytes_of call) b cells₂ tags₂) []) g)

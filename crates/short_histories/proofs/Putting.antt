@@ -6,10 +6,10 @@ use mathlib.Core.List.{List, [], ◌∷◌, ◌++◌, map, map-append, flatten, 
 use mathlib.Core.Path.{◌≡◌, refl, sym, ◌∙◌, ap, subst}
 use lib.ListN.{length, get_or, take, drop, set, length-append, length-map, length-set, take-append-drop}
 use lib.Seq.{take-suc, take_all}
-use Rattle.capabilities.proofs.Flatten.{flatten-append}
+use Rattle.capabilities.proofs.Flatten.{flatten_append}
 use Rattle.lines.specs.Laid.{Laid}
 use Rattle.lines.proofs.Laying.{laid_both, laid_none, laid_one}
-use Rattle.short_histories.specs.Text.{digit, digits, hexLine}
+use Rattle.short_histories.specs.Text.{digit, digits, hex_line}
 
 -- ---- Digits
 digits_append : (xs ys : List ℕ) → digits (xs ++ ys) ≡ digits xs ++ digits ys
@@ -22,9 +22,9 @@ unfolding digits
 length_digits [] = refl
 length_digits (x ∷ xs) = let e : length (digits xs) ≡ 2 * length xs = length_digits xs in omega arith
 
-pub length-line : (xs : List ℕ) → length (hexLine xs) ≡ 2 * length xs + 1
-unfolding hexLine
-length-line xs = length-append (digits xs) (10 ∷ []) ∙ ap (λ n. n + 1) (length_digits xs)
+pub length_line : (xs : List ℕ) → length (hex_line xs) ≡ 2 * length xs + 1
+unfolding hex_line
+length_line xs = length-append (digits xs) (10 ∷ []) ∙ ap (λ n. n + 1) (length_digits xs)
 
 -- The digits of the bytes so far stand from a place on.
 pub record Spelt (bytes : List ℕ) (at : ℕ) (a : List ℕ) (i end : ℕ) (b : List ℕ) : Type 0 where
@@ -32,16 +32,16 @@ pub record Spelt (bytes : List ℕ) (at : ℕ) (a : List ℕ) (i end : ℕ) (b :
   pub laid : Laid (digits (take i bytes)) at a end b
   pub is : end ≡ at + 2 * i
 
-pub spelt-none : (bytes : List ℕ) (at : ℕ) (a : List ℕ) → Spelt bytes at a 0 at a
-spelt-none bytes at a = record { within = omega arith; laid = unfold digits in laid_none at a; is = omega arith }
+pub spelt_none : (bytes : List ℕ) (at : ℕ) (a : List ℕ) → Spelt bytes at a 0 at a
+spelt_none bytes at a = record { within = omega arith; laid = unfold digits in laid_none at a; is = omega arith }
 
-module _ (bytes : List ℕ) (at : ℕ) (a : List ℕ) (room : at + length (hexLine bytes) ≤ length a) (i end : ℕ) (b : List ℕ) (p : Spelt bytes at a i end b) where
+module _ (bytes : List ℕ) (at : ℕ) (a : List ℕ) (room : at + length (hex_line bytes) ≤ length a) (i end : ℕ) (b : List ℕ) (p : Spelt bytes at a i end b) where
   all_room : end + 2 * length bytes + 1 ≤ length b + 2 * i
-  all_room = omega (arith, room, length-line bytes, p.is, p.laid.size)
+  all_room = omega (arith, room, length_line bytes, p.is, p.laid.size)
 
-  pub spelt-two : (high low : ℕ) → i < length bytes → high ≡ digit (get_or bytes i 0 / 16) → low ≡ digit (get_or bytes i 0 % 16)
+  pub spelt_two : (high low : ℕ) → i < length bytes → high ≡ digit (get_or bytes i 0 / 16) → low ≡ digit (get_or bytes i 0 % 16)
       → Spelt bytes at a (i + 1) (end + 2) (set (set b end high) (end + 1) low)
-  spelt-two high low h e f = record {
+  spelt_two high low h e f = record {
     within = omega arith;
     laid = subst (λ l. Laid l at a (end + 2) (set (set b end high) (end + 1) low)) (sym more) put;
     is = omega (arith, p.is);
@@ -66,17 +66,17 @@ module _ (bytes : List ℕ) (at : ℕ) (a : List ℕ) (room : at + length (hexLi
       put : Laid (digits (take i bytes) ++ (high ∷ low ∷ [])) at a (end + 2) (set (set b end high) (end + 1) low)
       put = laid_both (digits (take i bytes)) (high ∷ low ∷ []) at end (end + 2) a b (set (set b end high) (end + 1) low) p.laid two
 
-  pub spelt-room : i < length bytes → end + 2 ≤ length b
-  spelt-room h = omega (arith, all_room)
+  pub spelt_room : i < length bytes → end + 2 ≤ length b
+  spelt_room h = omega (arith, all_room)
 
-  pub line-room : end + 1 ≤ length b
-  line-room = omega (arith, all_room, p.within)
+  pub line_room : end + 1 ≤ length b
+  line_room = omega (arith, all_room, p.within)
 
-  pub spelt-line : length bytes ≤ i → Laid (hexLine bytes) at a (end + 1) (set b end 10)
-  unfolding hexLine
-  spelt-line h =
+  pub spelt_line : length bytes ≤ i → Laid (hex_line bytes) at a (end + 1) (set b end 10)
+  unfolding hex_line
+  spelt_line h =
       laid_both (digits bytes) (10 ∷ []) at end (end + 1) a b (set b end 10) (subst (λ l. Laid (digits l) at a end b) (take_all i bytes h) p.laid)
-      (laid_one 10 end (end + 1) b refl line-room)
+      (laid_one 10 end (end + 1) b refl line_room)
 
 -- ---- A text in parts, one for each entry of a list
 -- The parts of the first k entries stand from a place on.
@@ -93,7 +93,7 @@ module _ {A : Type 0} (part : A → List ℕ) (l : List A) (d : A) (at : ℕ) (a
     one_more h =
         ap (λ m. flatten (map part m)) (ap (λ n. take n l) (add-one k) ∙ take-suc l k d h)
         ∙ ap flatten (map-append part (take k l) (get_or l k d ∷ []))
-        ∙ flatten-append (map part (take k l)) (part (get_or l k d) ∷ [])
+        ∙ flatten_append (map part (take k l)) (part (get_or l k d) ∷ [])
         ∙ ap (λ m. flatten (map part (take k l)) ++ m) (unfold flatten in append-nil (part (get_or l k d)))
 
     pub parts_next : k < length l → (end₂ : ℕ) (c : List ℕ) → Laid (part (get_or l k d)) end b end₂ c → Parts part l at a (k + 1) end₂ c
@@ -103,25 +103,25 @@ module _ {A : Type 0} (part : A → List ℕ) (l : List A) (d : A) (at : ℕ) (a
     }
 
     -- If there is room for all, there is for the next.
-    pub parts-room : k < length l → at + length (flatten (map part l)) ≤ length a → end + length (part (get_or l k d)) ≤ length b
-    parts-room h room =
-        let all : length (flatten (map part (take k l))) + length (part (get_or l k d)) ≤ length (flatten (map part l)) = first-parts in
+    pub parts_room : k < length l → at + length (flatten (map part l)) ≤ length a → end + length (part (get_or l k d)) ≤ length b
+    parts_room h room =
+        let all : length (flatten (map part (take k l))) + length (part (get_or l k d)) ≤ length (flatten (map part l)) = first_parts in
         omega (arith, room, p.laid.ends, p.laid.size)
       where
         whole : flatten (map part l) ≡ (flatten (map part (take k l)) ++ part (get_or l k d)) ++ flatten (map part (drop (k + 1) l))
         whole =
             ap (λ m. flatten (map part m)) (sym (take-append-drop (k + 1) l))
             ∙ ap flatten (map-append part (take (k + 1) l) (drop (k + 1) l))
-            ∙ flatten-append (map part (take (k + 1) l)) (map part (drop (k + 1) l))
+            ∙ flatten_append (map part (take (k + 1) l)) (map part (drop (k + 1) l))
             ∙ ap (λ m. m ++ flatten (map part (drop (k + 1) l))) (one_more h)
 
-        first-parts : length (flatten (map part (take k l))) + length (part (get_or l k d)) ≤ length (flatten (map part l))
-        first-parts = rw whole (simp length-append (omega arith))
+        first_parts : length (flatten (map part (take k l))) + length (part (get_or l k d)) ≤ length (flatten (map part l))
+        first_parts = rw whole (simp length-append (omega arith))
 
     pub parts_all : length l ≤ k → Laid (flatten (map part l)) at a end b
     parts_all h = subst (λ m. Laid (flatten (map part m)) at a end b) (take_all k l h) p.laid
 
 -- ---- Arrays
 -- How long an array is that a struct holds.
-pub length-under : (X Y : Type 0) (f : X → Y) (l : List X) (n : ℕ) → length (map f l) ≡ n → length l ≡ n
-length-under X Y f l n e = sym (length-map l f) ∙ e
+pub length_under : (X Y : Type 0) (f : X → Y) (l : List X) (n : ℕ) → length (map f l) ≡ n → length l ≡ n
+length_under X Y f l n e = sym (length-map l f) ∙ e

@@ -8,26 +8,26 @@ use Rattle.capabilities.specs.Lists.{all, filter, same}
 use Rattle.capabilities.proofs.Lists.{every}
 use Rattle.short_histories.specs.Text.{line_of}
 use Rattle.short_histories.specs.Histories.{text}
-use Rattle.short_histories.specs.Found.{textBy, rightText}
-use Rattle.short_histories.specs.WrongTexts.{afresh, up_to, byLength, lineBy, skipsEmpty, wrongTexts, differs, NoneIsText}
-use Rattle.short_histories.proofs.Computed.{computingHistories, histories-found}
+use Rattle.short_histories.specs.Found.{text_by, right_text}
+use Rattle.short_histories.specs.WrongTexts.{afresh, up_to, by_length, line_by, skips_empty, wrong_texts, differs, NoneIsText}
+use Rattle.short_histories.proofs.Computed.{computing_histories, histories_found}
 
 -- The walk with the rule's own parts puts the text.
-pub right-text : rightText ≡ text
-unfolding rightText textBy text
-right-text = ap (λ hs. flatten (map line_of hs)) (sym histories-found)
+pub right_text_lem : right_text ≡ text
+unfolding right_text text_by text
+right_text_lem = ap (λ hs. flatten (map line_of hs)) (sym histories_found)
 
-computed_same : same rightText rightText ≡ true
-unfolding rightText textBy same computingHistories
+computed_same : same right_text right_text ≡ true
+unfolding right_text text_by same computing_histories
 computed_same = refl
 
-pub all-differ : all differs wrongTexts ≡ true
-unfolding all differs wrongTexts rightText textBy afresh up_to byLength lineBy skipsEmpty filter same computingHistories
-all-differ = refl
+pub all_differ : all differs wrong_texts ≡ true
+unfolding all differs wrong_texts right_text text_by afresh up_to by_length line_by skips_empty filter same computing_histories
+all_differ = refl
 
-is-not : (wrong : List ℕ) → differs wrong ≡ true → wrong ≡ text → ⊥
+is_not : (wrong : List ℕ) → differs wrong ≡ true → wrong ≡ text → ⊥
 unfolding differs
-is-not wrong d e = true≢false (sym computed_same ∙ ap (λ l. same l rightText) (right-text ∙ sym e) ∙ not-true (same wrong rightText) d)
+is_not wrong d e = true≢false (sym computed_same ∙ ap (λ l. same l right_text) (right_text_lem ∙ sym e) ∙ not-true (same wrong right_text) d)
 
-pub none-is-text : NoneIsText wrongTexts
-none-is-text = every differs (λ wrong. wrong ≡ text → ⊥) is-not wrongTexts all-differ
+pub none_is_text : NoneIsText wrong_texts
+none_is_text = every differs (λ wrong. wrong ≡ text → ⊥) is_not wrong_texts all_differ

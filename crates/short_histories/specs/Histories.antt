@@ -10,13 +10,13 @@ use Rattle.short_histories.specs.Listed.{choices, listed}
 use Rattle.short_histories.specs.Text.{line_of}
 
 -- The fresh start for V 1 and F 1, over zeroed memory.
-unfoldable pub freshOne : Machine
-freshOne = begun 1 1 (zeroed 1) (zeroed 1)
+unfoldable pub fresh_one : Machine
+fresh_one = begun 1 1 (zeroed 1) (zeroed 1)
 
 -- Each of some calls is granted, in its turn.
-unfoldable pub grantsAll : Machine → List Call → Bool
-grantsAll m [] = true
-grantsAll m (c ∷ calls) = granted m c && grantsAll (next m c) calls
+unfoldable pub grants_all : Machine → List Call → Bool
+grants_all m [] = true
+grants_all m (c ∷ calls) = granted m c && grants_all (next m c) calls
 
 -- Every sequence of n listed commands.
 unfoldable pub sequences : ℕ → List (List Call)
@@ -28,7 +28,7 @@ counts = 0 ∷ 1 ∷ 2 ∷ 3 ∷ []
 
 -- All short histories.
 unfoldable pub histories : List (List Call)
-histories = filter (grantsAll freshOne) (flatten (map sequences counts))
+histories = filter (grants_all fresh_one) (flatten (map sequences counts))
 
 -- Their lines, one after the other.
 unfoldable pub text : List ℕ

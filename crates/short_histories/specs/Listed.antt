@@ -2,8 +2,8 @@
 -- bases 0 or 8, lengths and counts 8 or 16, page and frame 0". Assumes nothing.
 use Rattle.std.specs.Prelude.{ℕ, get_or}
 use mathlib.Core.List.{List, [], ◌∷◌, map, flatten}
-use Rattle.capabilities.specs.Lists.{mapEach}
-use Rattle.calls.specs.Commands.{commandOf}
+use Rattle.capabilities.specs.Lists.{map_each}
+use Rattle.calls.specs.Commands.{command_of}
 use Rattle.calls.specs.declared.Call.{Call}
 
 -- Every list that takes one entry from each of some lists: first those that begin with the first entry of the first.
@@ -58,8 +58,8 @@ operands =
 
 -- The calls of the command of a byte with each choice of its operands, by the table of commands.
 abbrev pub calls_of : ℕ → List (List ℕ) → List Call
-calls_of byte row = map (λ xs. (commandOf byte).make (λ i. get_or xs i 0)) (choices row)
+calls_of byte row = map (λ xs. (command_of byte).make (λ i. get_or xs i 0)) (choices row)
 
 -- The commands from 01 to 0A, in the order of their bytes.
 unfoldable pub listed : List Call
-listed = flatten (mapEach calls_of 1 operands)
+listed = flatten (map_each calls_of 1 operands)

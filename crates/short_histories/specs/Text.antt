@@ -7,8 +7,8 @@ use Rattle.calls.specs.Commands.{bytes_of}
 use Rattle.calls.specs.declared.Call.{Call}
 
 -- The bytes of a history: those of its calls, one after the other.
-unfoldable pub bytesIn : List Call → List ℕ
-bytesIn calls = flatten (map bytes_of calls)
+unfoldable pub bytes_in : List Call → List ℕ
+bytes_in calls = flatten (map bytes_of calls)
 
 -- "Rising byte order": where they first differ, the lower one has the lower byte or has ended.
 unfoldable pub lower : List ℕ → List ℕ → Bool
@@ -26,14 +26,14 @@ digits [] = []
 digits (b ∷ bytes) = digit (b / 16) ∷ digit (b % 16) ∷ digits bytes
 
 -- A line of bytes ends with a newline (10).
-unfoldable pub hexLine : List ℕ → List ℕ
-hexLine bytes = digits bytes ++ (10 ∷ [])
+unfoldable pub hex_line : List ℕ → List ℕ
+hex_line bytes = digits bytes ++ (10 ∷ [])
 
 -- The lines of a text: what stands before each newline, behind what has begun.
-unfoldable pub linesIn : List ℕ → List ℕ → List (List ℕ)
-linesIn begun [] = []
-linesIn begun (x ∷ rest) = pick (eqb x 10) (begun ∷ linesIn [] rest) (linesIn (begun ++ (x ∷ [])) rest)
+unfoldable pub lines_in : List ℕ → List ℕ → List (List ℕ)
+lines_in begun [] = []
+lines_in begun (x ∷ rest) = pick (eqb x 10) (begun ∷ lines_in [] rest) (lines_in (begun ++ (x ∷ [])) rest)
 
 -- A history's line.
 unfoldable pub line_of : List Call → List ℕ
-line_of calls = hexLine (bytesIn calls)
+line_of calls = hex_line (bytes_in calls)

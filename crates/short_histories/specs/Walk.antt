@@ -6,9 +6,9 @@ use Rattle.calls.specs.Commands.{bytes_of}
 use Rattle.calls.specs.declared.Call.{Call}
 use Rattle.arrays.specs.declared.Arrays.{Arrays}
 use Rattle.arrays.specs.Steps.{Leaving}
-use Rattle.step.specs.Entries.{stepOn}
+use Rattle.step.specs.Entries.{step_on}
 use Rattle.short_histories.specs.Listed.{listed}
-use Rattle.short_histories.specs.Text.{hexLine}
+use Rattle.short_histories.specs.Text.{hex_line}
 
 -- Whether a call was granted, and where it led.
 pub record Led : Type 0 where
@@ -20,14 +20,14 @@ pub record Led : Type 0 where
 abbrev pub leading : Bool → Arrays → List ℕ → List ℕ → Led
 leading granted a cells tags = record { granted = granted; arrays = a; cells = cells; tags = tags }
 
-unfoldable pub ledBy : Leaving → Led
-ledBy l = leading (eqb l.answer.code 0) l.arrays l.cells l.tags
+unfoldable pub led_by : Leaving → Led
+led_by l = leading (eqb l.answer.code 0) l.arrays l.cells l.tags
 
 -- The lines that go on behind a call, if it was granted: its bytes stand behind the earlier ones.
 unfoldable pub onward : (List ℕ → Arrays → List ℕ → List ℕ → List ℕ) → List ℕ → Call → Led → List ℕ
 onward lines bytes c t = pick t.granted (lines (bytes ++ bytes_of c) t.arrays t.cells t.tags) []
 
 -- The lines of all histories that begin with some bytes and go on from some arrays and lent memory with n listed commands.
-unfoldable pub linesOn : ℕ → List ℕ → Arrays → List ℕ → List ℕ → List ℕ
-linesOn zero bytes a cells tags = hexLine bytes
-linesOn (suc n) bytes a cells tags = flatten (map (λ c. onward (linesOn n) bytes c (ledBy (stepOn a c cells tags))) listed)
+unfoldable pub lines_on : ℕ → List ℕ → Arrays → List ℕ → List ℕ → List ℕ
+lines_on zero bytes a cells tags = hex_line bytes
+lines_on (suc n) bytes a cells tags = flatten (map (λ c. onward (lines_on n) bytes c (led_by (step_on a c cells tags))) listed)

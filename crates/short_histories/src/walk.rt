@@ -3,11 +3,11 @@
 ghost use Rattle.std.specs.Prelude.{◌≡◌, ◌++◌, ◌+◌, ◌*◌, ◌≤◌, length, take};
 ghost use Rattle.calls.specs.Commands.{bytes_of};
 ghost use Rattle.lines.specs.Laid.{Laid};
-ghost use Rattle.step.specs.Entries.{stepOn};
-ghost use Rattle.session_rules.specs.Session.{printed, printOf};
+ghost use Rattle.step.specs.Entries.{step_on};
+ghost use Rattle.session_rules.specs.Session.{printed, print_of};
 ghost use Rattle.short_histories.specs.Histories.{text};
-ghost use Rattle.short_histories.specs.Text.{hexLine};
-ghost use Rattle.short_histories.specs.Walk.{leading, ledBy, linesOn};
+ghost use Rattle.short_histories.specs.Text.{hex_line};
+ghost use Rattle.short_histories.specs.Walk.{leading, led_by, lines_on};
 
 use crate::LENGTH;
 use crate::commands::{COUNT, command};
@@ -45,7 +45,7 @@ struct History {
 
 // A call on a copy of the state and its memory.
 fn attempt(machine: Machine, call: Call) -> Led
-    ensures { leading result.granted result.machine.state.arrays result.machine.cells result.machine.tags ≡ ledBy (stepOn machine.state.arrays call machine.cells machine.tags) }
+    ensures { leading result.granted result.machine.state.arrays result.machine.cells result.machine.tags ≡ led_by (step_on machine.state.arrays call machine.cells machine.tags) }
 {
     let mut cells = machine.cells;
     let mut tags = machine.tags;
@@ -77,8 +77,8 @@ fn longer(history: History, call: Call) -> History
 
 // Puts bytes as a line at a place that has room for it, and answers where it ends.
 fn put_line(bytes: &[u8], at: usize, out: &mut [u8]) -> usize
-    requires { at + length (hexLine bytes.now) ≤ length out.old }
-    ensures { Laid (hexLine bytes.now) at out.old result out.new }
+    requires { at + length (hex_line bytes.now) ≤ length out.old }
+    ensures { Laid (hex_line bytes.now) at out.old result out.new }
 {
     let mut end = at;
     let mut i: usize = 0;
@@ -97,8 +97,8 @@ fn put_line(bytes: &[u8], at: usize, out: &mut [u8]) -> usize
 // where they end.
 fn extend(machine: Machine, history: History, more: u8, at: usize, out: &mut [u8]) -> usize
     requires more_bound { history.len + 6 * more ≤ 18 }
-    requires tags_in_bounds { at + length (linesOn more (take history.len history.bytes) machine.state.arrays machine.cells machine.tags) ≤ length out.old }
-    ensures { Laid (linesOn more (take history.len history.bytes) machine.state.arrays machine.cells machine.tags) at out.old result out.new }
+    requires tags_in_bounds { at + length (lines_on more (take history.len history.bytes) machine.state.arrays machine.cells machine.tags) ≤ length out.old }
+    ensures { Laid (lines_on more (take history.len history.bytes) machine.state.arrays machine.cells machine.tags) at out.old result out.new }
 {
     if more == 0 {
         let bytes = history.bytes;
@@ -146,7 +146,7 @@ fn put_all(out: &mut [u8]) -> usize
 
 // Puts the lines first in a lent buffer and answers how long they are. If they do not fit, the answer is 0 and the buffer is as it was.
 pub fn list(out: &mut [u8]) -> usize
-    ensures { printed result out.new ≡ printOf text out.old }
+    ensures { printed result out.new ≡ print_of text out.old }
 {
     if out.len() < LENGTH {
         return 0;

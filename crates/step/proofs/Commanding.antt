@@ -16,13 +16,13 @@ use Rattle.calls.specs.declared.Reading.TheVariants.{Read, Refused}
 use Rattle.calls.specs.Reader.{read_of}
 use Rattle.words.specs.Words.{empty}
 use Rattle.machine.specs.Step.{Outcome, refused, ruled, judged}
-use Rattle.machine.specs.Command.{Ran, used, onReading, commandJudged}
+use Rattle.machine.specs.Command.{Ran, used, on_reading, command_judged}
 use Rattle.arrays.specs.declared.Arrays.{Arrays}
 use Rattle.arrays.specs.Reading.{core_of, state_of, Formed}
 use Rattle.arrays.specs.Steps.{Leaving, answer, leaving, left_of}
 use Rattle.arrays.proofs.Ruling.{wrote}
-use Rattle.formed.specs.Test.{formedOf}
-use Rattle.step.specs.Entries.{ruledOn, judgedOn, stepOn, RanOn, ranOn, ranOf, commandJudgedOn, commandOn}
+use Rattle.formed.specs.Test.{formed_of}
+use Rattle.step.specs.Entries.{ruled_on, judged_on, step_on, RanOn, ran_on, ran_of, command_judged_on, command_on}
 
 -- Lent memory is of the right size.
 abbrev pub fits : Arrays → List ℕ → List ℕ → Bool
@@ -37,58 +37,58 @@ unfolding state_of core_of
 served a cells tags = refl
 
 module _ (a : Arrays) (cells tags : List ℕ) (e : fits a cells tags ≡ true) where
-  pub call_fits : (c : Call) (x : Leaving) → x ≡ ruledOn a c cells tags → x ≡ judgedOn a c cells tags
-  unfolding ruledOn judgedOn judged
+  pub call_fits : (c : Call) (x : Leaving) → x ≡ ruled_on a c cells tags → x ≡ judged_on a c cells tags
+  unfolding ruled_on judged_on judged
   call_fits c x d =
       d ∙ ap left_of (sym (pick_yes (serves (state_of a).core.pages (length cells) (length tags)) (ruled (state_of a) c cells tags) (refused 2 (state_of a) cells tags) (served a cells tags ∙ e)))
 
   module _ (input : List ℕ) (at : ℕ) where
-    command-fits : (t : Reading) → read_of (drop at input) ≡ t → ranOf (onReading (state_of a) t cells tags) ≡ commandJudgedOn a input at cells tags
-    unfolding commandJudgedOn commandJudged
-    command-fits t r =
-        ap (λ (x : Reading). ranOf (onReading (state_of a) x cells tags)) (sym r)
-        ∙ ap ranOf (sym (pick_yes (serves (state_of a).core.pages (length cells) (length tags)) (onReading (state_of a) (read_of (drop at input)) cells tags) (used 0 (refused 2 (state_of a) cells tags)) (served a cells tags ∙ e)))
+    command_fits : (t : Reading) → read_of (drop at input) ≡ t → ran_of (on_reading (state_of a) t cells tags) ≡ command_judged_on a input at cells tags
+    unfolding command_judged_on command_judged
+    command_fits t r =
+        ap (λ (x : Reading). ran_of (on_reading (state_of a) x cells tags)) (sym r)
+        ∙ ap ran_of (sym (pick_yes (serves (state_of a).core.pages (length cells) (length tags)) (on_reading (state_of a) (read_of (drop at input)) cells tags) (used 0 (refused 2 (state_of a) cells tags)) (served a cells tags ∙ e)))
 
-    pub command-reads : (c : Call) (n : ℕ) → read_of (drop at input) ≡ Read c n → (x : Leaving) → x ≡ ruledOn a c cells tags → ranOn x n ≡ commandJudgedOn a input at cells tags
-    unfolding ranOf onReading judgedOn
-    command-reads c n r x d = ap (λ (y : Leaving). ranOn y n) (call_fits c x d) ∙ command-fits (Read c n) r
+    pub command_reads : (c : Call) (n : ℕ) → read_of (drop at input) ≡ Read c n → (x : Leaving) → x ≡ ruled_on a c cells tags → ran_on x n ≡ command_judged_on a input at cells tags
+    unfolding ran_of on_reading judged_on
+    command_reads c n r x d = ap (λ (y : Leaving). ran_on y n) (call_fits c x d) ∙ command_fits (Read c n) r
 
-    pub command-none : Formed a → read_of (drop at input) ≡ Refused → ranOn (leaving (answer 3 empty) a cells tags) 0 ≡ commandJudgedOn a input at cells tags
-    unfolding ranOf onReading
-    command-none f r = ap (λ (y : Leaving). ranOn y 0) (wrote 3 empty (state_of a) a cells tags (sym f.kept)) ∙ command-fits Refused r
+    pub command_none : Formed a → read_of (drop at input) ≡ Refused → ran_on (leaving (answer 3 empty) a cells tags) 0 ≡ command_judged_on a input at cells tags
+    unfolding ran_of on_reading
+    command_none f r = ap (λ (y : Leaving). ran_on y 0) (wrote 3 empty (state_of a) a cells tags (sym f.kept)) ∙ command_fits Refused r
 
 -- Refusal 2.
 module _ (a : Arrays) (f : Formed a) (cells tags : List ℕ) (e : fits a cells tags ≡ false) where
-  pub call-unfit : (c : Call) → leaving (answer 2 empty) a cells tags ≡ judgedOn a c cells tags
-  unfolding judgedOn judged
-  call-unfit c =
+  pub call_unfit : (c : Call) → leaving (answer 2 empty) a cells tags ≡ judged_on a c cells tags
+  unfolding judged_on judged
+  call_unfit c =
       wrote 2 empty (state_of a) a cells tags (sym f.kept)
       ∙ ap left_of (sym (pick_no (serves (state_of a).core.pages (length cells) (length tags)) (ruled (state_of a) c cells tags) (refused 2 (state_of a) cells tags) (served a cells tags ∙ e)))
 
-  pub command-unfit : (input : List ℕ) (at : ℕ) → ranOn (leaving (answer 2 empty) a cells tags) 0 ≡ commandJudgedOn a input at cells tags
-  unfolding commandJudgedOn commandJudged ranOf
-  command-unfit input at =
-      ap (λ (y : Leaving). ranOn y 0) (wrote 2 empty (state_of a) a cells tags (sym f.kept))
-      ∙ ap ranOf (sym (pick_no (serves (state_of a).core.pages (length cells) (length tags)) (onReading (state_of a) (read_of (drop at input)) cells tags) (used 0 (refused 2 (state_of a) cells tags)) (served a cells tags ∙ e)))
+  pub command_unfit : (input : List ℕ) (at : ℕ) → ran_on (leaving (answer 2 empty) a cells tags) 0 ≡ command_judged_on a input at cells tags
+  unfolding command_judged_on command_judged ran_of
+  command_unfit input at =
+      ap (λ (y : Leaving). ran_on y 0) (wrote 2 empty (state_of a) a cells tags (sym f.kept))
+      ∙ ap ran_of (sym (pick_no (serves (state_of a).core.pages (length cells) (length tags)) (on_reading (state_of a) (read_of (drop at input)) cells tags) (used 0 (refused 2 (state_of a) cells tags)) (served a cells tags ∙ e)))
 
 -- Refusal 1, and what comes after it.
 module _ (a : Arrays) (cells tags : List ℕ) where
-  pub call-unformed : (c : Call) → formedOf a ≡ false → leaving (answer 1 empty) a cells tags ≡ stepOn a c cells tags
-  unfolding stepOn
-  call-unformed c e = sym (pick_no (formedOf a) (judgedOn a c cells tags) (leaving (answer 1 empty) a cells tags) e)
+  pub call_unformed : (c : Call) → formed_of a ≡ false → leaving (answer 1 empty) a cells tags ≡ step_on a c cells tags
+  unfolding step_on
+  call_unformed c e = sym (pick_no (formed_of a) (judged_on a c cells tags) (leaving (answer 1 empty) a cells tags) e)
 
-  pub call-formed : (c : Call) → formedOf a ≡ true → (x : Leaving) → x ≡ judgedOn a c cells tags → x ≡ stepOn a c cells tags
-  unfolding stepOn
-  call-formed c e x d = d ∙ sym (pick_yes (formedOf a) (judgedOn a c cells tags) (leaving (answer 1 empty) a cells tags) e)
+  pub call_formed : (c : Call) → formed_of a ≡ true → (x : Leaving) → x ≡ judged_on a c cells tags → x ≡ step_on a c cells tags
+  unfolding step_on
+  call_formed c e x d = d ∙ sym (pick_yes (formed_of a) (judged_on a c cells tags) (leaving (answer 1 empty) a cells tags) e)
 
   module _ (input : List ℕ) (at : ℕ) where
-    pub command-unformed : formedOf a ≡ false → ranOn (leaving (answer 1 empty) a cells tags) 0 ≡ commandOn a input at cells tags
-    unfolding commandOn
-    command-unformed e = sym (pick_no (formedOf a) (commandJudgedOn a input at cells tags) (ranOn (leaving (answer 1 empty) a cells tags) 0) e)
+    pub command_unformed : formed_of a ≡ false → ran_on (leaving (answer 1 empty) a cells tags) 0 ≡ command_on a input at cells tags
+    unfolding command_on
+    command_unformed e = sym (pick_no (formed_of a) (command_judged_on a input at cells tags) (ran_on (leaving (answer 1 empty) a cells tags) 0) e)
 
-    pub command-formed : formedOf a ≡ true → (x : RanOn) → x ≡ commandJudgedOn a input at cells tags → x ≡ commandOn a input at cells tags
-    unfolding commandOn
-    command-formed e x d = d ∙ sym (pick_yes (formedOf a) (commandJudgedOn a input at cells tags) (ranOn (leaving (answer 1 empty) a cells tags) 0) e)
+    pub command_formed : formed_of a ≡ true → (x : RanOn) → x ≡ command_judged_on a input at cells tags → x ≡ command_on a input at cells tags
+    unfolding command_on
+    command_formed e x d = d ∙ sym (pick_yes (formed_of a) (command_judged_on a input at cells tags) (ran_on (leaving (answer 1 empty) a cells tags) 0) e)
 
 -- What a test of the sizes says.
 pub fitted : (a : Arrays) (cells tags : List ℕ) → fits a cells tags ≡ true → (length cells ≡ 16 * a.nums.f) × (length tags ≡ 16 * a.nums.f)

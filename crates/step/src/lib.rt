@@ -3,7 +3,7 @@
 ghost use Rattle.std.specs.Prelude.{◌≡◌};
 ghost use Rattle.arrays.specs.Reading.{arrays};
 ghost use Rattle.arrays.specs.Steps.{leaving};
-ghost use Rattle.step.specs.Entries.{OnFormed, stepped, ruledOn, ranOn, commandJudgedOn};
+ghost use Rattle.step.specs.Entries.{OnFormed, stepped, ruled_on, ran_on, command_judged_on};
 
 use arrays::{Answer, Numbers};
 use calls::{Call, Reading, read_at};
@@ -47,7 +47,7 @@ pub fn step(
     cells: &mut [u64],
     tags: &mut [u8],
 ) -> Stepped
-    ensures { OnFormed (arrays nums words.old marks.old mail.old flags.old rows.old pages.old frames.old principals.old counts.old) cells.old tags.old (leaving result.answer (arrays result.nums words.new marks.new mail.new flags.new rows.new pages.new frames.new principals.new counts.new) cells.new tags.new ≡ ruledOn (arrays nums words.old marks.old mail.old flags.old rows.old pages.old frames.old principals.old counts.old) call cells.old tags.old) }
+    ensures { OnFormed (arrays nums words.old marks.old mail.old flags.old rows.old pages.old frames.old principals.old counts.old) cells.old tags.old (leaving result.answer (arrays result.nums words.new marks.new mail.new flags.new rows.new pages.new frames.new principals.new counts.new) cells.new tags.new ≡ ruled_on (arrays nums words.old marks.old mail.old flags.old rows.old pages.old frames.old principals.old counts.old) call cells.old tags.old) }
 {
     match call {
         Call::Take { party, base, reg } => take(nums, rows, words, marks, party, base, reg, PLAIN),
@@ -134,7 +134,7 @@ pub fn command(
     cells: &mut [u64],
     tags: &mut [u8],
 ) -> Ended
-    ensures { OnFormed (arrays nums words.old marks.old mail.old flags.old rows.old pages.old frames.old principals.old counts.old) cells.old tags.old (ranOn (leaving result.answer (arrays result.nums words.new marks.new mail.new flags.new rows.new pages.new frames.new principals.new counts.new) cells.new tags.new) result.used ≡ commandJudgedOn (arrays nums words.old marks.old mail.old flags.old rows.old pages.old frames.old principals.old counts.old) input.now at cells.old tags.old) }
+    ensures { OnFormed (arrays nums words.old marks.old mail.old flags.old rows.old pages.old frames.old principals.old counts.old) cells.old tags.old (ran_on (leaving result.answer (arrays result.nums words.new marks.new mail.new flags.new rows.new pages.new frames.new principals.new counts.new) cells.new tags.new) result.used ≡ command_judged_on (arrays nums words.old marks.old mail.old flags.old rows.old pages.old frames.old principals.old counts.old) input.now at cells.old tags.old) }
 {
     match read_at(input, at) {
         Reading::Read { call, used } => {

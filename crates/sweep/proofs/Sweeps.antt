@@ -15,23 +15,23 @@ use Rattle.capabilities.specs.Lists.{pick}
 use Rattle.pages.specs.Pages.{FrameEntry}
 use Rattle.pages.specs.Pages.{Pages}
 use Rattle.pages.specs.Layer.{serves}
-use Rattle.sweep.specs.Sweep.{passed, sweptTags, swept, passing, sweepOf}
-use Rattle.sweep.proofs.Sweeping.{doomed, length-swept, getD-swept}
+use Rattle.sweep.specs.Sweep.{passed, swept_tags, swept, passing, sweep_of}
+use Rattle.sweep.proofs.Sweeping.{doomed, length_swept, get_d_swept}
 
 -- Passing n cells and then m passes n + m.
-pub passed-sum : (s : Pages) (place n m : ℕ) → place + passed s place (n + m) ≡ place + passed s place n + passed s (place + passed s place n) m
+pub passed_sum : (s : Pages) (place n m : ℕ) → place + passed s place (n + m) ≡ place + passed s place n + passed s (place + passed s place n) m
 unfolding passed
-passed-sum s place n m = omega arith
+passed_sum s place n m = omega arith
 
-pick-again : (a b d : Bool) (t : ℕ) → pick (b && d) 0 (pick (a && d) 0 t) ≡ pick ((a || b) && d) 0 t
-pick-again true true d t = go d
+pick_again : (a b d : Bool) (t : ℕ) → pick (b && d) 0 (pick (a && d) 0 t) ≡ pick ((a || b) && d) 0 t
+pick_again true true d t = go d
   where
     go : (d : Bool) → pick d 0 (pick d 0 t) ≡ pick d 0 t
     go true = refl
     go false = refl
-pick-again true false d t = refl
-pick-again false true d t = refl
-pick-again false false d t = refl
+pick_again true false d t = refl
+pick_again false true d t = refl
+pick_again false false d t = refl
 
 -- From one place to a second and on to a third.
 between : (from mid upto i : ℕ) → from ≤ mid → mid ≤ upto → ((leb from i && ltb i mid) || (leb mid i && ltb i upto)) ≡ (leb from i && ltb i upto)
@@ -44,47 +44,47 @@ between from mid upto i h k = go (leb from i) (ltb i mid) refl refl
     go false false p q = let j : i < from = leb-false from i p in rw (lt-leb mid i (omega arith))
 
 module _ (frames : List FrameEntry) (r : Range) (cells tags : List ℕ) where
-  pub swept-twice : (from mid upto : ℕ) → from ≤ mid → mid ≤ upto
-      → sweptTags frames r mid upto cells (sweptTags frames r from mid cells tags) ≡ sweptTags frames r from upto cells tags
-  swept-twice from mid upto h k =
-      ext_get_or 0 _ _ (length-swept frames r mid cells first upto ∙ length-swept frames r from cells tags mid ∙ sym (length-swept frames r from cells tags upto))
-      (λ i b. at i (rw (length-swept frames r mid cells first upto, length-swept frames r from cells tags mid) at b))
+  pub swept_twice : (from mid upto : ℕ) → from ≤ mid → mid ≤ upto
+      → swept_tags frames r mid upto cells (swept_tags frames r from mid cells tags) ≡ swept_tags frames r from upto cells tags
+  swept_twice from mid upto h k =
+      ext_get_or 0 _ _ (length_swept frames r mid cells first upto ∙ length_swept frames r from cells tags mid ∙ sym (length_swept frames r from cells tags upto))
+      (λ i b. at i (rw (length_swept frames r mid cells first upto, length_swept frames r from cells tags mid) at b))
     where
       first : List ℕ
-      first = sweptTags frames r from mid cells tags
+      first = swept_tags frames r from mid cells tags
 
-      at : (i : ℕ) → i < length tags → get_or (sweptTags frames r mid upto cells first) i 0 ≡ get_or (sweptTags frames r from upto cells tags) i 0
+      at : (i : ℕ) → i < length tags → get_or (swept_tags frames r mid upto cells first) i 0 ≡ get_or (swept_tags frames r from upto cells tags) i 0
       at i b =
-          getD-swept frames r mid cells first upto i (rw (length-swept frames r from cells tags mid) b)
-          ∙ rw (getD-swept frames r from cells tags mid i b, getD-swept frames r from cells tags upto i b)
-          (pick-again (leb from i && ltb i mid) (leb mid i && ltb i upto) (doomed frames r cells i) (get_or tags i 0)
+          get_d_swept frames r mid cells first upto i (rw (length_swept frames r from cells tags mid) b)
+          ∙ rw (get_d_swept frames r from cells tags mid i b, get_d_swept frames r from cells tags upto i b)
+          (pick_again (leb from i && ltb i mid) (leb mid i && ltb i upto) (doomed frames r cells i) (get_or tags i 0)
           ∙ rw (between from mid upto i h k))
 
   -- No tag is set: each is as it was, or 0.
-  pub swept-less : (from upto i : ℕ) → i < length tags
-      → (get_or (sweptTags frames r from upto cells tags) i 0 ≡ get_or tags i 0) ⊎ (get_or (sweptTags frames r from upto cells tags) i 0 ≡ 0)
-  swept-less from upto i b = rw (getD-swept frames r from cells tags upto i b) (go ((leb from i && ltb i upto) && doomed frames r cells i))
+  pub swept_less : (from upto i : ℕ) → i < length tags
+      → (get_or (swept_tags frames r from upto cells tags) i 0 ≡ get_or tags i 0) ⊎ (get_or (swept_tags frames r from upto cells tags) i 0 ≡ 0)
+  swept_less from upto i b = rw (get_d_swept frames r from cells tags upto i b) (go ((leb from i && ltb i upto) && doomed frames r cells i))
     where
       go : (d : Bool) → (pick d 0 (get_or tags i 0) ≡ get_or tags i 0) ⊎ (pick d 0 (get_or tags i 0) ≡ 0)
       go true = inr refl
       go false = inl refl
 
   -- A cell passed in a Mapped frame whose base lies in the range is untagged.
-  pub swept-clean : (from upto i : ℕ) → i < length tags → from ≤ i → i < upto → doomed frames r cells i ≡ true
-      → get_or (sweptTags frames r from upto cells tags) i 0 ≡ 0
-  swept-clean from upto i b h k d = getD-swept frames r from cells tags upto i b ∙ rw (le-leb from i h, lt-ltb i upto k, d)
+  pub swept_clean : (from upto i : ℕ) → i < length tags → from ≤ i → i < upto → doomed frames r cells i ≡ true
+      → get_or (swept_tags frames r from upto cells tags) i 0 ≡ 0
+  swept_clean from upto i b h k d = get_d_swept frames r from cells tags upto i b ∙ rw (le-leb from i h, lt-ltb i upto k, d)
 
   -- Every other cell keeps its tag byte to the bit.
-  pub swept-other : (from upto i : ℕ) → i < length tags → doomed frames r cells i ≡ false
-      → get_or (sweptTags frames r from upto cells tags) i 0 ≡ get_or tags i 0
-  swept-other from upto i b d = getD-swept frames r from cells tags upto i b ∙ rw (d, and-false (leb from i && ltb i upto))
+  pub swept_other : (from upto i : ℕ) → i < length tags → doomed frames r cells i ≡ false
+      → get_or (swept_tags frames r from upto cells tags) i 0 ≡ get_or tags i 0
+  swept_other from upto i b d = get_d_swept frames r from cells tags upto i b ∙ rw (d, and-false (leb from i && ltb i upto))
 
 -- A sweep of n cells and then one of m is a sweep of n + m: the same answer, place and tags.
-pub sweep-sum :
+pub sweep_sum :
     (s : Pages) (r : Range) (place n m : ℕ) (cells tags : List ℕ) → serves s (length cells) (length tags) ≡ true
-    → sweepOf s r (place + passed s place n) m cells (sweepOf s r place n cells tags).tags ≡ sweepOf s r place (n + m) cells tags
-unfolding sweepOf
-sweep-sum s r place n m cells tags h =
-    rw (h, length-swept s.frames r place cells tags (place + passed s place n), h, passed-sum s place n m)
+    → sweep_of s r (place + passed s place n) m cells (sweep_of s r place n cells tags).tags ≡ sweep_of s r place (n + m) cells tags
+unfolding sweep_of
+sweep_sum s r place n m cells tags h =
+    rw (h, length_swept s.frames r place cells tags (place + passed s place n), h, passed_sum s place n m)
     (ap (λ t. passing (swept 0 (16 * s.f - (place + passed s place n + passed s (place + passed s place n) m)) (place + passed s place n + passed s (place + passed s place n) m)) t)
-    (swept-twice s.frames r cells tags place (place + passed s place n) (place + passed s place n + passed s (place + passed s place n) m) (omega arith) (omega arith)))
+    (swept_twice s.frames r cells tags place (place + passed s place n) (place + passed s place n + passed s (place + passed s place n) m) (omega arith) (omega arith)))

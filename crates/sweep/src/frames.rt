@@ -1,7 +1,7 @@
 // The sweep over frames that lie in memory as numbers: a frame at a time, and a whole Mapped one with no branch a cell.
 ghost use Rattle.std.specs.Prelude.{◌≡◌, List, map, ℕ, ◌+◌, ◌*◌, ◌/◌, ◌<◌, ◌≤◌, min, length};
-ghost use Rattle.pages.specs.Numbers.{frameIn, layerOf};
-ghost use Rattle.sweep.specs.Sweep.{shownAt, sweptTags, passing, sweepOf};
+ghost use Rattle.pages.specs.Numbers.{frame_in, layer_of};
+ghost use Rattle.sweep.specs.Sweep.{shown_at, swept_tags, passing, sweep_of};
 ghost use Rattle.sweep.specs.Frames.{Bases, PassesShown};
 
 use crate::{Swept, cells_left, count_passed};
@@ -12,7 +12,7 @@ use pages::entry::is_shown;
 use pages::numbers::frame_from;
 
 fn shown_in(frames: &[u8], frame: usize) -> bool
-    ensures { result ≡ shownAt (map frameIn frames.now) frame }
+    ensures { result ≡ shown_at (map frame_in frames.now) frame }
 {
     if frame < frames.len() {
         return is_shown(frame_from(frames[frame]));
@@ -103,7 +103,7 @@ fn sweep_frames(
     tags: &mut [u8],
 )
     requires { (length cells.now ≡ length tags.old) × (from < upto → upto ≤ length tags.old) }
-    ensures { tags.new ≡ sweptTags (map frameIn frames.now) range from upto cells.now tags.old }
+    ensures { tags.new ≡ swept_tags (map frame_in frames.now) range from upto cells.now tags.old }
 {
     if range.length == 0 {
         return;
@@ -128,7 +128,7 @@ pub fn sweep_in(
     cells: &[u64],
     tags: &mut [u8],
 ) -> Swept
-    ensures { (v : ℕ) (pages : List ℕ) → passing result tags.new ≡ sweepOf (layerOf v f pages frames.now) range place n cells.now tags.old }
+    ensures { (v : ℕ) (pages : List ℕ) → passing result tags.new ≡ sweep_of (layer_of v f pages frames.now) range place n cells.now tags.old }
 {
     let size = 16 * (f as u32);
     let serves = (cells.len() == size as usize) & (tags.len() == size as usize);

@@ -11,28 +11,28 @@ use lib.ListN.{length, get_or, take, drop, set}
 use lib.Seq.{set-get_or}
 use Rattle.capabilities.specs.Lists.{pick}
 use Rattle.capabilities.specs.Refusals.{first}
-use Rattle.capabilities.proofs.Choice.{and_right, pick_yes, pick-twice}
+use Rattle.capabilities.proofs.Choice.{and_right, pick_yes, pick_twice}
 use Rattle.table.specs.declared.Reservation.{Reservation}
 use Rattle.table.specs.Table.{Table}
 use Rattle.table.specs.declared.Found.{Found}
 use Rattle.table.specs.declared.Found.TheVariants.{At, Nowhere}
-use Rattle.table.specs.Rows.{isOpen, held, live, blank, reservation, table, spread, gather}
-use Rattle.table.specs.Find.{findOf, begins, missing, next_of, rowOf, with_row}
-use Rattle.table.specs.Tiling.{tableSound}
-use Rattle.table.specs.Operations.{takeReasons, takenRow, take_of, giveReasons, givenRow, giveOf}
-use Rattle.table.specs.Operations.{lowerPart, upperPart, splitReasons, splitAt, splitOf}
-use Rattle.table.specs.Operations.{alike, joined, mergeable, mergeReasons, mergeAt, mergeOf}
+use Rattle.table.specs.Rows.{is_open, held, live, blank, reservation, table, spread, gather}
+use Rattle.table.specs.Find.{find_of, begins, missing, next_of, row_of, with_row}
+use Rattle.table.specs.Tiling.{table_sound}
+use Rattle.table.specs.Operations.{take_reasons, taken_row, take_of, give_reasons, given_row, give_of}
+use Rattle.table.specs.Operations.{lower_part, upper_part, split_reasons, split_at, split_of}
+use Rattle.table.specs.Operations.{alike, joined, mergeable, merge_reasons, merge_at, merge_of}
 use Rattle.table.proofs.Moving.{live_at}
-use Rattle.table.proofs.Finding.{found_at, next-at, next-below}
-use Rattle.table.proofs.Answers.{Splits, open-clear, split-clear, merge-clear, merge-found, merge-next}
+use Rattle.table.proofs.Finding.{found_at, next_at, next_below}
+use Rattle.table.proofs.Answers.{Splits, open_clear, split_clear, merge_clear, merge_found, merge_next}
 use Rattle.table.proofs.Sound.{sound}
-use Rattle.table.proofs.Kept.{row-live}
-use Rattle.table.proofs.Inverse.{spread-live, gather-live}
-use Rattle.table.proofs.Unrevoked.{with-live}
+use Rattle.table.proofs.Kept.{row_live}
+use Rattle.table.proofs.Inverse.{spread_live, gather_live}
+use Rattle.table.proofs.Unrevoked.{with_live}
 
 -- In u, `new` stands in place of the k rows of t from i on; the first of these is the one that a call names.
 pub record Replaced (t u : Table) (party base i k : ℕ) (new : List Reservation) : Type 0 where
-  pub found : findOf t party base ≡ At i
+  pub found : find_of t party base ≡ At i
   pub within : i + k ≤ length (live t)
   pub named : begins party base (get_or (live t) i blank) ≡ true
   pub now : live u ≡ take i (live t) ++ (new ++ drop (i + k) (live t))
@@ -41,110 +41,110 @@ pub record Replaced (t u : Table) (party base i k : ℕ) (new : List Reservation
 moved : {t u v : Table} {party base i k : ℕ} {new : List Reservation} → v ≡ u → Replaced t u party base i k new → Replaced t v party base i k new
 moved e r = record { found = r.found; within = r.within; named = r.named; now = ap live e ∙ r.now }
 
-module _ (cells : ℕ) (t : Table) (ok : tableSound cells t ≡ true) (party base : ℕ) where
+module _ (cells : ℕ) (t : Table) (ok : table_sound cells t ≡ true) (party base : ℕ) where
   abbrev f : Found
-  f = findOf t party base
+  f = find_of t party base
 
-  with-after : (g : Found) (n : Reservation → Reservation) → f ≡ g → missing g ≡ false → isOpen (rowOf t g).state ≡ true
-      → (i : ℕ) × (isOpen (get_or (live t) i blank).state ≡ true) × Replaced t (with_row t g (n (rowOf t g))) party base i 1 (n (get_or (live t) i blank) ∷ [])
-  with-after (At i) n e m o =
-      let here = found_at (begins party base) (live t) i blank (unfold findOf in e) in
-      let row = row-live t i here.0 in (
+  with_after : (g : Found) (n : Reservation → Reservation) → f ≡ g → missing g ≡ false → is_open (row_of t g).state ≡ true
+      → (i : ℕ) × (is_open (get_or (live t) i blank).state ≡ true) × Replaced t (with_row t g (n (row_of t g))) party base i 1 (n (get_or (live t) i blank) ∷ [])
+  with_after (At i) n e m o =
+      let here = found_at (begins party base) (live t) i blank (unfold find_of in e) in
+      let row = row_live t i here.0 in (
         i,
-        sym (ap (λ r. isOpen r.state) row) ∙ o,
+        sym (ap (λ r. is_open r.state) row) ∙ o,
         record {
           found = e;
           within = omega (arith, here.0);
           named = here.1;
-          now = ap (λ r. live (with_row t (At i) (n r))) row ∙ with-live cells t (sound cells t ok) i here.0 (n (get_or (live t) i blank));
+          now = ap (λ r. live (with_row t (At i) (n r))) row ∙ with_live cells t (sound cells t ok) i here.0 (n (get_or (live t) i blank));
         },
       )
-  with-after Nowhere n e m o = absurd (true≢false m)
+  with_after Nowhere n e m o = absurd (true≢false m)
 
   pub take_after : (take_of t party base).code ≡ 0
-      → (i : ℕ) × (isOpen (get_or (live t) i blank).state ≡ true) × Replaced t (take_of t party base).table party base i 1 (takenRow (get_or (live t) i blank) party ∷ [])
-  unfolding take_of takeReasons
+      → (i : ℕ) × (is_open (get_or (live t) i blank).state ≡ true) × Replaced t (take_of t party base).table party base i 1 (taken_row (get_or (live t) i blank) party ∷ [])
+  unfolding take_of take_reasons
   take_after z =
-      let k = open-clear f (rowOf t f) z in
-      let (i, o, r) = with-after f (λ r. takenRow r party) refl k.0 k.1 in
+      let k = open_clear f (row_of t f) z in
+      let (i, o, r) = with_after f (λ r. taken_row r party) refl k.0 k.1 in
       (i, o, moved (pick_yes _ _ t (eq-eqb _ 0 z)) r)
 
-  pub give-after : (to : ℕ) → (giveOf t party base to).code ≡ 0
-      → (i : ℕ) × (isOpen (get_or (live t) i blank).state ≡ true) × Replaced t (giveOf t party base to).table party base i 1 (givenRow (get_or (live t) i blank) to ∷ [])
-  unfolding giveOf giveReasons
-  give-after to z =
-      let k = open-clear f (rowOf t f) z in
-      let (i, o, r) = with-after f (λ r. givenRow r to) refl k.0 k.1 in
+  pub give_after : (to : ℕ) → (give_of t party base to).code ≡ 0
+      → (i : ℕ) × (is_open (get_or (live t) i blank).state ≡ true) × Replaced t (give_of t party base to).table party base i 1 (given_row (get_or (live t) i blank) to ∷ [])
+  unfolding give_of give_reasons
+  give_after to z =
+      let k = open_clear f (row_of t f) z in
+      let (i, o, r) = with_after f (λ r. given_row r to) refl k.0 k.1 in
       (i, o, moved (pick_yes _ _ t (eq-eqb _ 0 z)) r)
 
-  split-at-after : (len : ℕ) (g : Found) → f ≡ g → Splits t g len
-      → (i : ℕ) × (isOpen (get_or (live t) i blank).state ≡ true) × Replaced t (splitAt t g len) party base i 1 (lowerPart (get_or (live t) i blank) len ∷ upperPart (get_or (live t) i blank) len ∷ [])
-  unfolding splitAt
-  split-at-after len (At i) e k =
-      let here = found_at (begins party base) (live t) i blank (unfold findOf in e) in
-      let row = row-live t i here.0 in
+  split_at_after : (len : ℕ) (g : Found) → f ≡ g → Splits t g len
+      → (i : ℕ) × (is_open (get_or (live t) i blank).state ≡ true) × Replaced t (split_at t g len) party base i 1 (lower_part (get_or (live t) i blank) len ∷ upper_part (get_or (live t) i blank) len ∷ [])
+  unfolding split_at
+  split_at_after len (At i) e k =
+      let here = found_at (begins party base) (live t) i blank (unfold find_of in e) in
+      let row = row_live t i here.0 in
       let r = get_or (live t) i blank in (
         i,
-        sym (ap (λ r. isOpen r.state) row) ∙ k.isopen,
+        sym (ap (λ r. is_open r.state) row) ∙ k.isopen,
         record {
           found = e;
           within = omega (arith, here.0);
           named = here.1;
-          now = ap (λ r. live (spread t i (lowerPart r len) (upperPart r len))) row ∙ spread-live cells t (sound cells t ok) i here.0 (lowerPart r len) (upperPart r len);
+          now = ap (λ r. live (spread t i (lower_part r len) (upper_part r len))) row ∙ spread_live cells t (sound cells t ok) i here.0 (lower_part r len) (upper_part r len);
         },
       )
-  split-at-after len Nowhere e k = absurd (true≢false k.found)
+  split_at_after len Nowhere e k = absurd (true≢false k.found)
 
-  pub split_after : (len : ℕ) → (splitOf t party base len).code ≡ 0
-      → (i : ℕ) × (isOpen (get_or (live t) i blank).state ≡ true) × Replaced t (splitOf t party base len).table party base i 1 (lowerPart (get_or (live t) i blank) len ∷ upperPart (get_or (live t) i blank) len ∷ [])
-  unfolding splitOf splitReasons
+  pub split_after : (len : ℕ) → (split_of t party base len).code ≡ 0
+      → (i : ℕ) × (is_open (get_or (live t) i blank).state ≡ true) × Replaced t (split_of t party base len).table party base i 1 (lower_part (get_or (live t) i blank) len ∷ upper_part (get_or (live t) i blank) len ∷ [])
+  unfolding split_of split_reasons
   split_after len z =
-      let (i, o, r) = split-at-after len f refl (split-clear t f len z) in
+      let (i, o, r) = split_at_after len f refl (split_clear t f len z) in
       (i, o, moved (pick_yes _ _ t (eq-eqb _ 0 z)) r)
 
-  merge-at-after : (g : Found) → f ≡ g → missing g ≡ false → mergeable t g party ≡ true
-      → (i : ℕ) × (alike (get_or (live t) i blank).state (get_or (live t) (i + 1) blank).state ≡ true) × Replaced t (mergeAt t g) party base i 2 (joined (get_or (live t) i blank) (get_or (live t) (i + 1) blank) ∷ [])
-  unfolding mergeAt mergeable
-  merge-at-after (At i) e m k =
-      let here = found_at (begins party base) (live t) i blank (unfold findOf in e) in
-      let h = next-below t i (merge-next t (At i) party k) in
-      let row = row-live t i here.0 in
+  merge_at_after : (g : Found) → f ≡ g → missing g ≡ false → mergeable t g party ≡ true
+      → (i : ℕ) × (alike (get_or (live t) i blank).state (get_or (live t) (i + 1) blank).state ≡ true) × Replaced t (merge_at t g) party base i 2 (joined (get_or (live t) i blank) (get_or (live t) (i + 1) blank) ∷ [])
+  unfolding merge_at mergeable
+  merge_at_after (At i) e m k =
+      let here = found_at (begins party base) (live t) i blank (unfold find_of in e) in
+      let h = next_below t i (merge_next t (At i) party k) in
+      let row = row_live t i here.0 in
       let r = get_or (live t) i blank in
       let s = get_or (live t) (i + 1) blank in
-      let g = rowOf t (next_of t (At i)) in
-      let above = ap (rowOf t) (next-at t i h) ∙ row-live t (i + 1) h in
-      let same = and_right (held g party) (alike (rowOf t (At i)).state g.state) (and_right (not (missing (next_of t (At i)))) (held g party && alike (rowOf t (At i)).state g.state) k) in (
+      let g = row_of t (next_of t (At i)) in
+      let above = ap (row_of t) (next_at t i h) ∙ row_live t (i + 1) h in
+      let same = and_right (held g party) (alike (row_of t (At i)).state g.state) (and_right (not (missing (next_of t (At i)))) (held g party && alike (row_of t (At i)).state g.state) k) in (
         i,
         sym (ap (λ x. alike x.state g.state) row ∙ ap (λ x. alike r.state x.state) above) ∙ same,
         record {
           found = e;
           within = omega (arith, h);
           named = here.1;
-          now = ap (λ x. live (gather t i (joined x g))) row ∙ ap (λ x. live (gather t i (joined r x))) above ∙ gather-live cells t (sound cells t ok) i h (joined r s);
+          now = ap (λ x. live (gather t i (joined x g))) row ∙ ap (λ x. live (gather t i (joined r x))) above ∙ gather_live cells t (sound cells t ok) i h (joined r s);
         },
       )
-  merge-at-after Nowhere e m k = absurd (true≢false m)
+  merge_at_after Nowhere e m k = absurd (true≢false m)
 
-  pub merge-after : (mergeOf t party base).code ≡ 0
-      → (i : ℕ) × (alike (get_or (live t) i blank).state (get_or (live t) (i + 1) blank).state ≡ true) × Replaced t (mergeOf t party base).table party base i 2 (joined (get_or (live t) i blank) (get_or (live t) (i + 1) blank) ∷ [])
-  unfolding mergeOf mergeReasons
-  merge-after z =
-      let (i, o, r) = merge-at-after f refl (merge-found t f party z) (merge-clear t f party z) in
+  pub merge_after : (merge_of t party base).code ≡ 0
+      → (i : ℕ) × (alike (get_or (live t) i blank).state (get_or (live t) (i + 1) blank).state ≡ true) × Replaced t (merge_of t party base).table party base i 2 (joined (get_or (live t) i blank) (get_or (live t) (i + 1) blank) ∷ [])
+  unfolding merge_of merge_reasons
+  merge_after z =
+      let (i, o, r) = merge_at_after f refl (merge_found t f party z) (merge_clear t f party z) in
       (i, o, moved (pick_yes _ _ t (eq-eqb _ 0 z)) r)
 
 -- 04: "giving to oneself changes nothing".
-given-own : (t : Table) (party base : ℕ) (g : Found) → findOf t party base ≡ g → with_row t g (givenRow (rowOf t g) party) ≡ t
-unfolding with_row rowOf
-given-own t party base (At i) e =
+given_own : (t : Table) (party base : ℕ) (g : Found) → find_of t party base ≡ g → with_row t g (given_row (row_of t g) party) ≡ t
+unfolding with_row row_of
+given_own t party base (At i) e =
     let r = get_or t.rows i blank in
-    let here = found_at (begins party base) (live t) i blank (unfold findOf in e) in
+    let here = found_at (begins party base) (live t) i blank (unfold find_of in e) in
     let own : held r party ≡ true = sym (ap (λ x. held x party) (live_at t i blank here.0)) ∙ and_right (eqb (get_or (live t) i blank).base base) (held (get_or (live t) i blank) party) here.1 in
     ap (λ h. table (set t.rows i (reservation r.base r.length r.state h r.taker)) t.count) (sym (eqb-true r.holder party own))
     ∙ ap (λ l. table l t.count) (set-get_or t.rows i blank)
-given-own t party base Nowhere e = refl
+given_own t party base Nowhere e = refl
 
-pub give-own : (t : Table) (party base : ℕ) → (giveOf t party base party).table ≡ t
-unfolding giveOf
-give-own t party base =
-    ap (λ x. pick (eqb (first (giveReasons t party base)) 0) x t) (given-own t party base (findOf t party base) refl)
-    ∙ pick-twice (eqb (first (giveReasons t party base)) 0) t
+pub give_own : (t : Table) (party base : ℕ) → (give_of t party base party).table ≡ t
+unfolding give_of
+give_own t party base =
+    ap (λ x. pick (eqb (first (give_reasons t party base)) 0) x t) (given_own t party base (find_of t party base) refl)
+    ∙ pick_twice (eqb (first (give_reasons t party base)) 0) t

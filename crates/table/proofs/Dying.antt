@@ -12,14 +12,14 @@ use Rattle.table.specs.declared.Reservation.{Reservation}
 use Rattle.table.specs.Table.{Table}
 use Rattle.table.specs.declared.Found.{Found}
 use Rattle.table.specs.declared.Found.TheVariants.{At, Nowhere}
-use Rattle.table.specs.Rows.{isRevoking, blank, live}
-use Rattle.table.specs.Find.{seek, missing, revokingOf, rowOf}
+use Rattle.table.specs.Rows.{is_revoking, blank, live}
+use Rattle.table.specs.Find.{seek, missing, revoking_of, row_of}
 use Rattle.table.specs.Tiling.{revokings}
 use Rattle.table.proofs.Moving.{live_at}
 
 unfoldable pub dyings : List Reservation → List Reservation
 dyings [] = []
-dyings (r ∷ l) = pick (isRevoking r.state) (r ∷ dyings l) (dyings l)
+dyings (r ∷ l) = pick (is_revoking r.state) (r ∷ dyings l) (dyings l)
 
 abbrev pub none : List Reservation → Bool
 none [] = true
@@ -34,75 +34,75 @@ first_of [] = blank
 first_of (r ∷ l) = r
 
 abbrev P : Reservation → Bool
-P r = isRevoking r.state
+P r = is_revoking r.state
 
 abbrev row_by : (ℕ → Reservation) → Found → Reservation
 row_by rows (At i) = rows i
 row_by rows Nowhere = blank
 
-seek-first : (rows : ℕ → Reservation) (k : ℕ) (l : List Reservation) → ((j : ℕ) → j < length l → rows (k + j) ≡ get_or l j blank) → row_by rows (seek P k l) ≡ first_of (dyings l)
+seek_first : (rows : ℕ → Reservation) (k : ℕ) (l : List Reservation) → ((j : ℕ) → j < length l → rows (k + j) ≡ get_or l j blank) → row_by rows (seek P k l) ≡ first_of (dyings l)
 unfolding seek dyings
-seek-first rows k [] f = refl
-seek-first rows k (r ∷ l) f = go (P r) refl (seek-first rows (suc k) l)
+seek_first rows k [] f = refl
+seek_first rows k (r ∷ l) f = go (P r) refl (seek_first rows (suc k) l)
   where
     go : (b : Bool) → P r ≡ b → (((j : ℕ) → j < length l → rows (suc k + j) ≡ get_or l j blank) → row_by rows (seek P (suc k) l) ≡ first_of (dyings l)) → row_by rows (pick (P r) (At k) (seek P (suc k) l)) ≡ first_of (pick (P r) (r ∷ dyings l) (dyings l))
     go true e g = rw e (ap rows (sym (add-zero k)) ∙ f 0 (omega arith))
     go false e g = rw e (g (λ j h. ap rows (let n : suc k + j ≡ k + suc j = omega arith in n) ∙ f (suc j) (omega arith)))
 
-seek-none : (k : ℕ) (l : List Reservation) → missing (seek P k l) ≡ none (dyings l)
+seek_none : (k : ℕ) (l : List Reservation) → missing (seek P k l) ≡ none (dyings l)
 unfolding seek dyings
-seek-none k [] = refl
-seek-none k (r ∷ l) = go (P r) refl (seek-none (suc k) l)
+seek_none k [] = refl
+seek_none k (r ∷ l) = go (P r) refl (seek_none (suc k) l)
   where
     go : (b : Bool) → P r ≡ b → missing (seek P (suc k) l) ≡ none (dyings l) → missing (pick (P r) (At k) (seek P (suc k) l)) ≡ none (pick (P r) (r ∷ dyings l) (dyings l))
     go true e g = rw e refl
     go false e g = rw e g
 
-row-by : (t : Table) (f : Found) → rowOf t f ≡ row_by (λ i. get_or t.rows i blank) f
-unfolding rowOf
-row-by t (At i) = refl
-row-by t Nowhere = refl
+row_by_lem : (t : Table) (f : Found) → row_of t f ≡ row_by (λ i. get_or t.rows i blank) f
+unfolding row_of
+row_by_lem t (At i) = refl
+row_by_lem t Nowhere = refl
 
 -- The Revoking row of a table is the first of its Revoking ones; it has none if there is none.
-pub revoking-row : (t : Table) → rowOf t (revokingOf t) ≡ first_of (dyings (live t))
-unfolding revokingOf
-revoking-row t =
-    row-by t (seek P 0 (live t))
-    ∙ seek-first (λ i. get_or t.rows i blank) 0 (live t) (λ j h. ap (λ k. get_or t.rows k blank) (zero-add j) ∙ sym (live_at t j blank h))
+pub revoking_row_lem : (t : Table) → row_of t (revoking_of t) ≡ first_of (dyings (live t))
+unfolding revoking_of
+revoking_row_lem t =
+    row_by_lem t (seek P 0 (live t))
+    ∙ seek_first (λ i. get_or t.rows i blank) 0 (live t) (λ j h. ap (λ k. get_or t.rows k blank) (zero-add j) ∙ sym (live_at t j blank h))
 
-pub revoking-none : (t : Table) → missing (revokingOf t) ≡ none (dyings (live t))
-unfolding revokingOf
-revoking-none t = seek-none 0 (live t)
+pub revoking_none : (t : Table) → missing (revoking_of t) ≡ none (dyings (live t))
+unfolding revoking_of
+revoking_none t = seek_none 0 (live t)
 
 -- Their number, those of two parts, and those of a part without any.
-pub dyings-length : (l : List Reservation) → revokings l ≡ length (dyings l)
+pub dyings_length : (l : List Reservation) → revokings l ≡ length (dyings l)
 unfolding revokings dyings
-dyings-length [] = refl
-dyings-length (r ∷ l) = go (P r) refl (dyings-length l)
+dyings_length [] = refl
+dyings_length (r ∷ l) = go (P r) refl (dyings_length l)
   where
     go : (b : Bool) → P r ≡ b → revokings l ≡ length (dyings l) → pick (P r) 1 0 + revokings l ≡ length (pick (P r) (r ∷ dyings l) (dyings l))
     go true e g = rw e (omega arith)
     go false e g = rw e (omega arith)
 
-pub dyings-append : (l m : List Reservation) → dyings (l ++ m) ≡ dyings l ++ dyings m
+pub dyings_append : (l m : List Reservation) → dyings (l ++ m) ≡ dyings l ++ dyings m
 unfolding dyings
-dyings-append [] m = refl
-dyings-append (r ∷ l) m = go (P r) refl (dyings-append l m)
+dyings_append [] m = refl
+dyings_append (r ∷ l) m = go (P r) refl (dyings_append l m)
   where
     go : (b : Bool) → P r ≡ b → dyings (l ++ m) ≡ dyings l ++ dyings m → pick (P r) (r ∷ dyings (l ++ m)) (dyings (l ++ m)) ≡ pick (P r) (r ∷ dyings l) (dyings l) ++ dyings m
     go true e g = rw e (ap (λ x. r ∷ x) g)
     go false e g = rw e g
 
-pub dyings-not : (r : Reservation) (l : List Reservation) → isRevoking r.state ≡ false → dyings (r ∷ l) ≡ dyings l
+pub dyings_not : (r : Reservation) (l : List Reservation) → is_revoking r.state ≡ false → dyings (r ∷ l) ≡ dyings l
 unfolding dyings
-dyings-not r l e = pick_no (P r) (r ∷ dyings l) (dyings l) e
+dyings_not r l e = pick_no (P r) (r ∷ dyings l) (dyings l) e
 
-pub dyings-yes : (r : Reservation) (l : List Reservation) → isRevoking r.state ≡ true → dyings (r ∷ l) ≡ r ∷ dyings l
+pub dyings_yes : (r : Reservation) (l : List Reservation) → is_revoking r.state ≡ true → dyings (r ∷ l) ≡ r ∷ dyings l
 unfolding dyings
-dyings-yes r l e = pick_yes (P r) (r ∷ dyings l) (dyings l) e
+dyings_yes r l e = pick_yes (P r) (r ∷ dyings l) (dyings l) e
 
-pub no-dyings : (l : List Reservation) → length (dyings l) ≡ 0 → dyings l ≡ []
-no-dyings l e = go (dyings l) e
+pub no_dyings : (l : List Reservation) → length (dyings l) ≡ 0 → dyings l ≡ []
+no_dyings l e = go (dyings l) e
   where
     go : (m : List Reservation) → length m ≡ 0 → m ≡ []
     go [] z = refl

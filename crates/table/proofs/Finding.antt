@@ -21,10 +21,10 @@ use Rattle.table.specs.Find.{seek, missing, next_of}
 pub at_same : {i j : ℕ} → At i ≡ At j → i ≡ j
 at_same e = cc
 
-seek-at : (P : Reservation → Bool) (k : ℕ) (l : List Reservation) (i : ℕ) (d : Reservation) → seek P k l ≡ At i → (j : ℕ) × (i ≡ k + j) × (j < length l) × (P (get_or l j d) ≡ true)
+seek_at : (P : Reservation → Bool) (k : ℕ) (l : List Reservation) (i : ℕ) (d : Reservation) → seek P k l ≡ At i → (j : ℕ) × (i ≡ k + j) × (j < length l) × (P (get_or l j d) ≡ true)
 unfolding seek
-seek-at P k [] i d e = let z : ◌≡◌ {A = ℕ} 0 1 = cc in absurd (omega arith)
-seek-at P k (r ∷ l) i d e = go (P r) refl (seek-at P (suc k) l i d)
+seek_at P k [] i d e = let z : ◌≡◌ {A = ℕ} 0 1 = cc in absurd (omega arith)
+seek_at P k (r ∷ l) i d e = go (P r) refl (seek_at P (suc k) l i d)
   where
     go : (b : Bool) → P r ≡ b → (seek P (suc k) l ≡ At i → (j : ℕ) × (i ≡ suc k + j) × (j < length l) × (P (get_or l j d) ≡ true)) → (j : ℕ) × (i ≡ k + j) × (j < length (r ∷ l)) × (P (get_or (r ∷ l) j d) ≡ true)
     go true p f = (0, (let z : k ≡ i = at_same (sym (pick_yes (P r) (At k) (seek P (suc k) l) p) ∙ e) in omega arith), omega arith, p)
@@ -38,28 +38,28 @@ module _ (P : Reservation → Bool) (l : List Reservation) where
   step i d h = rw (drop-cons l i d h)
 
   -- One turn of a search that did not find, one that did, and its end.
-  pub seek-more : (i : ℕ) (d : Reservation) → i < length l → P (get_or l i d) ≡ false → seek P i (drop i l) ≡ seek P (i + 1) (drop (i + 1) l)
-  seek-more i d h e = step i d h ∙ pick_no _ _ _ e ∙ sym (ap (λ (k : ℕ). seek P k (drop k l)) (add-one i))
+  pub seek_more : (i : ℕ) (d : Reservation) → i < length l → P (get_or l i d) ≡ false → seek P i (drop i l) ≡ seek P (i + 1) (drop (i + 1) l)
+  seek_more i d h e = step i d h ∙ pick_no _ _ _ e ∙ sym (ap (λ (k : ℕ). seek P k (drop k l)) (add-one i))
 
-  pub seek-here : (i : ℕ) (d : Reservation) → i < length l → P (get_or l i d) ≡ true → seek P i (drop i l) ≡ At i
-  seek-here i d h e = step i d h ∙ pick_yes _ _ _ e
+  pub seek_here : (i : ℕ) (d : Reservation) → i < length l → P (get_or l i d) ≡ true → seek P i (drop i l) ≡ At i
+  seek_here i d h e = step i d h ∙ pick_yes _ _ _ e
 
-  pub seek-end : (i : ℕ) → length l ≤ i → seek P i (drop i l) ≡ Nowhere
+  pub seek_end : (i : ℕ) → length l ≤ i → seek P i (drop i l) ≡ Nowhere
   unfolding seek
-  seek-end i h = rw (drop_of_length-le l h)
+  seek_end i h = rw (drop_of_length-le l h)
 
   -- What a search from the first entry on found is an entry that passes the test.
   pub found_at : (i : ℕ) (d : Reservation) → seek P 0 l ≡ At i → (i < length l) × (P (get_or l i d) ≡ true)
   found_at i d e =
-      let (j, s, h, p) = seek-at P 0 l i d e in
+      let (j, s, h, p) = seek_at P 0 l i d e in
       let k : j ≡ i = omega arith in
       (omega arith, subst (λ (n : ℕ). P (get_or l n d) ≡ true) k p)
 
 -- Above what was found, and at it, rows may change: one that passes the test is found at the same place.
-pub seek-same : (P : Reservation → Bool) (k : ℕ) (pre : List Reservation) (x y : Reservation) (xs ys : List Reservation) → P y ≡ true → seek P k (pre ++ x ∷ xs) ≡ At (k + length pre) → seek P k (pre ++ y ∷ ys) ≡ At (k + length pre)
+pub seek_same : (P : Reservation → Bool) (k : ℕ) (pre : List Reservation) (x y : Reservation) (xs ys : List Reservation) → P y ≡ true → seek P k (pre ++ x ∷ xs) ≡ At (k + length pre) → seek P k (pre ++ y ∷ ys) ≡ At (k + length pre)
 unfolding seek
-seek-same P k [] x y xs ys p e = pick_yes (P y) (At k) (seek P (suc k) ys) p ∙ ap At (sym (add-zero k))
-seek-same P k (z ∷ pre) x y xs ys p e = go (P z) refl (seek-same P (suc k) pre x y xs ys p)
+seek_same P k [] x y xs ys p e = pick_yes (P y) (At k) (seek P (suc k) ys) p ∙ ap At (sym (add-zero k))
+seek_same P k (z ∷ pre) x y xs ys p e = go (P z) refl (seek_same P (suc k) pre x y xs ys p)
   where
     here : At (k + suc (length pre)) ≡ At (suc k + length pre)
     here = ap At (omega arith)
@@ -69,14 +69,14 @@ seek-same P k (z ∷ pre) x y xs ys p e = go (P z) refl (seek-same P (suc k) pre
     go false t f = pick_no (P z) (At k) (seek P (suc k) (pre ++ y ∷ ys)) t ∙ f (sym (pick_no (P z) (At k) (seek P (suc k) (pre ++ x ∷ xs)) t) ∙ e ∙ here) ∙ sym here
 
 -- There is a next one only where the rows in use go on.
-pub next-below : (t : Table) (i : ℕ) → missing (next_of t (At i)) ≡ false → i + 1 < length (live t)
+pub next_below : (t : Table) (i : ℕ) → missing (next_of t (At i)) ≡ false → i + 1 < length (live t)
 unfolding next_of
-next-below t i e = go (ltb (i + 1) (length (live t))) refl
+next_below t i e = go (ltb (i + 1) (length (live t))) refl
   where
     go : (b : Bool) → ltb (i + 1) (length (live t)) ≡ b → i + 1 < length (live t)
     go true p = ltb-true (i + 1) (length (live t)) p
     go false p = absurd (true≢false (sym (ap missing (pick_no (ltb (i + 1) (length (live t))) (At (i + 1)) Nowhere p)) ∙ e))
 
-pub next-at : (t : Table) (i : ℕ) → i + 1 < length (live t) → next_of t (At i) ≡ At (i + 1)
+pub next_at : (t : Table) (i : ℕ) → i + 1 < length (live t) → next_of t (At i) ≡ At (i + 1)
 unfolding next_of
-next-at t i h = pick_yes (ltb (i + 1) (length (live t))) (At (i + 1)) Nowhere (lt-ltb (i + 1) (length (live t)) h)
+next_at t i h = pick_yes (ltb (i + 1) (length (live t))) (At (i + 1)) Nowhere (lt-ltb (i + 1) (length (live t)) h)

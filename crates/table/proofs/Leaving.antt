@@ -12,122 +12,122 @@ use Rattle.table.specs.Table.{Table}
 use Rattle.table.specs.declared.Found.{Found}
 use Rattle.table.specs.declared.Found.TheVariants.{At, Nowhere}
 use Rattle.table.specs.Rows.{live, blank, table}
-use Rattle.table.specs.Find.{missing, rowOf, with_row, findOf, next_of, begins}
-use Rattle.table.specs.Operations.{tabled, takenRow, givenRow, lowerPart, upperPart, joined, splitAt, mergeAt, mergeable, splitReasonsAt, mergeReasonsAt}
+use Rattle.table.specs.Find.{missing, row_of, with_row, find_of, next_of, begins}
+use Rattle.table.specs.Operations.{tabled, taken_row, given_row, lower_part, upper_part, joined, split_at, merge_at, mergeable, split_reasons_at, merge_reasons_at}
 use Rattle.table.proofs.Answers.{granted, refused, Splits}
-use Rattle.table.proofs.Finding.{found_at, next-below}
-use Rattle.table.proofs.Takers.{joined-most}
-use Rattle.table.specs.Numbers.{rowCode, table_of, allWritten}
-use Rattle.table.specs.Lent.{Leaves, put_at, placeOf, spreadAt, gatherAt, splitCode, mergeCode}
-use Rattle.table.proofs.Numbers.{Sized, read-sized, read_back, number-written}
-use Rattle.table.proofs.Reading.{row_read, put_reads, used-length}
-use Rattle.table.proofs.Shifting.{spread-reads, gather-reads}
-use Rattle.table.proofs.Written.{all-put, all-spread, all-gather}
+use Rattle.table.proofs.Finding.{found_at, next_below}
+use Rattle.table.proofs.Takers.{joined_most}
+use Rattle.table.specs.Numbers.{row_code, table_of, all_written}
+use Rattle.table.specs.Lent.{Leaves, put_at, place_of, spread_at, gather_at, split_code, merge_code}
+use Rattle.table.proofs.Numbers.{Sized, read_sized, read_back, number_written}
+use Rattle.table.proofs.Reading.{row_read, put_reads, used_length}
+use Rattle.table.proofs.Shifting.{spread_reads, gather_reads}
+use Rattle.table.proofs.Written.{all_put, all_spread, all_gather}
 
 -- A refusal keeps all; a granted call leaves the rule's table.
-pub left-refused : (l : List ℕ) (code count told : ℕ) (after : Table) → code ≡ told → (code ≡ 0 → ⊥) → Leaves l l code count (tabled told (table_of l count) after)
-left-refused l code count told after e z =
+pub left_refused : (l : List ℕ) (code count told : ℕ) (after : Table) → code ≡ told → (code ≡ 0 → ⊥) → Leaves l l code count (tabled told (table_of l count) after)
+left_refused l code count told after e z =
     record { answers = e; reads = sym (refused code told e after (table_of l count) z); keeps = λ _. refl; sound = λ w. w }
 
-pub left-granted :
-    (l m : List ℕ) (code count n told : ℕ) (after : Table) → code ≡ told → code ≡ 0 → table_of m n ≡ after → (allWritten l ≡ true → allWritten m ≡ true)
+pub left_granted :
+    (l m : List ℕ) (code count n told : ℕ) (after : Table) → code ≡ told → code ≡ 0 → table_of m n ≡ after → (all_written l ≡ true → all_written m ≡ true)
     → Leaves l m code n (tabled told (table_of l count) after)
-left-granted l m code count n told after e z p w =
+left_granted l m code count n told after e z p w =
     record { answers = e; reads = p ∙ sym (granted code told e after (table_of l count) z); keeps = λ k. absurd (k z); sound = w }
 
 -- Every row of a table read from numbers, and every row that a call makes of it, has fields of their sizes.
-pub row_sized : (l : List ℕ) (count : ℕ) (f : Found) → Sized (rowOf (table_of l count) f)
-row_sized l count (At i) = subst Sized (sym (row_read l count i)) (read-sized (get_or l i 0))
-row_sized l count Nowhere = unfold rowOf in (record { base = omega arith; length = omega arith; holder = omega arith; taker = omega arith })
+pub row_sized : (l : List ℕ) (count : ℕ) (f : Found) → Sized (row_of (table_of l count) f)
+row_sized l count (At i) = subst Sized (sym (row_read l count i)) (read_sized (get_or l i 0))
+row_sized l count Nowhere = unfold row_of in (record { base = omega arith; length = omega arith; holder = omega arith; taker = omega arith })
 
-pub taken-sized : (r : Reservation) (party : ℕ) → party < 256 → Sized r → Sized (takenRow r party)
-taken-sized r party h s = record { base = s.base; length = s.length; holder = omega arith; taker = h }
+pub taken_sized : (r : Reservation) (party : ℕ) → party < 256 → Sized r → Sized (taken_row r party)
+taken_sized r party h s = record { base = s.base; length = s.length; holder = omega arith; taker = h }
 
-pub given-sized : (r : Reservation) (to : ℕ) → to < 256 → Sized r → Sized (givenRow r to)
-given-sized r to h s = record { base = s.base; length = s.length; holder = h; taker = s.taker }
+pub given_sized : (r : Reservation) (to : ℕ) → to < 256 → Sized r → Sized (given_row r to)
+given_sized r to h s = record { base = s.base; length = s.length; holder = h; taker = s.taker }
 
-lower-sized : (r : Reservation) (len : ℕ) → len < 65536 → Sized r → Sized (lowerPart r len)
-lower-sized r len h s = record { base = s.base; length = h; holder = s.holder; taker = omega arith }
+lower_sized : (r : Reservation) (len : ℕ) → len < 65536 → Sized r → Sized (lower_part r len)
+lower_sized r len h s = record { base = s.base; length = h; holder = s.holder; taker = omega arith }
 
-upper-sized : (r : Reservation) (len : ℕ) → Sized r → Sized (upperPart r len)
-upper-sized r len s = record { base = omega arith; length = omega (arith, s.length); holder = s.holder; taker = omega arith }
+upper_sized : (r : Reservation) (len : ℕ) → Sized r → Sized (upper_part r len)
+upper_sized r len s = record { base = omega arith; length = omega (arith, s.length); holder = s.holder; taker = omega arith }
 
-joined-sized : (r q : Reservation) → Sized r → Sized (joined r q)
-joined-sized r q s =
-    record { base = s.base; length = omega arith; holder = s.holder; taker = omega (arith, joined-most r.taker q.taker 255 (omega (arith, s.taker)) (omega arith)) }
+joined_sized : (r q : Reservation) → Sized r → Sized (joined r q)
+joined_sized r q s =
+    record { base = s.base; length = omega arith; holder = s.holder; taker = omega (arith, joined_most r.taker q.taker 255 (omega (arith, s.taker)) (omega arith)) }
 
 -- One row put.
-pub left-put :
+pub left_put :
     (l : List ℕ) (code count told : ℕ) (f : Found) (new : Reservation) → code ≡ told → code ≡ 0 → Sized new
-    → Leaves l (put_at l f (rowCode new)) code count (tabled told (table_of l count) (with_row (table_of l count) f new))
-left-put l code count told f new e z s =
-    left-granted l (put_at l f (rowCode new)) code count count told (with_row (table_of l count) f new) e z (put_reads l count f new s) (all-put l f (rowCode new) (number-written new s))
+    → Leaves l (put_at l f (row_code new)) code count (tabled told (table_of l count) (with_row (table_of l count) f new))
+left_put l code count told f new e z s =
+    left_granted l (put_at l f (row_code new)) code count count told (with_row (table_of l count) f new) e z (put_reads l count f new s) (all_put l f (row_code new) (number_written new s))
 
 module _ (l : List ℕ) (count : ℕ) where
   abbrev t : Table
   t = table_of l count
 
   -- The code judged from what was read is the rule's.
-  pub split-told : (code : ℕ) (g f : Found) (r : Reservation) (len : ℕ) → code ≡ splitCode g r len count → g ≡ f → r ≡ rowOf t f → code ≡ first (splitReasonsAt t f len)
-  unfolding splitReasonsAt
-  split-told code g f r len e p q = e ∙ ap (λ x. splitCode x r len count) p ∙ ap (λ x. splitCode f x len count) q
+  pub split_told : (code : ℕ) (g f : Found) (r : Reservation) (len : ℕ) → code ≡ split_code g r len count → g ≡ f → r ≡ row_of t f → code ≡ first (split_reasons_at t f len)
+  unfolding split_reasons_at
+  split_told code g f r len e p q = e ∙ ap (λ x. split_code x r len count) p ∙ ap (λ x. split_code f x len count) q
 
-  pub merge-told :
-      (code : ℕ) (g h f : Found) (r q : Reservation) (party : ℕ) → code ≡ mergeCode g h r q party → g ≡ f → h ≡ next_of t f → r ≡ rowOf t f → q ≡ rowOf t (next_of t f)
-      → code ≡ first (mergeReasonsAt t f party)
-  unfolding mergeReasonsAt mergeable
-  merge-told code g h f r q party e p n a b =
-      e ∙ ap (λ x. mergeCode x h r q party) p ∙ ap (λ x. mergeCode f x r q party) n ∙ ap (λ x. mergeCode f (next_of t f) x q party) a
-      ∙ ap (λ x. mergeCode f (next_of t f) (rowOf t f) x party) b
+  pub merge_told :
+      (code : ℕ) (g h f : Found) (r q : Reservation) (party : ℕ) → code ≡ merge_code g h r q party → g ≡ f → h ≡ next_of t f → r ≡ row_of t f → q ≡ row_of t (next_of t f)
+      → code ≡ first (merge_reasons_at t f party)
+  unfolding merge_reasons_at mergeable
+  merge_told code g h f r q party e p n a b =
+      e ∙ ap (λ x. merge_code x h r q party) p ∙ ap (λ x. merge_code f x r q party) n ∙ ap (λ x. merge_code f (next_of t f) x q party) a
+      ∙ ap (λ x. merge_code f (next_of t f) (row_of t f) x party) b
 
   -- A granted split: where its row stands, and what is left.
-  pub split-place : (party base : ℕ) (f : Found) (len : ℕ) → findOf t party base ≡ f → Splits t f len → length l ≡ 64 → (placeOf f < count) × (count < length l)
-  unfolding placeOf
-  split-place party base (At i) len e k h =
+  pub split_place : (party base : ℕ) (f : Found) (len : ℕ) → find_of t party base ≡ f → Splits t f len → length l ≡ 64 → (place_of f < count) × (count < length l)
+  unfolding place_of
+  split_place party base (At i) len e k h =
       let below = leb-false 64 count k.room in
-      let here = (found_at (begins party base) (live t) i blank (unfold findOf in e)).0 in
-      (omega (arith, used-length l count), omega arith)
-  split-place party base Nowhere len e k h = absurd (true≢false k.found)
+      let here = (found_at (begins party base) (live t) i blank (unfold find_of in e)).0 in
+      (omega (arith, used_length l count), omega arith)
+  split_place party base Nowhere len e k h = absurd (true≢false k.found)
 
-  split-reads : (f : Found) (len : ℕ) → len < 65536 → missing f ≡ false
-      → table_of (spreadAt l count (placeOf f) (rowCode (lowerPart (rowOf t f) len)) (rowCode (upperPart (rowOf t f) len))) (count + 1) ≡ splitAt t f len
-  unfolding placeOf splitAt
-  split-reads (At i) len h m =
-      let r = rowOf t (At i) in
+  split_reads : (f : Found) (len : ℕ) → len < 65536 → missing f ≡ false
+      → table_of (spread_at l count (place_of f) (row_code (lower_part (row_of t f) len)) (row_code (upper_part (row_of t f) len))) (count + 1) ≡ split_at t f len
+  unfolding place_of split_at
+  split_reads (At i) len h m =
+      let r = row_of t (At i) in
       let s = row_sized l count (At i) in
-      spread-reads l count i (rowCode (lowerPart r len)) (rowCode (upperPart r len)) (lowerPart r len) (upperPart r len)
-      (read_back (lowerPart r len) (lower-sized r len h s)) (read_back (upperPart r len) (upper-sized r len s))
-  split-reads Nowhere len h m = absurd (true≢false m)
+      spread_reads l count i (row_code (lower_part r len)) (row_code (upper_part r len)) (lower_part r len) (upper_part r len)
+      (read_back (lower_part r len) (lower_sized r len h s)) (read_back (upper_part r len) (upper_sized r len s))
+  split_reads Nowhere len h m = absurd (true≢false m)
 
   pub left_split :
       (code told : ℕ) (f : Found) (len : ℕ) → len < 65536 → code ≡ told → code ≡ 0 → missing f ≡ false
-      → Leaves l (spreadAt l count (placeOf f) (rowCode (lowerPart (rowOf t f) len)) (rowCode (upperPart (rowOf t f) len))) code (count + 1) (tabled told t (splitAt t f len))
+      → Leaves l (spread_at l count (place_of f) (row_code (lower_part (row_of t f) len)) (row_code (upper_part (row_of t f) len))) code (count + 1) (tabled told t (split_at t f len))
   left_split code told f len h e z m =
-      let r = rowOf t f in
+      let r = row_of t f in
       let s = row_sized l count f in
-      left-granted l (spreadAt l count (placeOf f) (rowCode (lowerPart r len)) (rowCode (upperPart r len))) code count (count + 1) told (splitAt t f len) e z (split-reads f len h m)
-      (all-spread l count (placeOf f) (rowCode (lowerPart r len)) (rowCode (upperPart r len)) (number-written (lowerPart r len) (lower-sized r len h s)) (number-written (upperPart r len) (upper-sized r len s)))
+      left_granted l (spread_at l count (place_of f) (row_code (lower_part r len)) (row_code (upper_part r len))) code count (count + 1) told (split_at t f len) e z (split_reads f len h m)
+      (all_spread l count (place_of f) (row_code (lower_part r len)) (row_code (upper_part r len)) (number_written (lower_part r len) (lower_sized r len h s)) (number_written (upper_part r len) (upper_sized r len s)))
 
   -- A granted merge.
-  pub merge-place : (f : Found) → missing f ≡ false → missing (next_of t f) ≡ false → (placeOf f + 1 < length (live t)) × (length (live t) ≤ length l)
-  unfolding placeOf
-  merge-place (At i) m k = (next-below t i k, omega (arith, used-length l count))
-  merge-place Nowhere m k = absurd (true≢false m)
+  pub merge_place : (f : Found) → missing f ≡ false → missing (next_of t f) ≡ false → (place_of f + 1 < length (live t)) × (length (live t) ≤ length l)
+  unfolding place_of
+  merge_place (At i) m k = (next_below t i k, omega (arith, used_length l count))
+  merge_place Nowhere m k = absurd (true≢false m)
 
-  merge-reads : (f : Found) (n : ℕ) → n ≡ length (live t) → missing f ≡ false
-      → table_of (gatherAt l n (placeOf f) (rowCode (joined (rowOf t f) (rowOf t (next_of t f)))) 0) (n - 1) ≡ mergeAt t f
-  unfolding placeOf mergeAt
-  merge-reads (At i) n e m =
-      let r = rowOf t (At i) in
-      let q = rowOf t (next_of t (At i)) in
-      gather-reads l count n i (rowCode (joined r q)) (joined r q) (read_back (joined r q) (joined-sized r q (row_sized l count (At i)))) e
-  merge-reads Nowhere n e m = absurd (true≢false m)
+  merge_reads : (f : Found) (n : ℕ) → n ≡ length (live t) → missing f ≡ false
+      → table_of (gather_at l n (place_of f) (row_code (joined (row_of t f) (row_of t (next_of t f)))) 0) (n - 1) ≡ merge_at t f
+  unfolding place_of merge_at
+  merge_reads (At i) n e m =
+      let r = row_of t (At i) in
+      let q = row_of t (next_of t (At i)) in
+      gather_reads l count n i (row_code (joined r q)) (joined r q) (read_back (joined r q) (joined_sized r q (row_sized l count (At i)))) e
+  merge_reads Nowhere n e m = absurd (true≢false m)
 
-  pub left-merge :
+  pub left_merge :
       (code told : ℕ) (f : Found) (n : ℕ) → n ≡ length (live t) → code ≡ told → code ≡ 0 → missing f ≡ false
-      → Leaves l (gatherAt l n (placeOf f) (rowCode (joined (rowOf t f) (rowOf t (next_of t f)))) 0) code (n - 1) (tabled told t (mergeAt t f))
-  left-merge code told f n k e z m =
-      let r = rowOf t f in
-      let q = rowOf t (next_of t f) in
-      left-granted l (gatherAt l n (placeOf f) (rowCode (joined r q)) 0) code count (n - 1) told (mergeAt t f) e z (merge-reads f n k m)
-      (all-gather l n (placeOf f) (rowCode (joined r q)) (number-written (joined r q) (joined-sized r q (row_sized l count f))))
+      → Leaves l (gather_at l n (place_of f) (row_code (joined (row_of t f) (row_of t (next_of t f)))) 0) code (n - 1) (tabled told t (merge_at t f))
+  left_merge code told f n k e z m =
+      let r = row_of t f in
+      let q = row_of t (next_of t f) in
+      left_granted l (gather_at l n (place_of f) (row_code (joined r q)) 0) code count (n - 1) told (merge_at t f) e z (merge_reads f n k m)
+      (all_gather l n (place_of f) (row_code (joined r q)) (number_written (joined r q) (joined_sized r q (row_sized l count f))))

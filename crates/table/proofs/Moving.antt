@@ -14,75 +14,75 @@ use Rattle.table.specs.Rows.{live}
 use Rattle.table.specs.Lent.{raised, lowered}
 
 -- The used rows are the first ones of all.
-pub live-length : (t : Table) → length (live t) ≡ min t.count (length t.rows)
+pub live_length : (t : Table) → length (live t) ≡ min t.count (length t.rows)
 unfolding live
-live-length t = length-take _ _
+live_length t = length-take _ _
 
 pub live_at : (t : Table) (i : ℕ) (d : Reservation) → i < length (live t) → get_or (live t) i d ≡ get_or t.rows i d
 unfolding live
-live_at t i d h = get_or-take t.count t.rows i d (omega (arith, live-length t))
+live_at t i d h = get_or-take t.count t.rows i d (omega (arith, live_length t))
 
 module _ {A : Type 0} where
-  pub raise-start : (l : List A) (n : ℕ) → n < length l → l ≡ raised l n n
+  pub raise_start : (l : List A) (n : ℕ) → n < length l → l ≡ raised l n n
   unfolding raised
-  raise-start [] n h = absurd (omega arith)
-  raise-start (x ∷ l) zero h = refl
-  raise-start (x ∷ l) (suc n) h = ap (λ (r : List A). x ∷ r) (raise-start l n (omega arith))
+  raise_start [] n h = absurd (omega arith)
+  raise_start (x ∷ l) zero h = refl
+  raise_start (x ∷ l) (suc n) h = ap (λ (r : List A). x ∷ r) (raise_start l n (omega arith))
 
-  raise-next : (l : List A) (j n : ℕ) (d : A) → j < n → n < length l → set (raised l (suc j) n) (suc j) (get_or (raised l (suc j) n) j d) ≡ raised l j n
+  raise_next : (l : List A) (j n : ℕ) (d : A) → j < n → n < length l → set (raised l (suc j) n) (suc j) (get_or (raised l (suc j) n) j d) ≡ raised l j n
   unfolding raised
-  raise-next [] j n d a b = absurd (omega arith)
-  raise-next (x ∷ l) j zero d a b = absurd (omega arith)
-  raise-next (x ∷ []) zero (suc n) d a b = absurd (omega arith)
-  raise-next (x ∷ (y ∷ l)) zero (suc n) d a b = refl
-  raise-next (x ∷ l) (suc j) (suc n) d a b = ap (λ (r : List A). x ∷ r) (raise-next l j n d (omega arith) (omega arith))
+  raise_next [] j n d a b = absurd (omega arith)
+  raise_next (x ∷ l) j zero d a b = absurd (omega arith)
+  raise_next (x ∷ []) zero (suc n) d a b = absurd (omega arith)
+  raise_next (x ∷ (y ∷ l)) zero (suc n) d a b = refl
+  raise_next (x ∷ l) (suc j) (suc n) d a b = ap (λ (r : List A). x ∷ r) (raise_next l j n d (omega arith) (omega arith))
 
   -- One turn of the loop that moves up.
-  pub raise-more : (l m o : List A) (k c j n : ℕ) (d : A) → m ≡ raised l k n → o ≡ set m k (get_or m c d) → c ≡ j → k ≡ suc j → j < n → n < length l → o ≡ raised l j n
-  raise-more l m o k c j n d before turn e f a b =
-      turn ∙ ap (λ r. set r k (get_or r c d)) before ∙ rw (e, f) (raise-next l j n d a b)
+  pub raise_more : (l m o : List A) (k c j n : ℕ) (d : A) → m ≡ raised l k n → o ≡ set m k (get_or m c d) → c ≡ j → k ≡ suc j → j < n → n < length l → o ≡ raised l j n
+  raise_more l m o k c j n d before turn e f a b =
+      turn ∙ ap (λ r. set r k (get_or r c d)) before ∙ rw (e, f) (raise_next l j n d a b)
 
-  raise-end : (l : List A) (i n : ℕ) (x y : A) → i < n → n < length l → set (set (raised l (suc i) n) (suc i) y) i x ≡ (take i (take n l) ++ x ∷ y ∷ drop (suc i) (take n l)) ++ drop (suc n) l
+  raise_end : (l : List A) (i n : ℕ) (x y : A) → i < n → n < length l → set (set (raised l (suc i) n) (suc i) y) i x ≡ (take i (take n l) ++ x ∷ y ∷ drop (suc i) (take n l)) ++ drop (suc n) l
   unfolding raised
-  raise-end [] i n x y a b = absurd (omega arith)
-  raise-end (z ∷ l) i zero x y a b = absurd (omega arith)
-  raise-end (z ∷ []) zero (suc n) x y a b = absurd (omega arith)
-  raise-end (z ∷ (w ∷ l)) zero (suc n) x y a b = refl
-  raise-end (z ∷ l) (suc i) (suc n) x y a b = ap (λ (r : List A). z ∷ r) (raise-end l i n x y (omega arith) (omega arith))
+  raise_end [] i n x y a b = absurd (omega arith)
+  raise_end (z ∷ l) i zero x y a b = absurd (omega arith)
+  raise_end (z ∷ []) zero (suc n) x y a b = absurd (omega arith)
+  raise_end (z ∷ (w ∷ l)) zero (suc n) x y a b = refl
+  raise_end (z ∷ l) (suc i) (suc n) x y a b = ap (λ (r : List A). z ∷ r) (raise_end l i n x y (omega arith) (omega arith))
 
   -- Two entries put over what moved up; whether the lower of them moved too makes no difference.
-  pub raise-put : (l : List A) (a i n : ℕ) (x y : A) → i ≤ a → a ≤ suc i → i < n → n < length l → set (set (raised l a n) (suc i) y) i x ≡ (take i (take n l) ++ x ∷ y ∷ drop (suc i) (take n l)) ++ drop (suc n) l
-  raise-put l a i n x y p q h k = go (eqb a i) refl
+  pub raise_put : (l : List A) (a i n : ℕ) (x y : A) → i ≤ a → a ≤ suc i → i < n → n < length l → set (set (raised l a n) (suc i) y) i x ≡ (take i (take n l) ++ x ∷ y ∷ drop (suc i) (take n l)) ++ drop (suc n) l
+  raise_put l a i n x y p q h k = go (eqb a i) refl
     where
       go : (b : Bool) → eqb a i ≡ b → set (set (raised l a n) (suc i) y) i x ≡ (take i (take n l) ++ x ∷ y ∷ drop (suc i) (take n l)) ++ drop (suc n) l
       go true e =
           let r = raised l (suc i) n in
           ap (λ b. set (set (raised l b n) (suc i) y) i x) (eqb-true a i e)
-          ∙ ap (λ m. set (set m (suc i) y) i x) (sym (raise-next l i n x h k))
-          ∙ ap (λ m. set m i x) (set-set r (suc i) (get_or r i x) y) ∙ raise-end l i n x y h k
+          ∙ ap (λ m. set (set m (suc i) y) i x) (sym (raise_next l i n x h k))
+          ∙ ap (λ m. set m i x) (set-set r (suc i) (get_or r i x) y) ∙ raise_end l i n x y h k
       go false e =
           let above : a ≡ suc i = omega (arith, eqb-false a i e) in
-          ap (λ b. set (set (raised l b n) (suc i) y) i x) above ∙ raise-end l i n x y h k
+          ap (λ b. set (set (raised l b n) (suc i) y) i x) above ∙ raise_end l i n x y h k
 
-  pub lower-start : (l : List A) (a : ℕ) → a < length l → l ≡ lowered l a a
+  pub lower_start : (l : List A) (a : ℕ) → a < length l → l ≡ lowered l a a
   unfolding lowered
-  lower-start [] a h = absurd (omega arith)
-  lower-start (x ∷ l) zero h = refl
-  lower-start (x ∷ l) (suc a) h = ap (λ (r : List A). x ∷ r) (lower-start l a (omega arith))
+  lower_start [] a h = absurd (omega arith)
+  lower_start (x ∷ l) zero h = refl
+  lower_start (x ∷ l) (suc a) h = ap (λ (r : List A). x ∷ r) (lower_start l a (omega arith))
 
-  lower-next : (l : List A) (a j : ℕ) (d : A) → a ≤ j → suc j < length l → set (lowered l a j) j (get_or (lowered l a j) (suc j) d) ≡ lowered l a (suc j)
+  lower_next : (l : List A) (a j : ℕ) (d : A) → a ≤ j → suc j < length l → set (lowered l a j) j (get_or (lowered l a j) (suc j) d) ≡ lowered l a (suc j)
   unfolding lowered
-  lower-next [] a j d h b = absurd (omega arith)
-  lower-next (x ∷ []) zero j d h b = absurd (omega arith)
-  lower-next (x ∷ (y ∷ l)) zero zero d h b = refl
-  lower-next (x ∷ (y ∷ l)) zero (suc j) d h b = ap (λ (r : List A). y ∷ r) (lower-next (y ∷ l) zero j d (omega arith) (omega arith))
-  lower-next (x ∷ l) (suc a) zero d h b = absurd (omega arith)
-  lower-next (x ∷ l) (suc a) (suc j) d h b = ap (λ (r : List A). x ∷ r) (lower-next l a j d (omega arith) (omega arith))
+  lower_next [] a j d h b = absurd (omega arith)
+  lower_next (x ∷ []) zero j d h b = absurd (omega arith)
+  lower_next (x ∷ (y ∷ l)) zero zero d h b = refl
+  lower_next (x ∷ (y ∷ l)) zero (suc j) d h b = ap (λ (r : List A). y ∷ r) (lower_next (y ∷ l) zero j d (omega arith) (omega arith))
+  lower_next (x ∷ l) (suc a) zero d h b = absurd (omega arith)
+  lower_next (x ∷ l) (suc a) (suc j) d h b = ap (λ (r : List A). x ∷ r) (lower_next l a j d (omega arith) (omega arith))
 
   -- One turn of the loop that moves down.
-  pub lower-more : (l m o : List A) (a j c k : ℕ) (d : A) → m ≡ lowered l a j → o ≡ set m j (get_or m c d) → c ≡ suc j → k ≡ suc j → a ≤ j → k < length l → o ≡ lowered l a k
-  lower-more l m o a j c k d before turn e f h b =
-      turn ∙ ap (λ r. set r j (get_or r c d)) before ∙ rw (e, f) (lower-next l a j d h (omega arith))
+  pub lower_more : (l m o : List A) (a j c k : ℕ) (d : A) → m ≡ lowered l a j → o ≡ set m j (get_or m c d) → c ≡ suc j → k ≡ suc j → a ≤ j → k < length l → o ≡ lowered l a k
+  lower_more l m o a j c k d before turn e f h b =
+      turn ∙ ap (λ r. set r j (get_or r c d)) before ∙ rw (e, f) (lower_next l a j d h (omega arith))
 
   lower_last : (l : List A) (j : ℕ) (w b : A) → j ≤ length l → set (take j l ++ drop j (w ∷ l)) j b ≡ take j l ++ b ∷ drop j l
   lower_last l j w b h =
@@ -90,13 +90,13 @@ module _ {A : Type 0} where
       ∙ set_at (take j l) (get_or (w ∷ l) j w) (drop j l) b j (length-take-le j l h)
 
   -- One entry put over what moved down, and one in the last place; whether the first that moved stands below makes no difference.
-  pub lower-put : (l : List A) (a i j : ℕ) (x b : A) → i ≤ a → a ≤ suc i → i < j → j < length l → set (set (lowered l a j) j b) i x ≡ (take i (take (suc j) l) ++ x ∷ drop (suc (suc i)) (take (suc j) l)) ++ b ∷ drop (suc j) l
+  pub lower_put : (l : List A) (a i j : ℕ) (x b : A) → i ≤ a → a ≤ suc i → i < j → j < length l → set (set (lowered l a j) j b) i x ≡ (take i (take (suc j) l) ++ x ∷ drop (suc (suc i)) (take (suc j) l)) ++ b ∷ drop (suc j) l
   unfolding lowered
-  lower-put [] a i j x b p q h k = absurd (omega arith)
-  lower-put (z ∷ l) a i zero x b p q h k = absurd (omega arith)
-  lower-put (z ∷ []) a zero (suc j) x b p q h k = absurd (omega arith)
-  lower-put (z ∷ (w ∷ l)) zero zero (suc j) x b p q h k = ap (λ (r : List A). x ∷ r) (lower_last l j w b (omega arith))
-  lower-put (z ∷ (w ∷ l)) (suc zero) zero (suc j) x b p q h k = ap (λ (r : List A). x ∷ r) (lower_last l j w b (omega arith))
-  lower-put (z ∷ (w ∷ l)) (suc (suc a)) zero (suc j) x b p q h k = absurd (omega arith)
-  lower-put (z ∷ l) zero (suc i) (suc j) x b p q h k = absurd (omega arith)
-  lower-put (z ∷ l) (suc a) (suc i) (suc j) x b p q h k = ap (λ (r : List A). z ∷ r) (lower-put l a i j x b (omega arith) (omega arith) (omega arith) (omega arith))
+  lower_put [] a i j x b p q h k = absurd (omega arith)
+  lower_put (z ∷ l) a i zero x b p q h k = absurd (omega arith)
+  lower_put (z ∷ []) a zero (suc j) x b p q h k = absurd (omega arith)
+  lower_put (z ∷ (w ∷ l)) zero zero (suc j) x b p q h k = ap (λ (r : List A). x ∷ r) (lower_last l j w b (omega arith))
+  lower_put (z ∷ (w ∷ l)) (suc zero) zero (suc j) x b p q h k = ap (λ (r : List A). x ∷ r) (lower_last l j w b (omega arith))
+  lower_put (z ∷ (w ∷ l)) (suc (suc a)) zero (suc j) x b p q h k = absurd (omega arith)
+  lower_put (z ∷ l) zero (suc i) (suc j) x b p q h k = absurd (omega arith)
+  lower_put (z ∷ l) (suc a) (suc i) (suc j) x b p q h k = ap (λ (r : List A). z ∷ r) (lower_put l a i j x b (omega arith) (omega arith) (omega arith) (omega arith))

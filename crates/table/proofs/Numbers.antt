@@ -12,53 +12,53 @@ use Rattle.capabilities.proofs.Choice.{pick_yes, pick_no, and_left, and_right}
 use Rattle.table.specs.declared.ReservationState.{ReservationState}
 use Rattle.table.specs.declared.ReservationState.TheVariants.{Open, Taken, Revoking}
 use Rattle.table.specs.declared.Reservation.{Reservation}
-use Rattle.table.specs.Rows.{stateNumber, isRevoking, blank}
+use Rattle.table.specs.Rows.{state_number, is_revoking, blank}
 use Rattle.table.proofs.Truth.{both, same_test}
-use Rattle.table.specs.Numbers.{stateFrom, rowFrom, rowCode, written}
+use Rattle.table.specs.Numbers.{state_from, row_from, row_code, written}
 
-pub state-small : (s : ReservationState) → stateNumber s ≤ 2
-state-small Open = omega arith
-state-small Taken = omega arith
-state-small Revoking = omega arith
+pub state_small : (s : ReservationState) → state_number s ≤ 2
+state_small Open = omega arith
+state_small Taken = omega arith
+state_small Revoking = omega arith
 
-pub state-back : (s : ReservationState) → stateFrom (stateNumber s) ≡ s
-unfolding stateFrom
-state-back Open = refl
-state-back Taken = refl
-state-back Revoking = refl
+pub state_back : (s : ReservationState) → state_from (state_number s) ≡ s
+unfolding state_from
+state_back Open = refl
+state_back Taken = refl
+state_back Revoking = refl
 
 -- The three numbers, one by one.
-pub state-open : (k : ℕ) → k ≡ 0 → stateFrom k ≡ Open
-unfolding stateFrom
-state-open k e = pick_yes (eqb k 0) Open _ (eq-eqb k 0 e)
+pub state_open : (k : ℕ) → k ≡ 0 → state_from k ≡ Open
+unfolding state_from
+state_open k e = pick_yes (eqb k 0) Open _ (eq-eqb k 0 e)
 
-pub state-taken : (k : ℕ) → k ≡ 1 → stateFrom k ≡ Taken
-unfolding stateFrom
-state-taken k e = pick_no (eqb k 0) Open (pick (eqb k 1) Taken Revoking) (ne_eqb k 0 (λ z. omega arith)) ∙ pick_yes (eqb k 1) Taken Revoking (eq-eqb k 1 e)
+pub state_taken : (k : ℕ) → k ≡ 1 → state_from k ≡ Taken
+unfolding state_from
+state_taken k e = pick_no (eqb k 0) Open (pick (eqb k 1) Taken Revoking) (ne_eqb k 0 (λ z. omega arith)) ∙ pick_yes (eqb k 1) Taken Revoking (eq-eqb k 1 e)
 
-pub state-revoking : (k : ℕ) → 1 < k → stateFrom k ≡ Revoking
-unfolding stateFrom
-state-revoking k h = pick_no (eqb k 0) Open (pick (eqb k 1) Taken Revoking) (ne_eqb k 0 (λ z. omega arith)) ∙ pick_no (eqb k 1) Taken Revoking (ne_eqb k 1 (λ z. omega arith))
+pub state_revoking : (k : ℕ) → 1 < k → state_from k ≡ Revoking
+unfolding state_from
+state_revoking k h = pick_no (eqb k 0) Open (pick (eqb k 1) Taken Revoking) (ne_eqb k 0 (λ z. omega arith)) ∙ pick_no (eqb k 1) Taken Revoking (ne_eqb k 1 (λ z. omega arith))
 
-pub state-number : (k : ℕ) → k ≤ 2 → stateNumber (stateFrom k) ≡ k
-state-number k h = go (eqb k 0) refl (eqb k 1) refl
+pub state_number_lem : (k : ℕ) → k ≤ 2 → state_number (state_from k) ≡ k
+state_number_lem k h = go (eqb k 0) refl (eqb k 1) refl
   where
-    go : (a : Bool) → eqb k 0 ≡ a → (b : Bool) → eqb k 1 ≡ b → stateNumber (stateFrom k) ≡ k
-    go true p b q = let e = eqb-true k 0 p in ap stateNumber (state-open k e) ∙ sym e
-    go false p true q = let e = eqb-true k 1 q in ap stateNumber (state-taken k e) ∙ sym e
+    go : (a : Bool) → eqb k 0 ≡ a → (b : Bool) → eqb k 1 ≡ b → state_number (state_from k) ≡ k
+    go true p b q = let e = eqb-true k 0 p in ap state_number (state_open k e) ∙ sym e
+    go false p true q = let e = eqb-true k 1 q in ap state_number (state_taken k e) ∙ sym e
     go false p false q =
         let e : k ≡ 2 = omega (arith, eqb-false k 0 p, eqb-false k 1 q) in
-        ap stateNumber (state-revoking k (omega arith)) ∙ sym e
+        ap state_number (state_revoking k (omega arith)) ∙ sym e
 
-pub revoking-test : (k : ℕ) → ltb 1 k ≡ isRevoking (stateFrom k)
-revoking-test k = go (eqb k 0) refl (eqb k 1) refl
+pub revoking_test : (k : ℕ) → ltb 1 k ≡ is_revoking (state_from k)
+revoking_test k = go (eqb k 0) refl (eqb k 1) refl
   where
-    go : (a : Bool) → eqb k 0 ≡ a → (b : Bool) → eqb k 1 ≡ b → ltb 1 k ≡ isRevoking (stateFrom k)
-    go true p b q = let e = eqb-true k 0 p in le-ltb 1 k (omega (arith, e)) ∙ sym (ap isRevoking (state-open k e))
-    go false p true q = let e = eqb-true k 1 q in le-ltb 1 k (omega (arith, e)) ∙ sym (ap isRevoking (state-taken k e))
+    go : (a : Bool) → eqb k 0 ≡ a → (b : Bool) → eqb k 1 ≡ b → ltb 1 k ≡ is_revoking (state_from k)
+    go true p b q = let e = eqb-true k 0 p in le-ltb 1 k (omega (arith, e)) ∙ sym (ap is_revoking (state_open k e))
+    go false p true q = let e = eqb-true k 1 q in le-ltb 1 k (omega (arith, e)) ∙ sym (ap is_revoking (state_taken k e))
     go false p false q =
         let h : 1 < k = omega (arith, eqb-false k 0 p, eqb-false k 1 q) in
-        lt-ltb 1 k h ∙ sym (ap isRevoking (state-revoking k h))
+        lt-ltb 1 k h ∙ sym (ap is_revoking (state_revoking k h))
 
 -- The fields have their sizes.
 pub record Sized (r : Reservation) : Type 0 where
@@ -73,8 +73,8 @@ low_half x y h = omega arith
 low_byte : (x y : ℕ) → x < 256 → (x + 256 * y) % 256 ≡ x
 low_byte x y h = omega arith
 
-own-byte : (x : ℕ) → x < 256 → x % 256 ≡ x
-own-byte x h = omega arith
+own_byte : (x : ℕ) → x < 256 → x % 256 ≡ x
+own_byte x h = omega arith
 
 -- Rows with the same fields are the same.
 pub same_row :
@@ -82,11 +82,11 @@ pub same_row :
     → r ≡ s
 same_row r s a b c d e = λ i. record { base = a i; length = b i; state = c i; holder = d i; taker = e i }
 
-pub read_back : (r : Reservation) → Sized r → rowFrom (rowCode r) ≡ r
-unfolding rowFrom rowCode
+pub read_back : (r : Reservation) → Sized r → row_from (row_code r) ≡ r
+unfolding row_from row_code
 read_back r s =
-    let small = state-small r.state in
-    let k = stateNumber r.state in
+    let small = state_small r.state in
+    let k = state_number r.state in
     let n = r.base + 65536 * r.length + 4294967296 * k + 1099511627776 * r.holder + 281474976710656 * r.taker in
     let top = r.holder + 256 * r.taker in
     let b : n % 65536 ≡ r.base = omega (arith, s.base, s.length, s.holder, small) in
@@ -97,15 +97,15 @@ read_back r s =
     let u : n / 1099511627776 ≡ top = omega (arith, s.base, s.length, small) in
     let h : n / 1099511627776 % 256 ≡ r.holder = ap (λ x. x % 256) u ∙ low_byte r.holder r.taker s.holder in
     let v : n / 281474976710656 ≡ r.taker = omega (arith, s.base, s.length, s.holder, small) in
-    let w : n / 281474976710656 % 256 ≡ r.taker = ap (λ x. x % 256) v ∙ own-byte r.taker s.taker in
-    same_row (rowFrom n) r b l (ap stateFrom e ∙ state-back r.state) h w
+    let w : n / 281474976710656 % 256 ≡ r.taker = ap (λ x. x % 256) v ∙ own_byte r.taker s.taker in
+    same_row (row_from n) r b l (ap state_from e ∙ state_back r.state) h w
 
-pub write-back : (n : ℕ) → written n ≡ true → rowCode (rowFrom n) ≡ n
-unfolding rowFrom rowCode written
-write-back n w =
+pub write_back : (n : ℕ) → written n ≡ true → row_code (row_from n) ≡ n
+unfolding row_from row_code written
+write_back n w =
     let a = leb-true (n / 4294967296 % 256) 2 (and_left (leb (n / 4294967296 % 256) 2) (ltb n 72057594037927936) w) in
     let b = ltb-true n 72057594037927936 (and_right (leb (n / 4294967296 % 256) 2) (ltb n 72057594037927936) w) in
-    let k = state-number (n / 4294967296 % 256) a in
+    let k = state_number_lem (n / 4294967296 % 256) a in
     let q = n / 65536 in
     let t = n / 4294967296 in
     let u = n / 1099511627776 in
@@ -119,11 +119,11 @@ write-back n w =
     let j : n ≡ n % 65536 + 65536 * q = omega arith in
     omega (arith, k, g, d, h, i, j)
 
-pub number-written : (r : Reservation) → Sized r → written (rowCode r) ≡ true
-unfolding rowCode written
-number-written r s =
-    let small = state-small r.state in
-    let k = stateNumber r.state in
+pub number_written : (r : Reservation) → Sized r → written (row_code r) ≡ true
+unfolding row_code written
+number_written r s =
+    let small = state_small r.state in
+    let k = state_number r.state in
     let n = r.base + 65536 * r.length + 4294967296 * k + 1099511627776 * r.holder + 281474976710656 * r.taker in
     let top = r.holder + 256 * r.taker in
     let q : n / 4294967296 ≡ k + 256 * top = omega (arith, s.base, s.length) in
@@ -133,19 +133,19 @@ number-written r s =
     (lt-ltb n 72057594037927936 (omega (arith, s.base, s.length, s.holder, s.taker, small)))
 
 -- Every number reads as a reservation whose fields have their sizes.
-pub read-sized : (n : ℕ) → Sized (rowFrom n)
-unfolding rowFrom
-read-sized n = record { base = omega arith; length = omega arith; holder = omega arith; taker = omega arith }
+pub read_sized : (n : ℕ) → Sized (row_from n)
+unfolding row_from
+read_sized n = record { base = omega arith; length = omega arith; holder = omega arith; taker = omega arith }
 
-pub zero-blank : rowFrom 0 ≡ blank
-unfolding rowFrom stateFrom
-zero-blank = refl
+pub zero_blank : row_from 0 ≡ blank
+unfolding row_from state_from
+zero_blank = refl
 
 same_low : (x y a b : ℕ) → x < 65536 → a < 65536 → x + 1099511627776 * y ≡ a + 1099511627776 * b → x ≡ a
 same_low x y a b h k e = omega arith
 
-same-high : (x y a b : ℕ) → x < 65536 → a < 65536 → x + 1099511627776 * y ≡ a + 1099511627776 * b → y ≡ b
-same-high x y a b h k e = omega arith
+same_high : (x y a b : ℕ) → x < 65536 → a < 65536 → x + 1099511627776 * y ≡ a + 1099511627776 * b → y ≡ b
+same_high x y a b h k e = omega arith
 
 -- Base and holder in their places, the other bits 0.
 masked : (n : ℕ) → bit_and n 280375465148415 ≡ n % 65536 + 1099511627776 * (n / 1099511627776 % 256)
@@ -160,11 +160,11 @@ masked n =
     ∙ ap (λ x. a % 256 * 1099511627776 + x) (and_mask r 16 ∙ low)
     ∙ omega arith
 
-pub begins-test : (n party base : ℕ) → party < 256 → base < 65536 → eqb (bit_and n 280375465148415) (base + 1099511627776 * party) ≡ (eqb (n % 65536) base && eqb (n / 1099511627776 % 256) party)
-begins-test n party base p b =
+pub begins_test : (n party base : ℕ) → party < 256 → base < 65536 → eqb (bit_and n 280375465148415) (base + 1099511627776 * party) ≡ (eqb (n % 65536) base && eqb (n / 1099511627776 % 256) party)
+begins_test n party base p b =
     let x = n % 65536 in
     let y = n / 1099511627776 % 256 in
     let e = masked n in
     same_test (eqb (bit_and n 280375465148415) (base + 1099511627776 * party)) (eqb x base && eqb y party)
-    (λ t. let k = sym e ∙ eqb-true (bit_and n 280375465148415) (base + 1099511627776 * party) t in both (eqb x base) (eqb y party) (eq-eqb x base (same_low x y base party (omega arith) b k)) (eq-eqb y party (same-high x y base party (omega arith) b k)))
+    (λ t. let k = sym e ∙ eqb-true (bit_and n 280375465148415) (base + 1099511627776 * party) t in both (eqb x base) (eqb y party) (eq-eqb x base (same_low x y base party (omega arith) b k)) (eq-eqb y party (same_high x y base party (omega arith) b k)))
     (λ t. let k = eqb-true x base (and_left (eqb x base) (eqb y party) t) in let h = eqb-true y party (and_right (eqb x base) (eqb y party) t) in eq-eqb (bit_and n 280375465148415) (base + 1099511627776 * party) (e ∙ ap (λ z. z + 1099511627776 * y) k ∙ ap (λ z. base + 1099511627776 * z) h))

@@ -4,26 +4,26 @@ use mathlib.Core.Path.{◌≡◌}
 use Rattle.capabilities.specs.Refusals.{first}
 use Rattle.capabilities.proofs.Choice.{kept}
 use Rattle.table.specs.Table.{Table}
-use Rattle.table.specs.Find.{findOf, rowOf, with_row}
-use Rattle.table.specs.Operations.{take_of, takeReasons, takenRow, splitOf, splitReasons, splitAt, mergeOf, mergeReasons, mergeAt, giveOf, giveReasons, givenRow}
+use Rattle.table.specs.Find.{find_of, row_of, with_row}
+use Rattle.table.specs.Operations.{take_of, take_reasons, taken_row, split_of, split_reasons, split_at, merge_of, merge_reasons, merge_at, give_of, give_reasons, given_row}
 
 module _ (t : Table) (party base : ℕ) where
-  pub take-refused : ((take_of t party base).code ≡ 0 → ⊥) → (take_of t party base).table ≡ t
+  pub take_refused : ((take_of t party base).code ≡ 0 → ⊥) → (take_of t party base).table ≡ t
   unfolding take_of
-  take-refused z = kept (first (takeReasons t party base)) (with_row t (findOf t party base) (takenRow (rowOf t (findOf t party base)) party)) t z
+  take_refused z = kept (first (take_reasons t party base)) (with_row t (find_of t party base) (taken_row (row_of t (find_of t party base)) party)) t z
 
-  pub take-length : ((take_of t party base).code ≡ 0 → ⊥) → (take_of t party base).length ≡ 0
+  pub take_length : ((take_of t party base).code ≡ 0 → ⊥) → (take_of t party base).length ≡ 0
   unfolding take_of
-  take-length z = kept (first (takeReasons t party base)) (rowOf t (findOf t party base)).length 0 z
+  take_length z = kept (first (take_reasons t party base)) (row_of t (find_of t party base)).length 0 z
 
-  pub split-refused : (len : ℕ) → ((splitOf t party base len).code ≡ 0 → ⊥) → (splitOf t party base len).table ≡ t
-  unfolding splitOf
-  split-refused len z = kept (first (splitReasons t party base len)) (splitAt t (findOf t party base) len) t z
+  pub split_refused : (len : ℕ) → ((split_of t party base len).code ≡ 0 → ⊥) → (split_of t party base len).table ≡ t
+  unfolding split_of
+  split_refused len z = kept (first (split_reasons t party base len)) (split_at t (find_of t party base) len) t z
 
-  pub merge-refused : ((mergeOf t party base).code ≡ 0 → ⊥) → (mergeOf t party base).table ≡ t
-  unfolding mergeOf
-  merge-refused z = kept (first (mergeReasons t party base)) (mergeAt t (findOf t party base)) t z
+  pub merge_refused : ((merge_of t party base).code ≡ 0 → ⊥) → (merge_of t party base).table ≡ t
+  unfolding merge_of
+  merge_refused z = kept (first (merge_reasons t party base)) (merge_at t (find_of t party base)) t z
 
-  pub give-refused : (to : ℕ) → ((giveOf t party base to).code ≡ 0 → ⊥) → (giveOf t party base to).table ≡ t
-  unfolding giveOf
-  give-refused to z = kept (first (giveReasons t party base)) (with_row t (findOf t party base) (givenRow (rowOf t (findOf t party base)) to)) t z
+  pub give_refused : (to : ℕ) → ((give_of t party base to).code ≡ 0 → ⊥) → (give_of t party base to).table ≡ t
+  unfolding give_of
+  give_refused to z = kept (first (give_reasons t party base)) (with_row t (find_of t party base) (given_row (row_of t (find_of t party base)) to)) t z

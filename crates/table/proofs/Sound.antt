@@ -14,9 +14,9 @@ use Rattle.table.specs.Table.{Table}
 use Rattle.table.specs.declared.Found.TheVariants.{At}
 use Rattle.table.specs.Rows.{live, table}
 use Rattle.table.specs.Find.{with_row}
-use Rattle.table.specs.Tiling.{tiles, allBlank, revokings, sized, tableSound}
+use Rattle.table.specs.Tiling.{tiles, all_blank, revokings, sized, table_sound}
 use Rattle.table.proofs.Truth.{both}
-use Rattle.table.proofs.Moving.{live-length}
+use Rattle.table.proofs.Moving.{live_length}
 
 pub record Sound (cells : ℕ) (t : Table) : Type 0 where
   pub rows : length t.rows ≡ 64
@@ -24,7 +24,7 @@ pub record Sound (cells : ℕ) (t : Table) : Type 0 where
   pub most : t.count ≤ 64
   pub used : length (live t) ≡ t.count
   pub tiled : tiles 0 cells (live t) ≡ true
-  pub unused : allBlank (drop t.count t.rows) ≡ true
+  pub unused : all_blank (drop t.count t.rows) ≡ true
   pub single : revokings (live t) ≤ 1
 
 module _ (cells : ℕ) (t : Table) where
@@ -32,10 +32,10 @@ module _ (cells : ℕ) (t : Table) where
   bounds = ltb 0 t.count && leb t.count 64
 
   abbrev tail : Bool
-  tail = allBlank (drop t.count t.rows) && leb (revokings (live t)) 1
+  tail = all_blank (drop t.count t.rows) && leb (revokings (live t)) 1
 
-  pub sound : tableSound cells t ≡ true → Sound cells t
-  unfolding tableSound sized
+  pub sound : table_sound cells t ≡ true → Sound cells t
+  unfolding table_sound sized
   sound e =
       let front = and_left (sized t && tiles 0 cells (live t)) tail e in
       let back = and_right (sized t && tiles 0 cells (live t)) tail e in
@@ -48,44 +48,44 @@ module _ (cells : ℕ) (t : Table) where
         rows = rows;
         some = some;
         most = most;
-        used = omega (arith, live-length t);
+        used = omega (arith, live_length t);
         tiled = and_right (sized t) (tiles 0 cells (live t)) front;
-        unused = and_left (allBlank (drop t.count t.rows)) (leb (revokings (live t)) 1) back;
-        single = leb-true (revokings (live t)) 1 (and_right (allBlank (drop t.count t.rows)) (leb (revokings (live t)) 1) back);
+        unused = and_left (all_blank (drop t.count t.rows)) (leb (revokings (live t)) 1) back;
+        single = leb-true (revokings (live t)) 1 (and_right (all_blank (drop t.count t.rows)) (leb (revokings (live t)) 1) back);
       }
 
-  pub sound_back : length t.rows ≡ 64 → 0 < t.count → t.count ≤ 64 → tiles 0 cells (live t) ≡ true → allBlank (drop t.count t.rows) ≡ true → revokings (live t) ≤ 1 → tableSound cells t ≡ true
-  unfolding tableSound sized
+  pub sound_back : length t.rows ≡ 64 → 0 < t.count → t.count ≤ 64 → tiles 0 cells (live t) ≡ true → all_blank (drop t.count t.rows) ≡ true → revokings (live t) ≤ 1 → table_sound cells t ≡ true
+  unfolding table_sound sized
   sound_back rows some most tiled unused single =
       both (sized t && tiles 0 cells (live t)) tail
       (both (sized t) (tiles 0 cells (live t))
       (both (eqb (length t.rows) 64) bounds (eq-eqb (length t.rows) 64 rows)
       (both (ltb 0 t.count) (leb t.count 64) (lt-ltb 0 t.count some) (le-leb t.count 64 most)))
       tiled)
-      (both (allBlank (drop t.count t.rows)) (leb (revokings (live t)) 1) unused (le-leb (revokings (live t)) 1 single))
+      (both (all_blank (drop t.count t.rows)) (leb (revokings (live t)) 1) unused (le-leb (revokings (live t)) 1 single))
 
 -- A table of used rows l and unused rows z.
 pub live_made : (l z : List Reservation) → live (table (l ++ z) (length l)) ≡ l
 unfolding live
 live_made l z = take-append_seam l z
 
-pub made-sound : (cells : ℕ) (l z : List Reservation) → length l + length z ≡ 64 → 0 < length l → tiles 0 cells l ≡ true → allBlank z ≡ true → revokings l ≤ 1 → tableSound cells (table (l ++ z) (length l)) ≡ true
-made-sound cells l z rows some tiled unused single =
+pub made_sound : (cells : ℕ) (l z : List Reservation) → length l + length z ≡ 64 → 0 < length l → tiles 0 cells l ≡ true → all_blank z ≡ true → revokings l ≤ 1 → table_sound cells (table (l ++ z) (length l)) ≡ true
+made_sound cells l z rows some tiled unused single =
     sound_back cells (table (l ++ z) (length l)) (length-append l z ∙ rows) some (omega arith)
     (ap (tiles 0 cells) (live_made l z) ∙ tiled)
-    (ap allBlank (drop-append_seam l z) ∙ unused)
+    (ap all_blank (drop-append_seam l z) ∙ unused)
     (omega (arith, ap revokings (live_made l z)))
 
 -- Its rows are the used ones and the unused ones.
-pub rows-parts : (t : Table) → t.rows ≡ live t ++ drop t.count t.rows
+pub rows_parts : (t : Table) → t.rows ≡ live t ++ drop t.count t.rows
 unfolding live
-rows-parts t = sym (take-append-drop t.count t.rows)
+rows_parts t = sym (take-append-drop t.count t.rows)
 
 -- A row in use is put in place of the old one.
-pub with-made : (cells : ℕ) (t : Table) (i : ℕ) (r : Reservation) → Sound cells t → i < length (live t) → with_row t (At i) r ≡ table (set (live t) i r ++ drop t.count t.rows) (length (set (live t) i r))
+pub with_made : (cells : ℕ) (t : Table) (i : ℕ) (r : Reservation) → Sound cells t → i < length (live t) → with_row t (At i) r ≡ table (set (live t) i r ++ drop t.count t.rows) (length (set (live t) i r))
 unfolding with_row
-with-made cells t i r s h =
+with_made cells t i r s h =
     let n : t.count ≡ length (set (live t) i r) = sym (length-set (live t) i r ∙ s.used) in
-    ap (λ l. table (set l i r) t.count) (rows-parts t)
+    ap (λ l. table (set l i r) t.count) (rows_parts t)
     ∙ ap (λ l. table l t.count) (set-append_left (live t) (drop t.count t.rows) i r h)
     ∙ ap (table (set (live t) i r ++ drop t.count t.rows)) n

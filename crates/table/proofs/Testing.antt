@@ -12,16 +12,16 @@ use lib.Seq.{drop-cons, get_or-take}
 use Rattle.capabilities.specs.Lists.{pick}
 use Rattle.capabilities.proofs.Choice.{and_left, and_right, pick_yes, pick_no, cross}
 use Rattle.table.specs.Table.{Table}
-use Rattle.table.specs.Rows.{isOpen, isBlank, noTaker, severalTakers, live, blank}
-use Rattle.table.specs.Tiling.{follows, rowSound, tiles, allBlank, revokings, takerSound, takersSound, tableSound, sized}
-use Rattle.table.proofs.Truth.{both, or-first, or-second, same_test}
-use Rattle.table.proofs.Walking.{tiles_more, tiles-end, takers-more, takers-end}
-use Rattle.table.specs.Numbers.{stateFrom, rowFrom, rowCode, table_of, written, allWritten}
-use Rattle.table.specs.Sound.{allZero, topSound, soundNumbers}
-use Rattle.table.proofs.Numbers.{state-open, state-taken, state-revoking, write-back}
-use Rattle.table.proofs.Inverse.{blank-is}
-use Rattle.table.proofs.Mapping.{map-drop}
-use Rattle.table.proofs.Reading.{used-length, live-read}
+use Rattle.table.specs.Rows.{is_open, is_blank, no_taker, several_takers, live, blank}
+use Rattle.table.specs.Tiling.{follows, row_sound, tiles, all_blank, revokings, taker_sound, takers_sound, table_sound, sized}
+use Rattle.table.proofs.Truth.{both, or_first, or_second, same_test}
+use Rattle.table.proofs.Walking.{tiles_more, tiles_end, takers_more, takers_end}
+use Rattle.table.specs.Numbers.{state_from, row_from, row_code, table_of, written, all_written}
+use Rattle.table.specs.Sound.{all_zero, top_sound, sound_numbers}
+use Rattle.table.proofs.Numbers.{state_open, state_taken, state_revoking, write_back}
+use Rattle.table.proofs.Inverse.{blank_is}
+use Rattle.table.proofs.Mapping.{map_drop}
+use Rattle.table.proofs.Reading.{used_length, live_read}
 
 shuffle : (s t w b v r : Bool) → (s && (t && w)) && ((b && v) && r) ≡ (((s && t) && (b && r)) && (w && v))
 shuffle false t w b v r = refl
@@ -50,73 +50,73 @@ or_no true b e = absurd (true≢false e)
 or_no false b e = refl
 
 module _ (l : List ℕ) (i : ℕ) (h : i < length l) where
-  all_more : allWritten (drop i l) ≡ (written (get_or l i 0) && allWritten (drop (i + 1) l))
-  unfolding allWritten
+  all_more : all_written (drop i l) ≡ (written (get_or l i 0) && all_written (drop (i + 1) l))
+  unfolding all_written
   all_more = rw (add-one i, drop-cons l i 0 h)
 
-  pub zero_more : allZero (drop i l) ≡ (eqb (get_or l i 0) 0 && allZero (drop (i + 1) l))
-  unfolding allZero
+  pub zero_more : all_zero (drop i l) ≡ (eqb (get_or l i 0) 0 && all_zero (drop (i + 1) l))
+  unfolding all_zero
   zero_more = rw (add-one i, drop-cons l i 0 h)
 
 module _ (l : List ℕ) (i : ℕ) (h : length l ≤ i) where
-  all_end : allWritten (drop i l) ≡ true
-  unfolding allWritten
+  all_end : all_written (drop i l) ≡ true
+  unfolding all_written
   all_end = rw (drop_of_length-le l h)
 
-  pub zero-end : allZero (drop i l) ≡ true
-  unfolding allZero
-  zero-end = rw (drop_of_length-le l h)
+  pub zero_end : all_zero (drop i l) ≡ true
+  unfolding all_zero
+  zero_end = rw (drop_of_length-le l h)
 
 -- What is left to tile, one reservation more, and its end.
 module _ (l : List ℕ) (count end : ℕ) where
   abbrev t : Table
   t = table_of l count
 
-  pub tile-more : (i from : ℕ) → i < length (live t)
-      → ((tiles from end (drop i (live t)) && takersSound (drop i (live t))) && allWritten (drop i (take count l)))
-      ≡ (((follows from (rowFrom (get_or l i 0)) && takerSound (rowFrom (get_or l i 0))) && written (get_or l i 0))
-      && ((tiles (from + (rowFrom (get_or l i 0)).length) end (drop (i + 1) (live t)) && takersSound (drop (i + 1) (live t))) && allWritten (drop (i + 1) (take count l))))
-  tile-more i from h =
+  pub tile_more : (i from : ℕ) → i < length (live t)
+      → ((tiles from end (drop i (live t)) && takers_sound (drop i (live t))) && all_written (drop i (take count l)))
+      ≡ (((follows from (row_from (get_or l i 0)) && taker_sound (row_from (get_or l i 0))) && written (get_or l i 0))
+      && ((tiles (from + (row_from (get_or l i 0)).length) end (drop (i + 1) (live t)) && takers_sound (drop (i + 1) (live t))) && all_written (drop (i + 1) (take count l))))
+  tile_more i from h =
       let x = get_or l i 0 in
       let len : length (take count l) ≡ min count (length l) = length-take count l in
-      let k : i < length (take count l) = omega (arith, h, len, used-length l count) in
-      let below : i < count = omega (arith, h, used-length l count) in
-      let a = tiles_more (live t) i blank h from end ∙ ap (λ r. follows from r && tiles (from + r.length) end (drop (i + 1) (live t))) (live-read l count i h) in
-      let b = all_more (take count l) i k ∙ ap (λ n. written n && allWritten (drop (i + 1) (take count l))) (get_or-take count l i 0 below) in
-      let c = takers-more (live t) i blank h ∙ ap (λ r. takerSound r && takersSound (drop (i + 1) (live t))) (live-read l count i h) in
-      let f = follows from (rowFrom x) in
-      let g = tiles (from + (rowFrom x).length) end (drop (i + 1) (live t)) in
-      let u = takerSound (rowFrom x) in
-      let v = takersSound (drop (i + 1) (live t)) in
-      ap (λ z. (z && takersSound (drop i (live t))) && allWritten (drop i (take count l))) a
-      ∙ ap (λ z. ((f && g) && z) && allWritten (drop i (take count l))) c
+      let k : i < length (take count l) = omega (arith, h, len, used_length l count) in
+      let below : i < count = omega (arith, h, used_length l count) in
+      let a = tiles_more (live t) i blank h from end ∙ ap (λ r. follows from r && tiles (from + r.length) end (drop (i + 1) (live t))) (live_read l count i h) in
+      let b = all_more (take count l) i k ∙ ap (λ n. written n && all_written (drop (i + 1) (take count l))) (get_or-take count l i 0 below) in
+      let c = takers_more (live t) i blank h ∙ ap (λ r. taker_sound r && takers_sound (drop (i + 1) (live t))) (live_read l count i h) in
+      let f = follows from (row_from x) in
+      let g = tiles (from + (row_from x).length) end (drop (i + 1) (live t)) in
+      let u = taker_sound (row_from x) in
+      let v = takers_sound (drop (i + 1) (live t)) in
+      ap (λ z. (z && takers_sound (drop i (live t))) && all_written (drop i (take count l))) a
+      ∙ ap (λ z. ((f && g) && z) && all_written (drop i (take count l))) c
       ∙ ap (λ z. ((f && g) && (u && v)) && z) b
-      ∙ ap (λ z. z && (written x && allWritten (drop (i + 1) (take count l)))) (cross f g u v)
-      ∙ cross (f && u) (g && v) (written x) (allWritten (drop (i + 1) (take count l)))
+      ∙ ap (λ z. z && (written x && all_written (drop (i + 1) (take count l)))) (cross f g u v)
+      ∙ cross (f && u) (g && v) (written x) (all_written (drop (i + 1) (take count l)))
 
-  pub tile-end : (i from : ℕ) → length (live t) ≤ i → ((tiles from end (drop i (live t)) && takersSound (drop i (live t))) && allWritten (drop i (take count l))) ≡ eqb from end
-  tile-end i from h =
+  pub tile_end : (i from : ℕ) → length (live t) ≤ i → ((tiles from end (drop i (live t)) && takers_sound (drop i (live t))) && all_written (drop i (take count l))) ≡ eqb from end
+  tile_end i from h =
       let len : length (take count l) ≡ min count (length l) = length-take count l in
-      let k : length (take count l) ≤ i = omega (arith, h, len, used-length l count) in
-      ap (λ z. (z && takersSound (drop i (live t))) && allWritten (drop i (take count l))) (tiles-end (live t) i h from end)
-      ∙ ap (λ z. (eqb from end && z) && allWritten (drop i (take count l))) (takers-end (live t) i h)
-      ∙ ap (λ z. z && allWritten (drop i (take count l))) (and-true (eqb from end))
+      let k : length (take count l) ≤ i = omega (arith, h, len, used_length l count) in
+      ap (λ z. (z && takers_sound (drop i (live t))) && all_written (drop i (take count l))) (tiles_end (live t) i h from end)
+      ∙ ap (λ z. (eqb from end && z) && all_written (drop i (take count l))) (takers_end (live t) i h)
+      ∙ ap (λ z. z && all_written (drop i (take count l))) (and-true (eqb from end))
       ∙ ap (λ z. eqb from end && z) (all_end (take count l) i k) ∙ and-true (eqb from end)
 
 -- Where a reservation that begins at a cell ends.
-pub end_of : (x from : ℕ) → follows from (rowFrom x) ≡ true → from + (rowFrom x).length ≡ x % 65536 + x / 65536 % 65536
-unfolding rowFrom
+pub end_of : (x from : ℕ) → follows from (row_from x) ≡ true → from + (row_from x).length ≡ x % 65536 + x / 65536 % 65536
+unfolding row_from
 end_of x from e =
-    let base = eqb-true (x % 65536) from (and_left (eqb (x % 65536) from) (rowSound (rowFrom x)) e) in
+    let base = eqb-true (x % 65536) from (and_left (eqb (x % 65536) from) (row_sound (row_from x)) e) in
     omega (arith, base)
 
-open-test : (k : ℕ) → isOpen (stateFrom k) ≡ eqb k 0
-open-test k = go (eqb k 0) refl (eqb k 1) refl
+open_test : (k : ℕ) → is_open (state_from k) ≡ eqb k 0
+open_test k = go (eqb k 0) refl (eqb k 1) refl
   where
-    go : (a : Bool) → eqb k 0 ≡ a → (b : Bool) → eqb k 1 ≡ b → isOpen (stateFrom k) ≡ eqb k 0
-    go true p b q = ap isOpen (state-open k (eqb-true k 0 p)) ∙ sym p
-    go false p true q = ap isOpen (state-taken k (eqb-true k 1 q)) ∙ sym p
-    go false p false q = ap isOpen (state-revoking k (omega (arith, eqb-false k 0 p, eqb-false k 1 q))) ∙ sym p
+    go : (a : Bool) → eqb k 0 ≡ a → (b : Bool) → eqb k 1 ≡ b → is_open (state_from k) ≡ eqb k 0
+    go true p b q = ap is_open (state_open k (eqb-true k 0 p)) ∙ sym p
+    go false p true q = ap is_open (state_taken k (eqb-true k 1 q)) ∙ sym p
+    go false p false q = ap is_open (state_revoking k (omega (arith, eqb-false k 0 p, eqb-false k 1 q))) ∙ sym p
 
 -- The bits from 32 up, tested at once.
 module _ (n : ℕ) where
@@ -143,16 +143,16 @@ module _ (n : ℕ) where
   held = leb y 7 && (eqb k 0 || eqb y 0)
 
   abbrev taken : Bool
-  taken = pick (eqb k 0) (eqb x noTaker) (leb x severalTakers)
+  taken = pick (eqb k 0) (eqb x no_taker) (leb x several_takers)
 
   abbrev fits : Bool
   fits = leb k 2 && ltb n 72057594037927936
 
   abbrev lent : Bool
-  lent = (eqb low 1 || eqb low 2) && leb top severalTakers
+  lent = (eqb low 1 || eqb low 2) && leb top several_takers
 
   abbrev free : Bool
-  free = (eqb k 0 && ltb low 2048) && eqb top noTaker
+  free = (eqb k 0 && ltb low 2048) && eqb top no_taker
 
   upper : top ≡ n / 281474976710656
   upper = omega arith
@@ -163,8 +163,8 @@ module _ (n : ℕ) where
       let parts : low ≡ k + 256 * (n / 4294967296 / 256 % 256) = omega arith in
       parts ∙ ap (λ z. k + 256 * (z % 256)) halves
 
-  top-there : (held && taken) && fits ≡ true → topSound h ≡ true
-  top-there e = go (eqb k 0) refl (eqb k 1) refl
+  top_there : (held && taken) && fits ≡ true → top_sound h ≡ true
+  top_there e = go (eqb k 0) refl (eqb k 1) refl
     where
       front : held && taken ≡ true
       front = and_left (held && taken) fits e
@@ -187,118 +187,118 @@ module _ (n : ℕ) where
       few : k ≤ 2
       few = leb-true k 2 (and_left (leb k 2) (ltb n 72057594037927936) rest)
 
-      lent-there : eqb k 0 ≡ false → eqb low 1 || eqb low 2 ≡ true → topSound h ≡ true
-      lent-there p q =
-          let most = leb-true x severalTakers (sym (pick_no (eqb k 0) (eqb x noTaker) (leb x severalTakers) p) ∙ taker) in
-          or-first lent free (both (eqb low 1 || eqb low 2) (leb top severalTakers) q (le-leb top severalTakers (omega (arith, whole, most))))
+      lent_there : eqb k 0 ≡ false → eqb low 1 || eqb low 2 ≡ true → top_sound h ≡ true
+      lent_there p q =
+          let most = leb-true x several_takers (sym (pick_no (eqb k 0) (eqb x no_taker) (leb x several_takers) p) ∙ taker) in
+          or_first lent free (both (eqb low 1 || eqb low 2) (leb top several_takers) q (le-leb top several_takers (omega (arith, whole, most))))
 
       none : eqb k 0 ≡ false → y ≡ 0
       none p = eqb-true y 0 (sym (or_no (eqb k 0) (eqb y 0) p) ∙ and_right (leb y 7) (eqb k 0 || eqb y 0) holder)
 
-      go : (a : Bool) → eqb k 0 ≡ a → (b : Bool) → eqb k 1 ≡ b → topSound h ≡ true
+      go : (a : Bool) → eqb k 0 ≡ a → (b : Bool) → eqb k 1 ≡ b → top_sound h ≡ true
       go true p b q =
           let seven = leb-true y 7 (and_left (leb y 7) (eqb k 0 || eqb y 0) holder) in
-          let nine = eqb-true x noTaker (sym (pick_yes (eqb k 0) (eqb x noTaker) (leb x severalTakers) p) ∙ taker) in
-          or-second lent free
-          (both (eqb k 0 && ltb low 2048) (eqb top noTaker) (both (eqb k 0) (ltb low 2048) p (lt-ltb low 2048 (omega (arith, lower, eqb-true k 0 p, seven))))
-          (eq-eqb top noTaker (whole ∙ nine)))
-      go false p true q = lent-there p (or-first (eqb low 1) (eqb low 2) (eq-eqb low 1 (omega (arith, lower, none p, eqb-true k 1 q))))
+          let nine = eqb-true x no_taker (sym (pick_yes (eqb k 0) (eqb x no_taker) (leb x several_takers) p) ∙ taker) in
+          or_second lent free
+          (both (eqb k 0 && ltb low 2048) (eqb top no_taker) (both (eqb k 0) (ltb low 2048) p (lt-ltb low 2048 (omega (arith, lower, eqb-true k 0 p, seven))))
+          (eq-eqb top no_taker (whole ∙ nine)))
+      go false p true q = lent_there p (or_first (eqb low 1) (eqb low 2) (eq-eqb low 1 (omega (arith, lower, none p, eqb-true k 1 q))))
       go false p false q =
           let two : k ≡ 2 = omega (arith, few, eqb-false k 0 p, eqb-false k 1 q) in
-          lent-there p (or-second (eqb low 1) (eqb low 2) (eq-eqb low 2 (omega (arith, lower, none p, two))))
+          lent_there p (or_second (eqb low 1) (eqb low 2) (eq-eqb low 2 (omega (arith, lower, none p, two))))
 
   made : y ≤ 7 → k ≤ 2 → n / 281474976710656 ≤ 9 → eqb k 0 || eqb y 0 ≡ true → taken ≡ true → (held && taken) && fits ≡ true
   made a b c d e =
       both (held && taken) fits (both held taken (both (leb y 7) (eqb k 0 || eqb y 0) (le-leb y 7 a) d) e)
       (both (leb k 2) (ltb n 72057594037927936) (le-leb k 2 b) (lt-ltb n 72057594037927936 (omega (arith, c))))
 
-  top_back : topSound h ≡ true → (held && taken) && fits ≡ true
+  top_back : top_sound h ≡ true → (held && taken) && fits ≡ true
   top_back e = go lent refl (eqb low 1) refl
     where
       lent_back : 0 < low → low ≤ 2 → lent ≡ true → (held && taken) && fits ≡ true
       lent_back some few p =
-          let most = leb-true top severalTakers (and_right (eqb low 1 || eqb low 2) (leb top severalTakers) p) in
+          let most = leb-true top several_takers (and_right (eqb low 1 || eqb low 2) (leb top several_takers) p) in
           let none : y ≡ 0 = omega (arith, lower, few) in
           let own : k ≡ low = omega (arith, lower, none) in
           let same : x ≡ n / 281474976710656 = omega (arith, upper, most) in
           let no : eqb k 0 ≡ false = ne_eqb k 0 (λ z. omega (arith, own, some, z)) in
-          made (omega (arith, none)) (omega (arith, own, few)) (omega (arith, upper, most)) (or-second (eqb k 0) (eqb y 0) (eq-eqb y 0 none))
-          (pick_no (eqb k 0) (eqb x noTaker) (leb x severalTakers) no ∙ le-leb x severalTakers (omega (arith, same, upper, most)))
+          made (omega (arith, none)) (omega (arith, own, few)) (omega (arith, upper, most)) (or_second (eqb k 0) (eqb y 0) (eq-eqb y 0 none))
+          (pick_no (eqb k 0) (eqb x no_taker) (leb x several_takers) no ∙ le-leb x several_takers (omega (arith, same, upper, most)))
 
       go : (a : Bool) → lent ≡ a → (b : Bool) → eqb low 1 ≡ b → (held && taken) && fits ≡ true
       go true p true q = let one = eqb-true low 1 q in lent_back (omega (arith, one)) (omega (arith, one)) p
       go true p false q =
-          let two = eqb-true low 2 (sym (or_no (eqb low 1) (eqb low 2) q) ∙ and_left (eqb low 1 || eqb low 2) (leb top severalTakers) p) in
+          let two = eqb-true low 2 (sym (or_no (eqb low 1) (eqb low 2) q) ∙ and_left (eqb low 1 || eqb low 2) (leb top several_takers) p) in
           lent_back (omega (arith, two)) (omega (arith, two)) p
       go false p b q =
           let last = sym (or_no lent free p) ∙ e in
-          let front = and_left (eqb k 0 && ltb low 2048) (eqb top noTaker) last in
-          let nine = eqb-true top noTaker (and_right (eqb k 0 && ltb low 2048) (eqb top noTaker) last) in
+          let front = and_left (eqb k 0 && ltb low 2048) (eqb top no_taker) last in
+          let nine = eqb-true top no_taker (and_right (eqb k 0 && ltb low 2048) (eqb top no_taker) last) in
           let yes = and_left (eqb k 0) (ltb low 2048) front in
           let zero = eqb-true k 0 yes in
           let less = ltb-true low 2048 (and_right (eqb k 0) (ltb low 2048) front) in
-          made (omega (arith, lower, less)) (omega (arith, zero)) (omega (arith, upper, nine)) (or-first (eqb k 0) (eqb y 0) yes)
-          (pick_yes (eqb k 0) (eqb x noTaker) (leb x severalTakers) yes ∙ eq-eqb x noTaker (omega (arith, upper, nine)))
+          made (omega (arith, lower, less)) (omega (arith, zero)) (omega (arith, upper, nine)) (or_first (eqb k 0) (eqb y 0) yes)
+          (pick_yes (eqb k 0) (eqb x no_taker) (leb x several_takers) yes ∙ eq-eqb x no_taker (omega (arith, upper, nine)))
 
 -- A sound reservation's written number.
-pub follows_test : (n from : ℕ) → ((eqb (n % 65536) from && ltb 0 (n / 65536 % 65536)) && topSound (n / 4294967296)) ≡ ((follows from (rowFrom n) && takerSound (rowFrom n)) && written n)
-unfolding rowFrom written
+pub follows_test : (n from : ℕ) → ((eqb (n % 65536) from && ltb 0 (n / 65536 % 65536)) && top_sound (n / 4294967296)) ≡ ((follows from (row_from n) && taker_sound (row_from n)) && written n)
+unfolding row_from written
 follows_test n from =
     let b = n % 65536 in
     let m = n / 65536 % 65536 in
-    ap (λ z. (eqb b from && ltb 0 m) && z) (same_test (topSound (h n)) ((held n && taken n) && fits n) (top_back n) (top-there n))
-    ∙ ap (λ z. (eqb b from && ltb 0 m) && (((leb (y n) 7 && (z || eqb (y n) 0)) && pick z (eqb (x n) noTaker) (leb (x n) severalTakers)) && fits n)) (sym (open-test (k n)))
-    ∙ group (eqb b from) (ltb 0 m) (leb (y n) 7) (isOpen (stateFrom (k n)) || eqb (y n) 0) (takerSound (rowFrom n)) (fits n)
+    ap (λ z. (eqb b from && ltb 0 m) && z) (same_test (top_sound (h n)) ((held n && taken n) && fits n) (top_back n) (top_there n))
+    ∙ ap (λ z. (eqb b from && ltb 0 m) && (((leb (y n) 7 && (z || eqb (y n) 0)) && pick z (eqb (x n) no_taker) (leb (x n) several_takers)) && fits n)) (sym (open_test (k n)))
+    ∙ group (eqb b from) (ltb 0 m) (leb (y n) 7) (is_open (state_from (k n)) || eqb (y n) 0) (taker_sound (row_from n)) (fits n)
 
-blank-zero : isBlank (rowFrom 0) && written 0 ≡ true
-unfolding rowFrom stateFrom written
-blank-zero = refl
+blank_zero : is_blank (row_from 0) && written 0 ≡ true
+unfolding row_from state_from written
+blank_zero = refl
 
-blank-code : rowCode blank ≡ 0
-unfolding rowCode
-blank-code = refl
+blank_code : row_code blank ≡ 0
+unfolding row_code
+blank_code = refl
 
 -- A number is what its row is written as, and an unused row is written as 0.
-blank-number : (n : ℕ) → isBlank (rowFrom n) && written n ≡ true → n ≡ 0
-blank-number n e =
-    sym (write-back n (and_right (isBlank (rowFrom n)) (written n) e)) ∙ ap rowCode (blank-is (rowFrom n) (and_left (isBlank (rowFrom n)) (written n) e)) ∙ blank-code
+blank_number : (n : ℕ) → is_blank (row_from n) && written n ≡ true → n ≡ 0
+blank_number n e =
+    sym (write_back n (and_right (is_blank (row_from n)) (written n) e)) ∙ ap row_code (blank_is (row_from n) (and_left (is_blank (row_from n)) (written n) e)) ∙ blank_code
 
 -- A written number reads as an unused row only if it is 0.
-pub blank-test : (n : ℕ) → (isBlank (rowFrom n) && written n) ≡ eqb n 0
-blank-test n =
-    same_test (isBlank (rowFrom n) && written n) (eqb n 0) (λ e. eq-eqb n 0 (blank-number n e))
-    (λ e. ap (λ k. isBlank (rowFrom k) && written k) (eqb-true n 0 e) ∙ blank-zero)
+pub blank_test : (n : ℕ) → (is_blank (row_from n) && written n) ≡ eqb n 0
+blank_test n =
+    same_test (is_blank (row_from n) && written n) (eqb n 0) (λ e. eq-eqb n 0 (blank_number n e))
+    (λ e. ap (λ k. is_blank (row_from k) && written k) (eqb-true n 0 e) ∙ blank_zero)
 
-pub rest-test : (l : List ℕ) → (allBlank (map rowFrom l) && allWritten l) ≡ allZero l
-unfolding allBlank allWritten allZero
-rest-test [] = refl
-rest-test (n ∷ l) =
-    cross (isBlank (rowFrom n)) (allBlank (map rowFrom l)) (written n) (allWritten l)
-    ∙ ap (λ b. b && (allBlank (map rowFrom l) && allWritten l)) (blank-test n)
-    ∙ ap (λ b. eqb n 0 && b) (rest-test l)
+pub rest_test : (l : List ℕ) → (all_blank (map row_from l) && all_written l) ≡ all_zero l
+unfolding all_blank all_written all_zero
+rest_test [] = refl
+rest_test (n ∷ l) =
+    cross (is_blank (row_from n)) (all_blank (map row_from l)) (written n) (all_written l)
+    ∙ ap (λ b. b && (all_blank (map row_from l) && all_written l)) (blank_test n)
+    ∙ ap (λ b. eqb n 0 && b) (rest_test l)
 
-all-parts : (n : ℕ) (l : List ℕ) → allWritten l ≡ (allWritten (take n l) && allWritten (drop n l))
-unfolding allWritten
-all-parts zero l = refl
-all-parts (suc n) [] = refl
-all-parts (suc n) (x ∷ l) = ap (λ b. written x && b) (all-parts n l) ∙ sym (and_assoc (written x) (allWritten (take n l)) (allWritten (drop n l)))
+all_parts : (n : ℕ) (l : List ℕ) → all_written l ≡ (all_written (take n l) && all_written (drop n l))
+unfolding all_written
+all_parts zero l = refl
+all_parts (suc n) [] = refl
+all_parts (suc n) (x ∷ l) = ap (λ b. written x && b) (all_parts n l) ∙ sym (and_assoc (written x) (all_written (take n l)) (all_written (drop n l)))
 
 -- The parts of the test together.
 pub test_parts : (cells : ℕ) (l : List ℕ) (count : ℕ)
-    → ((sized (table_of l count) && ((tiles 0 cells (live (table_of l count)) && takersSound (live (table_of l count))) && allWritten (take count l))) && (allZero (drop count l) && leb (revokings (live (table_of l count))) 1))
-    ≡ soundNumbers cells l count
-unfolding soundNumbers tableSound
+    → ((sized (table_of l count) && ((tiles 0 cells (live (table_of l count)) && takers_sound (live (table_of l count))) && all_written (take count l))) && (all_zero (drop count l) && leb (revokings (live (table_of l count))) 1))
+    ≡ sound_numbers cells l count
+unfolding sound_numbers table_sound
 test_parts cells l count =
     let t = table_of l count in
     let s = sized t in
     let a = tiles 0 cells (live t) in
-    let u = takersSound (live t) in
-    let w = allWritten (take count l) in
-    let v = allWritten (drop count l) in
+    let u = takers_sound (live t) in
+    let w = all_written (take count l) in
+    let v = all_written (drop count l) in
     let r = leb (revokings (live t)) 1 in
-    let b = allBlank (drop count (map rowFrom l)) in
-    ap (λ z. (s && ((a && u) && w)) && (z && r)) (sym (rest-test (drop count l)))
-    ∙ ap (λ m. (s && ((a && u) && w)) && ((allBlank m && v) && r)) (map-drop rowFrom count l)
+    let b = all_blank (drop count (map row_from l)) in
+    ap (λ z. (s && ((a && u) && w)) && (z && r)) (sym (rest_test (drop count l)))
+    ∙ ap (λ m. (s && ((a && u) && w)) && ((all_blank m && v) && r)) (map_drop row_from count l)
     ∙ shuffle s (a && u) w b v r
-    ∙ ap (λ z. ((s && (a && u)) && (b && r)) && z) (sym (all-parts count l))
-    ∙ ap (λ z. z && allWritten l) (aside s a u (b && r))
+    ∙ ap (λ z. ((s && (a && u)) && (b && r)) && z) (sym (all_parts count l))
+    ∙ ap (λ z. z && all_written l) (aside s a u (b && r))

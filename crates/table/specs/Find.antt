@@ -5,7 +5,7 @@ use Rattle.table.specs.declared.Reservation.{Reservation}
 use Rattle.table.specs.Table.{Table}
 use Rattle.table.specs.declared.Found.{Found}
 use Rattle.table.specs.declared.Found.TheVariants.{At, Nowhere}
-use Rattle.table.specs.Rows.{isRevoking, held, blank, live, table}
+use Rattle.table.specs.Rows.{is_revoking, held, blank, live, table}
 
 abbrev pub missing : Found → Bool
 missing (At i) = false
@@ -21,8 +21,8 @@ abbrev pub begins : ℕ → ℕ → Reservation → Bool
 begins party base r = eqb r.base base && held r party
 
 -- The reservation of which 01 to 05 speak: "held by the caller", it "begins at base".
-unfoldable pub findOf : Table → ℕ → ℕ → Found
-findOf t party base = seek (begins party base) 0 (live t)
+unfoldable pub find_of : Table → ℕ → ℕ → Found
+find_of t party base = seek (begins party base) 0 (live t)
 
 -- The next one above.
 unfoldable pub next_of : Table → Found → Found
@@ -30,13 +30,13 @@ next_of t (At i) = pick (ltb (i + 1) (length (live t))) (At (i + 1)) Nowhere
 next_of t Nowhere = Nowhere
 
 -- The Revoking one: "A revocation runs if and only if one reservation .. is Revoking."
-unfoldable pub revokingOf : Table → Found
-revokingOf t = seek (λ r. isRevoking r.state) 0 (live t)
+unfoldable pub revoking_of : Table → Found
+revoking_of t = seek (λ r. is_revoking r.state) 0 (live t)
 
 -- What stands in a row; where there is none, what stands in an unused one.
-unfoldable pub rowOf : Table → Found → Reservation
-rowOf t (At i) = get_or t.rows i blank
-rowOf t Nowhere = blank
+unfoldable pub row_of : Table → Found → Reservation
+row_of t (At i) = get_or t.rows i blank
+row_of t Nowhere = blank
 
 -- The table with one row put in place of the old one.
 unfoldable pub with_row : Table → Found → Reservation → Table

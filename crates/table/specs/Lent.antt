@@ -7,10 +7,10 @@ use Rattle.table.specs.Table.{Taken as Took}
 use Rattle.table.specs.declared.Found.{Found}
 use Rattle.table.specs.declared.Found.TheVariants.{At, Nowhere}
 use Rattle.capabilities.specs.Refusals.{reason, first}
-use Rattle.table.specs.Rows.{isOpen, held, splice}
+use Rattle.table.specs.Rows.{is_open, held, splice}
 use Rattle.table.specs.Find.{missing}
-use Rattle.table.specs.Operations.{badSplit, alike}
-use Rattle.table.specs.Numbers.{table_of, allWritten}
+use Rattle.table.specs.Operations.{bad_split, alike}
+use Rattle.table.specs.Numbers.{table_of, all_written}
 
 -- One entry put in place of the old one; where there is none, as it was.
 unfoldable pub put_at : {A : Type 0} → List A → Found → A → List A
@@ -18,9 +18,9 @@ put_at l (At i) x = set l i x
 put_at l Nowhere x = l
 
 -- The number of a row; 0 where there is none.
-unfoldable pub placeOf : Found → ℕ
-placeOf (At i) = i
-placeOf Nowhere = 0
+unfoldable pub place_of : Found → ℕ
+place_of (At i) = i
+place_of Nowhere = 0
 
 -- Of the first n entries those from the i-th on stand one higher; the i-th stands in its old place besides.
 unfoldable pub raised : {A : Type 0} → List A → ℕ → ℕ → List A
@@ -31,20 +31,20 @@ unfoldable pub lowered : {A : Type 0} → List A → ℕ → ℕ → List A
 lowered l i last = take i l ++ (drop (suc i) (take (suc last) l) ++ drop last l)
 
 -- Of the n entries in use, the i-th becomes two, and those above it move up.
-unfoldable pub spreadAt : {A : Type 0} → List A → ℕ → ℕ → A → A → List A
-spreadAt l n i lower upper = splice i 1 (lower ∷ upper ∷ []) (take n l) ++ drop (n + 1) l
+unfoldable pub spread_at : {A : Type 0} → List A → ℕ → ℕ → A → A → List A
+spread_at l n i lower upper = splice i 1 (lower ∷ upper ∷ []) (take n l) ++ drop (n + 1) l
 
 -- Of the n entries in use, the i-th and the next one become one, those above move down, and `none` stands in the last one's place.
-unfoldable pub gatherAt : {A : Type 0} → List A → ℕ → ℕ → A → A → List A
-gatherAt l n i joined none = splice i 2 (joined ∷ []) (take n l) ++ (none ∷ drop n l)
+unfoldable pub gather_at : {A : Type 0} → List A → ℕ → ℕ → A → A → List A
+gather_at l n i joined none = splice i 2 (joined ∷ []) (take n l) ++ (none ∷ drop n l)
 
 -- A lent slice of 64 numbers is judged by the rule; of another, the call answers 1 and the table stays.
 abbrev pub fitting : List ℕ → ℕ → Tabled → Tabled
 fitting l count rule = pick (eqb (length l) 64) rule (record { code = 1; table = table_of l count })
 
 -- What take answers, without the length.
-abbrev pub tabledOf : Took → Tabled
-tabledOf a = record { code = a.code; table = a.table }
+abbrev pub tabled_of : Took → Tabled
+tabled_of a = record { code = a.code; table = a.table }
 
 -- What a call on the numbers l leaves, read as a table: its answer is the rule's, and the numbers m read as the rule's table. A refusal
 -- keeps every number, and written numbers stay written. It follows from what Numbered.antt says of each call.
@@ -52,13 +52,13 @@ pub record Leaves (l m : List ℕ) (code count : ℕ) (rule : Tabled) : Type 0 w
   pub answers : code ≡ rule.code
   pub reads : table_of m count ≡ rule.table
   pub keeps : (code ≡ 0 → ⊥) → m ≡ l
-  pub sound : allWritten l ≡ true → allWritten m ≡ true
+  pub sound : all_written l ≡ true → all_written m ≡ true
 
 -- The reasons against a split and a merge, of rows that were read.
-abbrev pub splitCode : Found → Reservation → ℕ → ℕ → ℕ
-splitCode f r len count =
-    first (reason 6 (missing f) ∷ reason 7 (not (isOpen r.state)) ∷ reason 8 (badSplit r len) ∷ reason 9 (leb 64 count) ∷ [])
+abbrev pub split_code : Found → Reservation → ℕ → ℕ → ℕ
+split_code f r len count =
+    first (reason 6 (missing f) ∷ reason 7 (not (is_open r.state)) ∷ reason 8 (bad_split r len) ∷ reason 9 (leb 64 count) ∷ [])
 
-abbrev pub mergeCode : Found → Found → Reservation → Reservation → ℕ → ℕ
-mergeCode f g r s party =
+abbrev pub merge_code : Found → Found → Reservation → Reservation → ℕ → ℕ
+merge_code f g r s party =
     first (reason 6 (missing f) ∷ reason 7 (not (not (missing g) && (held s party && alike r.state s.state))) ∷ [])

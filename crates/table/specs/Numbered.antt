@@ -6,59 +6,59 @@ use Rattle.table.specs.declared.Moved.{Moved}
 use Rattle.table.specs.declared.TakeAnswer.{TakeAnswer}
 use Rattle.table.specs.Table.{Tabled}
 use Rattle.table.specs.Rows.{live}
-use Rattle.table.specs.Find.{findOf, next_of, rowOf}
-use Rattle.table.specs.Operations.{take_of, takenRow, giveOf, givenRow, splitOf, lowerPart, upperPart, mergeOf, joined}
-use Rattle.table.specs.Numbers.{rowCode, table_of}
-use Rattle.table.specs.Lent.{put_at, placeOf, spreadAt, gatherAt, fitting}
-use Rattle.table.specs.Writes.{splitWrites, mergeWrites}
+use Rattle.table.specs.Find.{find_of, next_of, row_of}
+use Rattle.table.specs.Operations.{take_of, taken_row, give_of, given_row, split_of, lower_part, upper_part, merge_of, joined}
+use Rattle.table.specs.Numbers.{row_code, table_of}
+use Rattle.table.specs.Lent.{put_at, place_of, spread_at, gather_at, fitting}
+use Rattle.table.specs.Writes.{split_writes, merge_writes}
 
 -- 01.
-abbrev pub takeAnswer : List ℕ → ℕ → ℕ → ℕ → TakeAnswer
-takeAnswer l count party base = record { code = (take_of (table_of l count) party base).code; length = (take_of (table_of l count) party base).length }
+abbrev pub take_answer : List ℕ → ℕ → ℕ → ℕ → TakeAnswer
+take_answer l count party base = record { code = (take_of (table_of l count) party base).code; length = (take_of (table_of l count) party base).length }
 
-unfoldable pub takenIn : List ℕ → ℕ → ℕ → ℕ → List ℕ
-takenIn l count party base =
+unfoldable pub taken_in : List ℕ → ℕ → ℕ → ℕ → List ℕ
+taken_in l count party base =
     let t = table_of l count in
-    let f = findOf t party base in
-    pick (eqb (take_of t party base).code 0) (put_at l f (rowCode (takenRow (rowOf t f) party))) l
+    let f = find_of t party base in
+    pick (eqb (take_of t party base).code 0) (put_at l f (row_code (taken_row (row_of t f) party))) l
 
 -- 04, whose answer is the rule's code.
-unfoldable pub givenIn : List ℕ → ℕ → ℕ → ℕ → ℕ → List ℕ
-givenIn l count party base to =
+unfoldable pub given_in : List ℕ → ℕ → ℕ → ℕ → ℕ → List ℕ
+given_in l count party base to =
     let t = table_of l count in
-    let f = findOf t party base in
-    pick (eqb (giveOf t party base to).code 0) (put_at l f (rowCode (givenRow (rowOf t f) to))) l
+    let f = find_of t party base in
+    pick (eqb (give_of t party base to).code 0) (put_at l f (row_code (given_row (row_of t f) to))) l
 
 -- 02.
-abbrev pub splitRule : List ℕ → ℕ → ℕ → ℕ → ℕ → Tabled
-splitRule l count party base len = fitting l count (splitOf (table_of l count) party base len)
+abbrev pub split_rule : List ℕ → ℕ → ℕ → ℕ → ℕ → Tabled
+split_rule l count party base len = fitting l count (split_of (table_of l count) party base len)
 
-abbrev pub splitAnswer : List ℕ → ℕ → ℕ → ℕ → ℕ → Moved
-splitAnswer l count party base len =
-    let rule = splitRule l count party base len in
-    record { code = rule.code; count = rule.table.count; writes = splitWrites (table_of l count) party base rule.code }
+abbrev pub split_answer : List ℕ → ℕ → ℕ → ℕ → ℕ → Moved
+split_answer l count party base len =
+    let rule = split_rule l count party base len in
+    record { code = rule.code; count = rule.table.count; writes = split_writes (table_of l count) party base rule.code }
 
-unfoldable pub splitIn : List ℕ → ℕ → ℕ → ℕ → ℕ → List ℕ
-splitIn l count party base len =
+unfoldable pub split_in : List ℕ → ℕ → ℕ → ℕ → ℕ → List ℕ
+split_in l count party base len =
     let t = table_of l count in
-    let f = findOf t party base in
-    pick (eqb (splitRule l count party base len).code 0)
-    (spreadAt l count (placeOf f) (rowCode (lowerPart (rowOf t f) len)) (rowCode (upperPart (rowOf t f) len)))
+    let f = find_of t party base in
+    pick (eqb (split_rule l count party base len).code 0)
+    (spread_at l count (place_of f) (row_code (lower_part (row_of t f) len)) (row_code (upper_part (row_of t f) len)))
     l
 
 -- 03: a count above the number of rows means all of them.
-abbrev pub mergeRule : List ℕ → ℕ → ℕ → ℕ → Tabled
-mergeRule l count party base = fitting l count (mergeOf (table_of l count) party base)
+abbrev pub merge_rule : List ℕ → ℕ → ℕ → ℕ → Tabled
+merge_rule l count party base = fitting l count (merge_of (table_of l count) party base)
 
-abbrev pub mergeAnswer : List ℕ → ℕ → ℕ → ℕ → Moved
-mergeAnswer l count party base =
-    let rule = mergeRule l count party base in
-    record { code = rule.code; count = rule.table.count; writes = mergeWrites (table_of l count) party base rule.code }
+abbrev pub merge_answer : List ℕ → ℕ → ℕ → ℕ → Moved
+merge_answer l count party base =
+    let rule = merge_rule l count party base in
+    record { code = rule.code; count = rule.table.count; writes = merge_writes (table_of l count) party base rule.code }
 
-unfoldable pub mergedIn : List ℕ → ℕ → ℕ → ℕ → List ℕ
-mergedIn l count party base =
+unfoldable pub merged_in : List ℕ → ℕ → ℕ → ℕ → List ℕ
+merged_in l count party base =
     let t = table_of l count in
-    let f = findOf t party base in
-    pick (eqb (mergeRule l count party base).code 0)
-    (gatherAt l (length (live t)) (placeOf f) (rowCode (joined (rowOf t f) (rowOf t (next_of t f)))) 0)
+    let f = find_of t party base in
+    pick (eqb (merge_rule l count party base).code 0)
+    (gather_at l (length (live t)) (place_of f) (row_code (joined (row_of t f) (row_of t (next_of t f)))) 0)
     l

@@ -6,34 +6,34 @@ use Rattle.table.specs.declared.ReservationState.{ReservationState}
 use Rattle.table.specs.declared.ReservationState.TheVariants.{Open, Taken, Revoking}
 use Rattle.table.specs.declared.Reservation.{Reservation}
 use Rattle.table.specs.Table.{Table}
-use Rattle.table.specs.Rows.{stateNumber, reservation, table}
+use Rattle.table.specs.Rows.{state_number, reservation, table}
 
 -- Every number reads as a state; only 0, 1 and 2 are written.
-unfoldable pub stateFrom : ℕ → ReservationState
-stateFrom k = pick (eqb k 0) Open (pick (eqb k 1) Taken Revoking)
+unfoldable pub state_from : ℕ → ReservationState
+state_from k = pick (eqb k 0) Open (pick (eqb k 1) Taken Revoking)
 
 -- The reservation that a number reads as.
-unfoldable pub rowFrom : ℕ → Reservation
-rowFrom n =
-    reservation (n % 65536) (n / 65536 % 65536) (stateFrom (n / 4294967296 % 256)) (n / 1099511627776 % 256) (n / 281474976710656 % 256)
+unfoldable pub row_from : ℕ → Reservation
+row_from n =
+    reservation (n % 65536) (n / 65536 % 65536) (state_from (n / 4294967296 % 256)) (n / 1099511627776 % 256) (n / 281474976710656 % 256)
 
 -- The number that a reservation is written as.
-unfoldable pub rowCode : Reservation → ℕ
-rowCode r =
-    r.base + 65536 * r.length + 4294967296 * stateNumber r.state + 1099511627776 * r.holder + 281474976710656 * r.taker
+unfoldable pub row_code : Reservation → ℕ
+row_code r =
+    r.base + 65536 * r.length + 4294967296 * state_number r.state + 1099511627776 * r.holder + 281474976710656 * r.taker
 
 -- The number is one that a reservation is written as: its state is one of the three, and the bits above the taker are 0.
 unfoldable pub written : ℕ → Bool
 written n = leb (n / 4294967296 % 256) 2 && ltb n 72057594037927936
 
-unfoldable pub allWritten : List ℕ → Bool
-allWritten [] = true
-allWritten (n ∷ l) = written n && allWritten l
+unfoldable pub all_written : List ℕ → Bool
+all_written [] = true
+all_written (n ∷ l) = written n && all_written l
 
 -- The table that numbers and a count read as.
 abbrev pub table_of : List ℕ → ℕ → Table
-table_of l count = table (map rowFrom l) count
+table_of l count = table (map row_from l) count
 
 -- The numbers that a table's rows are written as.
-abbrev pub numbersOf : Table → List ℕ
-numbersOf t = map rowCode t.rows
+abbrev pub numbers_of : Table → List ℕ
+numbers_of t = map row_code t.rows

@@ -7,33 +7,33 @@ use Rattle.table.specs.declared.Reservation.{Reservation}
 use Rattle.table.specs.Table.{Table}
 
 -- "State (0 Open, 1 Taken, 2 Revoking)".
-abbrev pub stateNumber : ReservationState → ℕ
-stateNumber Open = 0
-stateNumber Taken = 1
-stateNumber Revoking = 2
+abbrev pub state_number : ReservationState → ℕ
+state_number Open = 0
+state_number Taken = 1
+state_number Revoking = 2
 
-abbrev pub isOpen : ReservationState → Bool
-isOpen Open = true
-isOpen Taken = false
-isOpen Revoking = false
+abbrev pub is_open : ReservationState → Bool
+is_open Open = true
+is_open Taken = false
+is_open Revoking = false
 
 abbrev pub is_taken : ReservationState → Bool
 is_taken Open = false
 is_taken Taken = true
 is_taken Revoking = false
 
-abbrev pub isRevoking : ReservationState → Bool
-isRevoking Open = false
-isRevoking Taken = false
-isRevoking Revoking = true
+abbrev pub is_revoking : ReservationState → Bool
+is_revoking Open = false
+is_revoking Taken = false
+is_revoking Revoking = true
 
 -- Document 02, 2026-04: "Each reservation's record gets a taker: 9 when Open, the party when Taken or Revoking, 8 where a merge joined
 -- Taken ones of different takers."
-abbrev pub noTaker : ℕ
-noTaker = 9
+abbrev pub no_taker : ℕ
+no_taker = 9
 
-abbrev pub severalTakers : ℕ
-severalTakers = 8
+abbrev pub several_takers : ℕ
+several_takers = 8
 
 abbrev pub reservation : ℕ → ℕ → ReservationState → ℕ → ℕ → Reservation
 reservation base length state holder taker = record { base = base; length = length; state = state; holder = holder; taker = taker }
@@ -42,8 +42,8 @@ reservation base length state holder taker = record { base = base; length = leng
 abbrev pub blank : Reservation
 blank = reservation 0 0 Open 0 0
 
-abbrev pub isBlank : Reservation → Bool
-isBlank r = ((isOpen r.state && eqb r.holder 0) && (eqb r.base 0 && eqb r.length 0)) && eqb r.taker 0
+abbrev pub is_blank : Reservation → Bool
+is_blank r = ((is_open r.state && eqb r.holder 0) && (eqb r.base 0 && eqb r.length 0)) && eqb r.taker 0
 
 -- A party holds a reservation.
 abbrev pub held : Reservation → ℕ → Bool
@@ -57,11 +57,11 @@ abbrev pub table : List Reservation → ℕ → Table
 table rows count = record { rows = rows; count = count }
 
 -- A reservation and a table without takers.
-abbrev pub forgetRow : Reservation → Reservation
-forgetRow r = reservation r.base r.length r.state r.holder 0
+abbrev pub forget_row : Reservation → Reservation
+forget_row r = reservation r.base r.length r.state r.holder 0
 
-abbrev pub forgetTable : Table → Table
-forgetTable t = table (map forgetRow t.rows) t.count
+abbrev pub forget_table : Table → Table
+forget_table t = table (map forget_row t.rows) t.count
 
 -- The table's reservations; the rows above are unused.
 unfoldable pub live : Table → List Reservation

@@ -7,8 +7,8 @@ use Rattle.table.specs.Rows.{live}
 use Rattle.table.specs.Find.{seek}
 
 -- A search for the first row that passes a test, from the i-th row in use on.
-abbrev pub seekFrom : (Reservation → Bool) → Table → ℕ → Found
-seekFrom P t i = seek P i (drop i (live t))
+abbrev pub seek_from : (Reservation → Bool) → Table → ℕ → Found
+seek_from P t i = seek P i (drop i (live t))
 
 -- One of four passes a test.
 abbrev pub any_of : (Reservation → Bool) → Reservation → Reservation → Reservation → Reservation → Bool

@@ -6,15 +6,15 @@ use Rattle.capabilities.specs.Range.{inside}
 use Rattle.table.specs.declared.Reservation.{Reservation}
 use Rattle.table.specs.declared.ReservationState.TheVariants.{Open}
 use Rattle.table.specs.Table.{Table}
-use Rattle.table.specs.Rows.{isOpen, isRevoking, isBlank, noTaker, severalTakers, blank, reservation, range_of, live, table}
+use Rattle.table.specs.Rows.{is_open, is_revoking, is_blank, no_taker, several_takers, blank, reservation, range_of, live, table}
 
 -- "Each has .. length (at least 1) .. Taken and Revoking have holder 0"; a holder is a party, 0 to 7.
-abbrev pub rowSound : Reservation → Bool
-rowSound r = (ltb 0 r.length && leb r.holder 7) && (isOpen r.state || eqb r.holder 0)
+abbrev pub row_sound : Reservation → Bool
+row_sound r = (ltb 0 r.length && leb r.holder 7) && (is_open r.state || eqb r.holder 0)
 
 -- A sound reservation that begins at a cell.
 abbrev pub follows : ℕ → Reservation → Bool
-follows from r = eqb r.base from && rowSound r
+follows from r = eqb r.base from && row_sound r
 
 -- Sound reservations, one after the other, cover the cells from one up to another.
 unfoldable pub tiles : ℕ → ℕ → List Reservation → Bool
@@ -22,13 +22,13 @@ tiles from upto [] = eqb from upto
 tiles from upto (r ∷ l) = follows from r && tiles (from + r.length) upto l
 
 -- "All unused entries are 0."
-unfoldable pub allBlank : List Reservation → Bool
-allBlank [] = true
-allBlank (r ∷ l) = isBlank r && allBlank l
+unfoldable pub all_blank : List Reservation → Bool
+all_blank [] = true
+all_blank (r ∷ l) = is_blank r && all_blank l
 
 -- How many are Revoking.
 abbrev pub weight : Reservation → ℕ
-weight r = pick (isRevoking r.state) 1 0
+weight r = pick (is_revoking r.state) 1 0
 
 unfoldable pub revokings : List Reservation → ℕ
 revokings [] = 0
@@ -39,22 +39,22 @@ unfoldable pub sized : Table → Bool
 sized t = eqb (length t.rows) 64 && (ltb 0 t.count && leb t.count 64)
 
 -- The table's part of "A state is well formed"; "one reservation, never more, is Revoking".
-unfoldable pub tableSound : ℕ → Table → Bool
-tableSound cells t =
-    (sized t && tiles 0 cells (live t)) && (allBlank (drop t.count t.rows) && leb (revokings (live t)) 1)
+unfoldable pub table_sound : ℕ → Table → Bool
+table_sound cells t =
+    (sized t && tiles 0 cells (live t)) && (all_blank (drop t.count t.rows) && leb (revokings (live t)) 1)
 
 -- Document 02, 2026-04: "A state is not well formed if an Open one's taker isn't 9 or a Taken or Revoking one's is above 8."
-abbrev pub takerSound : Reservation → Bool
-takerSound r = pick (isOpen r.state) (eqb r.taker noTaker) (leb r.taker severalTakers)
+abbrev pub taker_sound : Reservation → Bool
+taker_sound r = pick (is_open r.state) (eqb r.taker no_taker) (leb r.taker several_takers)
 
-unfoldable pub takersSound : List Reservation → Bool
-takersSound [] = true
-takersSound (r ∷ l) = takerSound r && takersSound l
+unfoldable pub takers_sound : List Reservation → Bool
+takers_sound [] = true
+takers_sound (r ∷ l) = taker_sound r && takers_sound l
 
 -- "A fresh start .. has one Open reservation held by party 0"; with no cells all is 0.
-unfoldable pub freshTable : ℕ → Table
-freshTable cells =
-    pick (eqb cells 0) (table (replicate 64 blank) 0) (table (reservation 0 cells Open 0 noTaker ∷ replicate 63 blank) 1)
+unfoldable pub fresh_table : ℕ → Table
+fresh_table cells =
+    pick (eqb cells 0) (table (replicate 64 blank) 0) (table (reservation 0 cells Open 0 no_taker ∷ replicate 63 blank) 1)
 
 -- A cell belongs to a reservation of the table.
 unfoldable pub covered : List Reservation → ℕ → Bool

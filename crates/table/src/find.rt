@@ -1,10 +1,10 @@
 // Which row is meant, and what stands there, in a lent array of numbers.
 ghost use Rattle.std.specs.Prelude.{◌≡◌, map, length, get_or};
 ghost use Rattle.table.specs.Rows.{live};
-ghost use Rattle.table.specs.Find.{begins, findOf, next_of, revokingOf, rowOf};
-ghost use Rattle.table.specs.Searching.{seekFrom};
-ghost use Rattle.table.specs.Numbers.{rowFrom, rowCode, table_of};
-ghost use Rattle.table.specs.Lent.{put_at, placeOf};
+ghost use Rattle.table.specs.Find.{begins, find_of, next_of, revoking_of, row_of};
+ghost use Rattle.table.specs.Searching.{seek_from};
+ghost use Rattle.table.specs.Numbers.{row_from, row_code, table_of};
+ghost use Rattle.table.specs.Lent.{put_at, place_of};
 
 use crate::number::{any_begins, begins_at, number_of, revoking_at, row_of};
 use crate::{Found, Reservation};
@@ -29,7 +29,7 @@ pub fn number_in(rows: &[u64], at: usize) -> u64
 
 // For speed, four rows at a time: a row from which on the search finds what it finds from the first one.
 fn skip(rows: &[u64], count: usize, party: u8, base: u16) -> usize
-    ensures { findOf (table_of rows.now count) party base ≡ seekFrom (begins party base) (table_of rows.now count) result }
+    ensures { find_of (table_of rows.now count) party base ≡ seek_from (begins party base) (table_of rows.now count) result }
 {
     let n = used(rows, count);
     let mut i: usize = 0;
@@ -44,7 +44,7 @@ fn skip(rows: &[u64], count: usize, party: u8, base: u16) -> usize
 
 // The reservation that begins at `base` and is held by the party.
 pub fn find(rows: &[u64], count: usize, party: u8, base: u16) -> Found
-    ensures { result ≡ findOf (table_of rows.now count) party base }
+    ensures { result ≡ find_of (table_of rows.now count) party base }
 {
     let n = used(rows, count);
     let mut i = skip(rows, count, party, base);
@@ -59,7 +59,7 @@ pub fn find(rows: &[u64], count: usize, party: u8, base: u16) -> Found
 
 // The Revoking reservation, if one is.
 pub fn revoking(rows: &[u64], count: usize) -> Found
-    ensures { result ≡ revokingOf (table_of rows.now count) }
+    ensures { result ≡ revoking_of (table_of rows.now count) }
 {
     let n = used(rows, count);
     let mut i: usize = 0;
@@ -92,7 +92,7 @@ pub fn next(rows: &[u64], count: usize, found: Found) -> Found
 
 // What stands in a row; an unused one's content where there is none.
 pub fn row_in(rows: &[u64], count: usize, found: Found) -> Reservation
-    ensures { result ≡ rowOf (table_of rows.now count) found }
+    ensures { result ≡ row_of (table_of rows.now count) found }
 {
     match found {
         Found::At(i) => row_of(number_in(rows, i)),
@@ -102,7 +102,7 @@ pub fn row_in(rows: &[u64], count: usize, found: Found) -> Reservation
 
 // One row put in place of the old one; where there is none, nothing is written.
 pub fn put_row(rows: &mut [u64], found: Found, row: Reservation)
-    ensures { rows.new ≡ put_at rows.old found (rowCode row) }
+    ensures { rows.new ≡ put_at rows.old found (row_code row) }
 {
     let number = number_of(row);
     match found {
@@ -116,7 +116,7 @@ pub fn put_row(rows: &mut [u64], found: Found, row: Reservation)
 }
 
 pub fn place_of(found: Found) -> usize
-    ensures { result ≡ placeOf found }
+    ensures { result ≡ place_of found }
 {
     match found {
         Found::At(i) => i,

@@ -1,14 +1,14 @@
 // One reservation as a number.
 ghost use Rattle.std.specs.Prelude.{◌≡◌};
-ghost use Rattle.table.specs.Rows.{stateNumber, isRevoking};
+ghost use Rattle.table.specs.Rows.{state_number, is_revoking};
 ghost use Rattle.table.specs.Find.{begins};
 ghost use Rattle.table.specs.Searching.{any_of};
-ghost use Rattle.table.specs.Numbers.{stateFrom, rowFrom, rowCode, written};
+ghost use Rattle.table.specs.Numbers.{state_from, row_from, row_code, written};
 
 use crate::{Reservation, ReservationState};
 
 fn state_of(number: u64) -> ReservationState
-    ensures { result ≡ stateFrom number }
+    ensures { result ≡ state_from number }
 {
     if number == 0 {
         return ReservationState::Open;
@@ -20,7 +20,7 @@ fn state_of(number: u64) -> ReservationState
 }
 
 fn state_number(state: ReservationState) -> u64
-    ensures { result ≡ stateNumber state }
+    ensures { result ≡ state_number state }
 {
     match state {
         ReservationState::Open => 0,
@@ -31,7 +31,7 @@ fn state_number(state: ReservationState) -> u64
 
 // The reservation that a number reads as.
 pub fn row_of(number: u64) -> Reservation
-    ensures { result ≡ rowFrom number }
+    ensures { result ≡ row_from number }
 {
     let state = state_of(number / 4294967296 % 256);
     Reservation {
@@ -45,7 +45,7 @@ pub fn row_of(number: u64) -> Reservation
 
 // The number that a reservation is written as.
 pub fn number_of(row: Reservation) -> u64
-    ensures { result ≡ rowCode row }
+    ensures { result ≡ row_code row }
 {
     let state = row.state;
     let range = row.base as u64 + 65536 * (row.length as u64);
@@ -61,14 +61,14 @@ pub fn is_written(number: u64) -> bool
 
 // The reservation begins at `base` and is held by the party: its bits 0 to 15 and 40 to 47, both at once.
 pub fn begins_at(number: u64, party: u8, base: u16) -> bool
-    ensures { result ≡ begins party base (rowFrom number) }
+    ensures { result ≡ begins party base (row_from number) }
 {
     number & 280375465148415 == base as u64 + 1099511627776 * (party as u64)
 }
 
 // One of four begins so.
 pub fn any_begins(a: u64, b: u64, c: u64, d: u64, party: u8, base: u16) -> bool
-    ensures { result ≡ any_of (begins party base) (rowFrom a) (rowFrom b) (rowFrom c) (rowFrom d) }
+    ensures { result ≡ any_of (begins party base) (row_from a) (row_from b) (row_from c) (row_from d) }
 {
     begins_at(a, party, base)
         | begins_at(b, party, base)
@@ -77,7 +77,7 @@ pub fn any_begins(a: u64, b: u64, c: u64, d: u64, party: u8, base: u16) -> bool
 }
 
 pub fn revoking_at(number: u64) -> bool
-    ensures { result ≡ isRevoking (rowFrom number).state }
+    ensures { result ≡ is_revoking (row_from number).state }
 {
     1 < number / 4294967296 % 256
 }

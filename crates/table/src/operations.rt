@@ -1,8 +1,8 @@
 // Take and give, in place. Each judges its refusals first; a refused one writes nothing.
 ghost use Rattle.std.specs.Prelude.{◌≡◌};
-ghost use Rattle.table.specs.Operations.{giveOf};
+ghost use Rattle.table.specs.Operations.{give_of};
 ghost use Rattle.table.specs.Numbers.{table_of};
-ghost use Rattle.table.specs.Numbered.{takeAnswer, takenIn, givenIn};
+ghost use Rattle.table.specs.Numbered.{take_answer, taken_in, given_in};
 
 use crate::TakeAnswer;
 use crate::find::{find, put_row, row_in};
@@ -10,8 +10,8 @@ use crate::parts::{given_row, open_code, taken_row};
 
 // Open becomes Taken with holder 0, by the party; the length is answered.
 pub fn take(rows: &mut [u64], count: usize, party: u8, base: u16) -> TakeAnswer
-    ensures value { result ≡ takeAnswer rows.old count party base }
-    ensures rows_after { rows.new ≡ takenIn rows.old count party base }
+    ensures value { result ≡ take_answer rows.old count party base }
+    ensures rows_after { rows.new ≡ taken_in rows.old count party base }
 {
     let found = find(&rows[..], count, party, base);
     let row = row_in(&rows[..], count, found);
@@ -28,8 +28,8 @@ pub fn take(rows: &mut [u64], count: usize, party: u8, base: u16) -> TakeAnswer
 
 // The holder becomes `to`.
 pub fn give(rows: &mut [u64], count: usize, party: u8, base: u16, to: u8) -> u8
-    ensures value { result ≡ (giveOf (table_of rows.old count) party base to).code }
-    ensures rows_after { rows.new ≡ givenIn rows.old count party base to }
+    ensures value { result ≡ (give_of (table_of rows.old count) party base to).code }
+    ensures rows_after { rows.new ≡ given_in rows.old count party base to }
 {
     let found = find(&rows[..], count, party, base);
     let row = row_in(&rows[..], count, found);

@@ -1,13 +1,13 @@
 // What one reservation says, one question a function.
 ghost use Rattle.std.specs.Prelude.{◌≡◌};
-ghost use Rattle.table.specs.Rows.{isOpen, is_taken, isRevoking, held};
+ghost use Rattle.table.specs.Rows.{is_open, is_taken, is_revoking, held};
 ghost use Rattle.table.specs.Find.{missing};
 ghost use Rattle.table.specs.Operations.{alike};
 
 use crate::{Found, Reservation, ReservationState};
 
 pub fn is_open(state: ReservationState) -> bool
-    ensures { result ≡ isOpen state }
+    ensures { result ≡ is_open state }
 {
     match state {
         ReservationState::Open => true,
@@ -27,7 +27,7 @@ pub fn is_taken(state: ReservationState) -> bool
 }
 
 pub fn is_revoking(state: ReservationState) -> bool
-    ensures { result ≡ isRevoking state }
+    ensures { result ≡ is_revoking state }
 {
     match state {
         ReservationState::Open => false,

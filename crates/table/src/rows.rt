@@ -1,8 +1,8 @@
 // Split and merge, which move rows within the table: each row is written once, in place, and the writes are counted.
 ghost use Rattle.std.specs.Prelude.{◌≡◌, ◌+◌, ◌-◌, ◌<◌, ◌≤◌, length, set};
-ghost use Rattle.table.specs.Operations.{upperPart};
-ghost use Rattle.table.specs.Lent.{raised, lowered, spreadAt, gatherAt};
-ghost use Rattle.table.specs.Numbered.{splitAnswer, splitIn, mergeAnswer, mergedIn};
+ghost use Rattle.table.specs.Operations.{upper_part};
+ghost use Rattle.table.specs.Lent.{raised, lowered, spread_at, gather_at};
+ghost use Rattle.table.specs.Numbered.{split_answer, split_in, merge_answer, merged_in};
 
 use crate::find::{find, next, place_of, row_in, used};
 use crate::number::number_of;
@@ -11,7 +11,7 @@ use crate::{Moved, Reservation, ReservationState};
 
 fn upper_part(row: Reservation, len: u16) -> Reservation
     requires { len ≤ row.length }
-    ensures { result ≡ upperPart row len }
+    ensures { result ≡ upper_part row len }
 {
     let base = (row.base as u32 + len as u32) % 65536;
     Reservation {
@@ -65,7 +65,7 @@ fn move_down(rows: &mut [u64], from: usize, last: usize) -> usize
 // One row more: of n rows those above row i move up, and the two parts stand at i and i + 1.
 fn spread(rows: &mut [u64], n: usize, i: usize, lower: u64, upper: u64) -> usize
     requires { (i < n) × (n < length rows.old) }
-    ensures { (rows.new ≡ spreadAt rows.old n i lower upper) × (result ≡ n - i + 1) }
+    ensures { (rows.new ≡ spread_at rows.old n i lower upper) × (result ≡ n - i + 1) }
 {
     let mut writes = move_up(rows, i + 1, n);
     writes = write_row(rows, i + 1, upper, writes);
@@ -76,7 +76,7 @@ fn spread(rows: &mut [u64], n: usize, i: usize, lower: u64, upper: u64) -> usize
 // One row less: of n rows those above i + 1 move down, the last one's is unused, and the joined one stands at i.
 fn gather(rows: &mut [u64], n: usize, i: usize, joined: u64) -> usize
     requires { (i + 1 < n) × (n ≤ length rows.old) }
-    ensures { (rows.new ≡ gatherAt rows.old n i joined 0) × (result ≡ n - i) }
+    ensures { (rows.new ≡ gather_at rows.old n i joined 0) × (result ≡ n - i) }
 {
     let last = n - 1;
     let mut writes = move_down(rows, i + 1, last);
@@ -87,8 +87,8 @@ fn gather(rows: &mut [u64], n: usize, i: usize, joined: u64) -> usize
 
 // One Open reservation becomes two, the lower of `len` cells.
 pub fn split(rows: &mut [u64], count: usize, party: u8, base: u16, len: u16) -> Moved
-    ensures value { result ≡ splitAnswer rows.old count party base len }
-    ensures rows_after { rows.new ≡ splitIn rows.old count party base len }
+    ensures value { result ≡ split_answer rows.old count party base len }
+    ensures rows_after { rows.new ≡ split_in rows.old count party base len }
 {
     if rows.len() != 64 {
         return Moved {
@@ -119,8 +119,8 @@ pub fn split(rows: &mut [u64], count: usize, party: u8, base: u16, len: u16) -> 
 
 // The reservation and the next one above become one.
 pub fn merge(rows: &mut [u64], count: usize, party: u8, base: u16) -> Moved
-    ensures value { result ≡ mergeAnswer rows.old count party base }
-    ensures rows_after { rows.new ≡ mergedIn rows.old count party base }
+    ensures value { result ≡ merge_answer rows.old count party base }
+    ensures rows_after { rows.new ≡ merged_in rows.old count party base }
 {
     if rows.len() != 64 {
         return Moved {

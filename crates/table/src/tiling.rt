@@ -1,9 +1,9 @@
 // Whether lent numbers are a well-formed table.
 ghost use Rattle.std.specs.Prelude.{◌≡◌, ◌&&◌, take, drop};
 ghost use Rattle.table.specs.Rows.{live};
-ghost use Rattle.table.specs.Tiling.{follows, tiles, takerSound, takersSound, revokings};
-ghost use Rattle.table.specs.Numbers.{rowFrom, table_of, written, allWritten};
-ghost use Rattle.table.specs.Sound.{soundNumbers, allZero, topSound};
+ghost use Rattle.table.specs.Tiling.{follows, tiles, taker_sound, takers_sound, revokings};
+ghost use Rattle.table.specs.Numbers.{row_from, table_of, written, all_written};
+ghost use Rattle.table.specs.Sound.{sound_numbers, all_zero, top_sound};
 
 use crate::find::used;
 use crate::number::revoking_at;
@@ -11,7 +11,7 @@ use crate::number::revoking_at;
 // The bits from 32 up are those of a sound reservation: Taken or Revoking with holder 0 and a taker of 0 to 8, or Open with a holder of
 // 0 to 7 and taker 9.
 fn top_sound(top: u64) -> bool
-    ensures { result ≡ topSound top }
+    ensures { result ≡ top_sound top }
 {
     let low = top % 65536;
     (((low == 1) | (low == 2)) & (top / 65536 <= 8))
@@ -20,7 +20,7 @@ fn top_sound(top: u64) -> bool
 
 // The number is one of a sound reservation that begins at a cell.
 fn follows_at(number: u64, from: u32) -> bool
-    ensures { result ≡ ((follows from (rowFrom number) && takerSound (rowFrom number)) && written number) }
+    ensures { result ≡ ((follows from (row_from number) && taker_sound (row_from number)) && written number) }
 {
     ((number % 65536 == from as u64) & (0 < number / 65536 % 65536))
         & top_sound(number / 4294967296)
@@ -28,7 +28,7 @@ fn follows_at(number: u64, from: u32) -> bool
 
 // The reservations tile the cells from 0 up to an end, and their takers fit.
 fn tiled(rows: &[u64], count: usize, end: u32) -> bool
-    ensures { result ≡ ((tiles 0 end (live (table_of rows.now count)) && takersSound (live (table_of rows.now count))) && allWritten (take count rows.now)) }
+    ensures { result ≡ ((tiles 0 end (live (table_of rows.now count)) && takers_sound (live (table_of rows.now count))) && all_written (take count rows.now)) }
 {
     let n = used(rows, count);
     let mut from: u32 = 0;
@@ -60,7 +60,7 @@ fn revokings(rows: &[u64], count: usize) -> usize
 
 // The numbers at the count and above are 0.
 fn rest_zero(rows: &[u64], count: usize) -> bool
-    ensures { result ≡ allZero (drop count rows.now) }
+    ensures { result ≡ all_zero (drop count rows.now) }
 {
     let mut zero = true;
     let mut i = count;
@@ -73,7 +73,7 @@ fn rest_zero(rows: &[u64], count: usize) -> bool
 
 // The table's part of a well-formed state.
 pub fn well_formed(rows: &[u64], count: usize, cells: u32) -> bool
-    ensures { result ≡ soundNumbers cells rows.now count }
+    ensures { result ≡ sound_numbers cells rows.now count }
 {
     let sized = (rows.len() == 64) & ((0 < count) & (count <= 64));
     (sized & tiled(rows, count, cells)) & (rest_zero(rows, count) & (revokings(rows, count) <= 1))

@@ -16,12 +16,12 @@ slots_of (c ∷ cells) (t ∷ tags) = slot c (tag_of t) ∷ slots_of cells tags
 abbrev pub cells_of : List Slot → List ℕ
 cells_of l = map (λ w. w.cell) l
 
-abbrev pub tagBytes : List Slot → List ℕ
-tagBytes l = map (λ w. byte_of w.tag) l
+abbrev pub tag_bytes : List Slot → List ℕ
+tag_bytes l = map (λ w. byte_of w.tag) l
 
 -- A party's register.
-unfoldable pub registerIn : List ℕ → List ℕ → ℕ → ℕ → Slot
-registerIn words marks party reg = pick (named party && named reg) (word_at words marks (8 * party + reg)) empty
+unfoldable pub register_in : List ℕ → List ℕ → ℕ → ℕ → Slot
+register_in words marks party reg = pick (named party && named reg) (word_at words marks (8 * party + reg)) empty
 
 -- A tag byte that words are written as: "only 0 and 1 are written."
 abbrev pub bit : ℕ → ℕ → Bool
@@ -29,21 +29,21 @@ bit i n = leb n 1
 
 -- Each number of the second list is replaced by what f makes of the number beside it in the first, and itself. Where either
 -- list ends the second stays.
-unfoldable pub mapBeside : (ℕ → ℕ → ℕ) → List ℕ → List ℕ → List ℕ
-mapBeside f [] ys = ys
-mapBeside f (x ∷ xs) [] = []
-mapBeside f (x ∷ xs) (y ∷ ys) = f x y ∷ mapBeside f xs ys
+unfoldable pub map_beside : (ℕ → ℕ → ℕ) → List ℕ → List ℕ → List ℕ
+map_beside f [] ys = ys
+map_beside f (x ∷ xs) [] = []
+map_beside f (x ∷ xs) (y ∷ ys) = f x y ∷ map_beside f xs ys
 
 -- 07: the tag bytes after a collect, 0 where the cell beside dies with the range; and the cells of mailboxes, 0 where such a
 -- cell was tagged.
-abbrev pub collectedMark : Range → ℕ → ℕ → ℕ
-collectedMark range cell mark = pick (dies range cell) 0 mark
+abbrev pub collected_mark : Range → ℕ → ℕ → ℕ
+collected_mark range cell mark = pick (dies range cell) 0 mark
 
-abbrev pub collectedCell : Range → ℕ → ℕ → ℕ
-collectedCell range flag cell = pick (tag_of flag && dies range cell) 0 cell
+abbrev pub collected_cell : Range → ℕ → ℕ → ℕ
+collected_cell range flag cell = pick (tag_of flag && dies range cell) 0 cell
 
-unfoldable pub collectedMarks : Range → List ℕ → List ℕ → List ℕ
-collectedMarks range words marks = mapBeside (collectedMark range) words marks
+unfoldable pub collected_marks : Range → List ℕ → List ℕ → List ℕ
+collected_marks range words marks = map_beside (collected_mark range) words marks
 
-unfoldable pub collectedMail : Range → List ℕ → List ℕ → List ℕ
-collectedMail range mail flags = mapBeside (collectedCell range) flags mail
+unfoldable pub collected_mail : Range → List ℕ → List ℕ → List ℕ
+collected_mail range mail flags = map_beside (collected_cell range) flags mail

@@ -21,19 +21,19 @@ abbrev pub named : ℕ → Bool
 named n = ltb n 8
 
 -- A party's register; an empty one where the party or the register is none.
-unfoldable pub registerOf : List Slot → ℕ → ℕ → Slot
-registerOf registers party reg = pick (named party && named reg) (get_or registers (8 * party + reg) empty) empty
+unfoldable pub register_of : List Slot → ℕ → ℕ → Slot
+register_of registers party reg = pick (named party && named reg) (get_or registers (8 * party + reg) empty) empty
 
-unfoldable pub mailboxOf : List Slot → ℕ → Slot
-mailboxOf mailboxes party = get_or mailboxes party empty
+unfoldable pub mailbox_of : List Slot → ℕ → Slot
+mailbox_of mailboxes party = get_or mailboxes party empty
 
 -- "One mailbox for one capability, empty and its cell 0 when untagged".
-abbrev pub mailboxSound : ℕ → Slot → Bool
-mailboxSound party w = w.tag || eqb w.cell 0
+abbrev pub mailbox_sound : ℕ → Slot → Bool
+mailbox_sound party w = w.tag || eqb w.cell 0
 
 -- How a word that is loaded, stored or collected in a register may lose its tag: it is kept only if a test holds. The number stays.
-abbrev pub keepTag : Slot → Bool → Slot
-keepTag w b = slot w.cell (w.tag && b)
+abbrev pub keep_tag : Slot → Bool → Slot
+keep_tag w b = slot w.cell (w.tag && b)
 
 -- Lent memory holds a tag as a byte: "A tag byte other than 0 counts as set; only 0 and 1 are written."
 abbrev pub tag_of : ℕ → Bool
@@ -52,23 +52,23 @@ nowhere (At at) = false
 nowhere Nowhere = true
 
 -- The number of a place that is there.
-abbrev pub placeNumber : Place → ℕ
-placeNumber (At at) = at
-placeNumber Nowhere = 0
+abbrev pub place_number : Place → ℕ
+place_number (At at) = at
+place_number Nowhere = 0
 
 -- 0B, of the word at the cell that a addresses: "its tag is dropped without permission 4"; and by document 02, 2026-05, "while a revocation
 -- runs, a load of a capability with base in the range puts it in the register, and answers, with tag 0".
 abbrev pub loaded : Core → Slot → Slot → Slot
-loaded c a w = keepTag w (permits a.cell 4 && not (dying c w.cell))
+loaded c a w = keep_tag w (permits a.cell 4 && not (dying c w.cell))
 
 -- 0C: "While a revocation runs, a capability with base in the range is stored with tag 0."
 abbrev pub stored : Core → Slot → Slot
-stored c w = keepTag w (not (dying c w.cell))
+stored c w = keep_tag w (not (dying c w.cell))
 
 -- 07: in registers "the tag of capabilities with base in the range" is cleared.
-abbrev pub collectedRegister : Core → Slot → Slot
-collectedRegister c w = keepTag w (not (dying c w.cell))
+abbrev pub collected_register : Core → Slot → Slot
+collected_register c w = keep_tag w (not (dying c w.cell))
 
 -- 07: "A mailbox so cleared is empty, its cell 0."
-abbrev pub collectedMailbox : Core → Slot → Slot
-collectedMailbox c w = pick (w.tag && dying c w.cell) empty w
+abbrev pub collected_mailbox : Core → Slot → Slot
+collected_mailbox c w = pick (w.tag && dying c w.cell) empty w

@@ -1,8 +1,8 @@
 // What a collect makes of the words in registers and mailboxes.
 ghost use Rattle.std.specs.Prelude.{not, ◌&&◌, map, ◌≡◌};
 ghost use Rattle.capabilities.specs.Lists.{pick};
-ghost use Rattle.words.specs.Words.{empty, keepTag};
-ghost use Rattle.words.specs.Lent.{collectedMark, collectedCell, collectedMarks, collectedMail};
+ghost use Rattle.words.specs.Words.{empty, keep_tag};
+ghost use Rattle.words.specs.Lent.{collected_mark, collected_cell, collected_marks, collected_mail};
 
 use crate::registers::shorter;
 use crate::{Slot, empty, keep_tag};
@@ -11,7 +11,7 @@ use capabilities::death::dies;
 
 // A tag byte, 0 if the cell beside it dies. A product and no branch, so that a loop over it stays fast.
 fn collected_mark(range: Range, cell: u64, mark: u8) -> u8
-    ensures { result ≡ collectedMark range cell mark }
+    ensures { result ≡ collected_mark range cell mark }
 {
     let gone = dies(range, cell);
     mark * ((!gone) as u8)
@@ -19,7 +19,7 @@ fn collected_mark(range: Range, cell: u64, mark: u8) -> u8
 
 // A mailbox's cell, 0 if it is a capability that dies.
 fn collected_cell(range: Range, flag: u8, cell: u64) -> u64
-    ensures { result ≡ collectedCell range flag cell }
+    ensures { result ≡ collected_cell range flag cell }
 {
     let here = dies(range, cell);
     let gone = !(flag == 0) & here;
@@ -28,7 +28,7 @@ fn collected_cell(range: Range, flag: u8, cell: u64) -> u64
 
 // The registers' tags: 0 where the register's base lies in the range.
 pub fn collect_words(range: Range, words: &[u64], marks: &mut [u8])
-    ensures { marks.new ≡ collectedMarks range words.now marks.old }
+    ensures { marks.new ≡ collected_marks range words.now marks.old }
 {
     let count = shorter(words.len(), marks.len());
     let mut i: usize = 0;
@@ -41,8 +41,8 @@ pub fn collect_words(range: Range, words: &[u64], marks: &mut [u8])
 
 // The mailboxes: cell and tag 0 where a capability has its base in the range.
 pub fn collect_mail(range: Range, mail: &mut [u64], flags: &mut [u8])
-    ensures mail_after { mail.new ≡ collectedMail range mail.old flags.old }
-    ensures flags_after { flags.new ≡ collectedMarks range mail.old flags.old }
+    ensures mail_after { mail.new ≡ collected_mail range mail.old flags.old }
+    ensures flags_after { flags.new ≡ collected_marks range mail.old flags.old }
 {
     let count = shorter(mail.len(), flags.len());
     let mut i: usize = 0;

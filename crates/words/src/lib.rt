@@ -1,7 +1,7 @@
 // Words: a cell and its tag, in registers, mailboxes and lent memory; what refuses a call on them, and what becomes of them.
 ghost use Rattle.std.specs.Prelude.{not, ◌&&◌, ◌≡◌};
 ghost use Rattle.capabilities.specs.Capability.{permits};
-ghost use Rattle.words.specs.Words.{empty, keepTag};
+ghost use Rattle.words.specs.Words.{empty, keep_tag};
 
 use capabilities::capability::may_load_capability;
 
@@ -27,7 +27,7 @@ pub fn empty() -> Slot
 }
 
 pub fn keep_tag(word: Slot, keep: bool) -> Slot
-    ensures { result ≡ keepTag word keep }
+    ensures { result ≡ keep_tag word keep }
 {
     Slot {
         cell: word.cell,
@@ -37,14 +37,14 @@ pub fn keep_tag(word: Slot, keep: bool) -> Slot
 
 // 0B: what a load through `from` makes of a word of lent memory, by whether it dies with the revocation that runs.
 pub fn loaded(from: Slot, word: Slot, dies: bool) -> Slot
-    ensures { result ≡ keepTag word (permits from.cell 4 && not dies) }
+    ensures { result ≡ keep_tag word (permits from.cell 4 && not dies) }
 {
     keep_tag(word, may_load_capability(from.cell) & !dies)
 }
 
 // 0C: what a store writes of a word, by whether it dies with the revocation that runs.
 pub fn stored(word: Slot, dies: bool) -> Slot
-    ensures { result ≡ keepTag word (not dies) }
+    ensures { result ≡ keep_tag word (not dies) }
 {
     keep_tag(word, !dies)
 }

@@ -1,6 +1,6 @@
 // Words in lent memory. Past its end a read answers 0 and a write changes nothing.
 ghost use Rattle.std.specs.Prelude.{◌≡◌, get_or, set};
-ghost use Rattle.words.specs.Words.{nowhere, placeNumber};
+ghost use Rattle.words.specs.Words.{nowhere, place_number};
 ghost use Rattle.words.specs.Words.{byte_of, word_at};
 
 use crate::Slot;
@@ -16,7 +16,7 @@ pub fn nowhere(place: Place) -> bool
 }
 
 pub fn place_number(place: Place) -> usize
-    ensures { result ≡ placeNumber place }
+    ensures { result ≡ place_number place }
 {
     match place {
         Place::At(at) => at,

@@ -2,14 +2,14 @@
 ghost use Rattle.std.specs.Prelude.{◌≡◌, min, set};
 ghost use Rattle.capabilities.specs.Lists.{each};
 ghost use Rattle.words.specs.Words.{byte_of};
-ghost use Rattle.words.specs.Words.{mailboxSound};
-ghost use Rattle.words.specs.Lent.{slots_of, registerIn, bit};
+ghost use Rattle.words.specs.Words.{mailbox_sound};
+ghost use Rattle.words.specs.Lent.{slots_of, register_in, bit};
 
 use crate::memory::{put_cell, put_tag, word_at};
 use crate::{Slot, empty};
 
 pub fn register_in(words: &[u64], marks: &[u8], party: u8, reg: u8) -> Slot
-    ensures { result ≡ registerIn words.now marks.now party reg }
+    ensures { result ≡ register_in words.now marks.now party reg }
 {
     if (party < 8) & (reg < 8) {
         let at = 8 * (party as usize) + reg as usize;
@@ -49,7 +49,7 @@ pub fn bits(tags: &[u8]) -> bool
 
 // Whether every mailbox that is untagged has cell 0.
 pub fn mailboxes_sound(mail: &[u64], flags: &[u8]) -> bool
-    ensures { result ≡ each mailboxSound 0 (slots_of mail.now flags.now) }
+    ensures { result ≡ each mailbox_sound 0 (slots_of mail.now flags.now) }
 {
     let count = shorter(mail.len(), flags.len());
     let mut sound = true;

@@ -1,7 +1,7 @@
 // Made by tools/kinds from the enum of calls: not to be changed here.
 // Bytes read as calls. First a function a kind: the call that the operands after the command's byte make.
 ghost use Rattle.std.specs.Prelude.{◌≡◌, ◌≤◌, length};
-ghost use Rattle.calls.specs.Commands.{call_at, commandLength, lastByte};
+ghost use Rattle.calls.specs.Commands.{call_at, command_length, last_byte};
 ghost use Rattle.calls.specs.Reader.{Reads};
 
 use super::{byte_at, byte_in, eight_at, frame_at, page_at, two_at};
@@ -239,7 +239,7 @@ fn destroy_at(s: &[u8]) -> Call
 
 // The call of a command's byte and the operands after it. In the last arm only the last command is left.
 fn call_at(command: u8, s: &[u8]) -> Call
-    requires { ((1 ≤ command) × (command ≤ lastByte)) × (commandLength command ≤ length s.now) }
+    requires { ((1 ≤ command) × (command ≤ last_byte)) × (command_length command ≤ length s.now) }
     ensures { result ≡ call_at command s.now }
 {
     match command {

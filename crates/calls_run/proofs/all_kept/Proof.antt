@@ -32,8 +32,8 @@ loop-again c = search rules
 returns-2 : tie.Need-returns-2 invariant-loop decreases-loop
 returns-2 c = search rules
 
-pub all-kept-spec : {M : Type 1} → statement M
-all-kept-spec =
+pub all_kept_spec : {M : Type 1} → statement M
+all_kept_spec =
     tie.close
     (tie.spec
     invariant-loop

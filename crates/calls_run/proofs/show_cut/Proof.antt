@@ -43,8 +43,8 @@ loop-again c = search rules
 returns : tie.Need-returns invariant-loop decreases-loop
 returns c = search rules
 
-pub show-cut-spec : {M : Type 1} → statement M
-show-cut-spec =
+pub show_cut_spec : {M : Type 1} → statement M
+show_cut_spec =
     tie.close
     (tie.spec
     invariant-loop

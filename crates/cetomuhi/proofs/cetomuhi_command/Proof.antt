@@ -7,7 +7,7 @@ use Rattle.arrays.specs.Reading.{arrays}
 use Rattle.entries.specs.Runs.{Run}
 use Rattle.cetomuhi.specs.Lent.{lent}
 use Rattle.cetomuhi.proofs.Fits.{Fits, run_fits}
-use Rattle.cetomuhi.proofs.Ways.{command-none, command-ran, command-turned}
+use Rattle.cetomuhi.proofs.Ways.{command_none, command_ran, command_turned}
 use borrow.Author.Rules.{rules}
 use Rattle.cetomuhi.proofs.cetomuhi_command.Statement.{statement}
 use Rattle.cetomuhi.proofs.cetomuhi_command.Tie as tie
@@ -22,7 +22,7 @@ use Rattle.entries.proofs.runs.commands_in.Reads as commands-in-reads
 returns : tie.Need-returns
 returns c =
     let a = c.before.before.before.before.before.before.before.before.before.before.before.before.before.before.before.args in
-    command-none (lent a.numbers.now a.words.now a.marks.now a.mail.now a.flags.now a.rows.now a.pages.now a.frames.now a.principals.now a.counts.now) a.input.now a.at a.cells.now a.tags.now a.answers.now c.if1.true
+    command_none (lent a.numbers.now a.words.now a.marks.now a.mail.now a.flags.now a.rows.now a.pages.now a.frames.now a.principals.now a.counts.now) a.input.now a.at a.cells.now a.tags.now a.answers.now c.if1.true
 
 numbers-from-requires : tie.Need-numbers-from-requires
 numbers-from-requires c κs = search rules
@@ -87,7 +87,7 @@ returns-2 : tie.Need-returns-2
 returns-2 c =
     let a = c.before.before.before.before.before.before.before.before.before.before.before.before.before.before.before.before.before.before.before.before.before.before.before.before.before.before.before.before.before.before.before.before.before.before.before.before.before.before.before.before.before.before.before.before.before.before.before.before.before.before.before.before.before.before.before.before.before.before.before.args in
     let read = c.before.before.before.before.before.before.before.before.before.before.before.before.before.before.before.before.before.before.before.before.before.before.before.before.before.before.before.before.before.before.before.before.before.before.before.before.before.before.before.before.before.before.numbers-from in
-    command-ran (lent a.numbers.now a.words.now a.marks.now a.mail.now a.flags.now a.rows.now a.pages.now a.frames.now a.principals.now a.counts.now) a.input.now a.at a.cells.now a.tags.now a.answers.now c.before.before.before.before.before.before.before.before.before.before.before.before.before.before.before.before.before.before.before.before.before.before.before.before.before.before.before.before.before.before.before.before.before.before.before.before.before.before.before.before.before.before.before.before.if1.false c.before.before.before.before.before.before.before.before.before.before.before.before.before.before.before.before.before.before.before.before.before.before.before.before.before.before.before.before.before.before.before.before.before.before.before.before.before.before.before.before.before.if2.true read.result read.ensures.0 _ _ _ _ _ _ c.before.before.before.before.before.before.before.before.before.before.before.before.before.before.before.before.before.before.before.before.before.before.before.before.before.before.before.before.commands-in.ensures _ c.before.before.put-numbers.ensures
+    command_ran (lent a.numbers.now a.words.now a.marks.now a.mail.now a.flags.now a.rows.now a.pages.now a.frames.now a.principals.now a.counts.now) a.input.now a.at a.cells.now a.tags.now a.answers.now c.before.before.before.before.before.before.before.before.before.before.before.before.before.before.before.before.before.before.before.before.before.before.before.before.before.before.before.before.before.before.before.before.before.before.before.before.before.before.before.before.before.before.before.before.if1.false c.before.before.before.before.before.before.before.before.before.before.before.before.before.before.before.before.before.before.before.before.before.before.before.before.before.before.before.before.before.before.before.before.before.before.before.before.before.before.before.before.before.if2.true read.result read.ensures.0 _ _ _ _ _ _ c.before.before.before.before.before.before.before.before.before.before.before.before.before.before.before.before.before.before.before.before.before.before.before.before.before.before.before.before.commands-in.ensures _ c.before.before.put-numbers.ensures
 
 formed-requires : tie.Need-formed-requires
 formed-requires c κs = search rules
@@ -139,10 +139,10 @@ returns-3 c =
     let a = c.before.before.before.before.before.before.before.before.before.before.before.before.before.before.before.before.before.before.before.before.before.before.before.before.before.before.before.before.before.before.before.before.before.before.args in
     let read = c.before.before.before.before.before.before.before.before.before.before.before.before.before.before.before.before.before.numbers-from in
     let put = c.before.before.put-end in
-    command-turned (lent a.numbers.now a.words.now a.marks.now a.mail.now a.flags.now a.rows.now a.pages.now a.frames.now a.principals.now a.counts.now) a.input.now a.at a.cells.now a.tags.now a.answers.now c.before.before.before.before.before.before.before.before.before.before.before.before.before.before.before.before.before.before.before.if1.false c.before.before.before.before.before.before.before.before.before.before.before.before.before.before.before.before.if2.false read.result read.ensures.0 _ c.before.before.before.before.before.before.formed.ensures _ put.ensures.0 _ put.ensures.1
+    command_turned (lent a.numbers.now a.words.now a.marks.now a.mail.now a.flags.now a.rows.now a.pages.now a.frames.now a.principals.now a.counts.now) a.input.now a.at a.cells.now a.tags.now a.answers.now c.before.before.before.before.before.before.before.before.before.before.before.before.before.before.before.before.before.before.before.if1.false c.before.before.before.before.before.before.before.before.before.before.before.before.before.before.before.before.if2.false read.result read.ensures.0 _ c.before.before.before.before.before.before.formed.ensures _ put.ensures.0 _ put.ensures.1
 
-pub cetomuhi-command-spec : {M : Type 1} → statement M
-cetomuhi-command-spec =
+pub cetomuhi_command_spec : {M : Type 1} → statement M
+cetomuhi_command_spec =
     tie.close
     (tie.spec
     returns

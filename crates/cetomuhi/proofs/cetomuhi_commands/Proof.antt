@@ -4,7 +4,7 @@ use Rattle.arrays.specs.Reading.{arrays}
 use Rattle.entries.specs.Runs.{Run}
 use Rattle.cetomuhi.specs.Lent.{lent}
 use Rattle.cetomuhi.proofs.Fits.{Fits, run_fits}
-use Rattle.cetomuhi.proofs.Ways.{commands-ran}
+use Rattle.cetomuhi.proofs.Ways.{commands_ran}
 use borrow.Author.Rules.{rules}
 use Rattle.cetomuhi.proofs.cetomuhi_commands.Statement.{statement}
 use Rattle.cetomuhi.proofs.cetomuhi_commands.Tie as tie
@@ -71,10 +71,10 @@ returns : tie.Need-returns
 returns c =
     let a = c.before.before.before.before.before.before.before.before.before.before.before.before.before.before.before.before.before.before.before.before.before.before.before.before.before.before.before.before.before.before.before.before.before.before.before.before.before.before.before.before.before.before.before.before.before.before.before.before.before.before.before.before.before.before.before.before.before.before.before.args in
     let read = c.before.before.before.before.before.before.before.before.before.before.before.before.before.before.before.before.before.before.before.before.before.before.before.before.before.before.before.before.before.before.before.before.before.before.before.before.before.before.before.before.before.before.before.numbers-from in
-    commands-ran (lent a.numbers.now a.words.now a.marks.now a.mail.now a.flags.now a.rows.now a.pages.now a.frames.now a.principals.now a.counts.now) a.input.now a.at.now a.cells.now a.tags.now a.answers.now read.result read.ensures.0 _ _ _ _ _ _ c.before.before.before.before.before.before.before.before.before.before.before.before.before.before.before.before.before.before.before.before.before.before.before.before.before.before.before.before.before.commands-in.ensures _ c.before.before.put-numbers.ensures
+    commands_ran (lent a.numbers.now a.words.now a.marks.now a.mail.now a.flags.now a.rows.now a.pages.now a.frames.now a.principals.now a.counts.now) a.input.now a.at.now a.cells.now a.tags.now a.answers.now read.result read.ensures.0 _ _ _ _ _ _ c.before.before.before.before.before.before.before.before.before.before.before.before.before.before.before.before.before.before.before.before.before.before.before.before.before.before.before.before.before.commands-in.ensures _ c.before.before.put-numbers.ensures
 
-pub cetomuhi-commands-spec : {M : Type 1} → statement M
-cetomuhi-commands-spec =
+pub cetomuhi_commands_spec : {M : Type 1} → statement M
+cetomuhi_commands_spec =
     tie.close
     (tie.spec
     numbers-from-requires

@@ -2,8 +2,8 @@
 use mathlib.Core.Path.{ap, ◌∙◌}
 use Rattle.arrays.specs.declared.Numbers.{Numbers}
 use Rattle.arrays.specs.Reading.{arrays}
-use Rattle.cost.specs.Asked.{costOn}
-use Rattle.cetomuhi.specs.Exports.{costLent}
+use Rattle.cost.specs.Asked.{cost_on}
+use Rattle.cetomuhi.specs.Exports.{cost_lent}
 use borrow.Author.Rules.{rules}
 use Rattle.cetomuhi.proofs.cetomuhi_page_cost.Statement.{statement}
 use Rattle.cetomuhi.proofs.cetomuhi_page_cost.Tie as tie
@@ -25,11 +25,11 @@ cast-remainder : tie.Need-overflow-cast-remainder
 cast-remainder c = search rules
 
 returns : tie.Need-returns
-unfolding costLent
+unfolding cost_lent
 returns c =
     let a = c.before.before.before.before.before.before.before.before.before.before.before.before.before.before.args in
     c.before.before.page-cost.ensures
-    ∙ ap (λ (n : Numbers). costOn (arrays n a.words.now a.marks.now a.mail.now a.flags.now a.rows.now a.pages.now a.frames.now a.principals.now a.counts.now) a.page) c.before.before.before.numbers-from.ensures.0
+    ∙ ap (λ (n : Numbers). cost_on (arrays n a.words.now a.marks.now a.mail.now a.flags.now a.rows.now a.pages.now a.frames.now a.principals.now a.counts.now) a.page) c.before.before.before.numbers-from.ensures.0
 
-pub cetomuhi-page-cost-spec : {M : Type 1} → statement M
-cetomuhi-page-cost-spec = tie.close (tie.spec numbers-from-requires page-cost-requires cast-share cast-remainder returns)
+pub cetomuhi_page_cost_spec : {M : Type 1} → statement M
+cetomuhi_page_cost_spec = tie.close (tie.spec numbers-from-requires page-cost-requires cast-share cast-remainder returns)

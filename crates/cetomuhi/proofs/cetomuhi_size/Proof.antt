@@ -23,5 +23,5 @@ returns-2 : tie.Need-returns-2
 unfolding size_of
 returns-2 c = sym (get_or-eq_default (6 ∷ 64 ∷ 64 ∷ 8 ∷ 8 ∷ 64 ∷ 256 ∷ 128 ∷ 32 ∷ 8192 ∷ 4 ∷ 7 ∷ []) 0 c.if1.false)
 
-pub cetomuhi-size-spec : {M : Type 1} → statement M
-cetomuhi-size-spec = tie.close (tie.spec mul-result array-read-result returns returns-2)
+pub cetomuhi_size_spec : {M : Type 1} → statement M
+cetomuhi_size_spec = tie.close (tie.spec mul-result array-read-result returns returns-2)

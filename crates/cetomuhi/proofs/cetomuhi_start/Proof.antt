@@ -2,7 +2,7 @@
 use Rattle.arrays.specs.Reading.{arrays}
 use Rattle.cetomuhi.specs.Lent.{lent}
 use Rattle.cetomuhi.proofs.Fits.{start_fits}
-use Rattle.cetomuhi.proofs.Ways.{start-other, start-six}
+use Rattle.cetomuhi.proofs.Ways.{start_other, start_six}
 use borrow.Author.Rules.{rules}
 use Rattle.cetomuhi.proofs.cetomuhi_start.Statement.{statement}
 use Rattle.cetomuhi.proofs.cetomuhi_start.Tie as tie
@@ -15,7 +15,7 @@ use Rattle.formed.proofs.fresh.start_in.Reads as start-in-reads
 returns : tie.Need-returns
 returns c =
     let a = c.before.before.before.before.before.before.before.before.before.before.before.args in
-    start-other (lent a.numbers.now a.words.now a.marks.now a.mail.now a.flags.now a.rows.now a.pages.now a.frames.now a.principals.now a.counts.now) a.v a.f c.if1.true
+    start_other (lent a.numbers.now a.words.now a.marks.now a.mail.now a.flags.now a.rows.now a.pages.now a.frames.now a.principals.now a.counts.now) a.v a.f c.if1.true
 
 numbers-from-requires : tie.Need-numbers-from-requires
 numbers-from-requires c κs = search rules
@@ -64,10 +64,10 @@ returns-2 : tie.Need-returns-2
 returns-2 c =
     let a = c.before.before.before.before.before.before.before.before.before.before.before.before.before.before.before.before.before.before.before.before.before.before.before.before.before.before.before.before.before.before.before.before.before.before.before.before.before.before.before.before.before.before.before.before.before.before.args in
     let read = c.before.before.before.before.before.before.before.before.before.before.before.before.before.before.before.before.before.before.before.before.before.before.before.before.before.before.before.before.before.before.before.before.before.numbers-from in
-    start-six (lent a.numbers.now a.words.now a.marks.now a.mail.now a.flags.now a.rows.now a.pages.now a.frames.now a.principals.now a.counts.now) a.v a.f c.before.before.before.before.before.before.before.before.before.before.before.before.before.before.before.before.before.before.before.before.before.before.before.before.before.before.before.before.before.before.before.before.before.before.before.if1.false read.result read.ensures.0 _ _ c.before.before.before.before.before.before.before.before.before.before.before.before.before.before.before.before.before.before.before.before.before.before.before.start-in.ensures _ c.before.before.put-numbers.ensures
+    start_six (lent a.numbers.now a.words.now a.marks.now a.mail.now a.flags.now a.rows.now a.pages.now a.frames.now a.principals.now a.counts.now) a.v a.f c.before.before.before.before.before.before.before.before.before.before.before.before.before.before.before.before.before.before.before.before.before.before.before.before.before.before.before.before.before.before.before.before.before.before.before.if1.false read.result read.ensures.0 _ _ c.before.before.before.before.before.before.before.before.before.before.before.before.before.before.before.before.before.before.before.before.before.before.before.start-in.ensures _ c.before.before.put-numbers.ensures
 
-pub cetomuhi-start-spec : {M : Type 1} → statement M
-cetomuhi-start-spec =
+pub cetomuhi_start_spec : {M : Type 1} → statement M
+cetomuhi_start_spec =
     tie.close
     (tie.spec
     returns

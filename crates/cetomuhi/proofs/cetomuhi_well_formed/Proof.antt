@@ -2,8 +2,8 @@
 use mathlib.Core.Path.{◌≡◌, ap, ◌∙◌}
 use Rattle.arrays.specs.declared.Numbers.{Numbers}
 use Rattle.arrays.specs.Reading.{arrays}
-use Rattle.formed.specs.Test.{formedOf}
-use Rattle.cetomuhi.specs.Exports.{formedLent}
+use Rattle.formed.specs.Test.{formed_of}
+use Rattle.cetomuhi.specs.Exports.{formed_lent}
 use borrow.Author.Rules.{rules}
 use Rattle.cetomuhi.proofs.cetomuhi_well_formed.Statement.{statement}
 use Rattle.cetomuhi.proofs.cetomuhi_well_formed.Tie as tie
@@ -19,13 +19,13 @@ formed-requires : tie.Need-formed-requires
 formed-requires c κs = search rules
 
 returns : tie.Need-returns
-unfolding formedLent
+unfolding formed_lent
 returns c =
     let a = c.before.before.before.before.before.before.before.before.before.before.before.before.args in
-    c.formed.ensures ∙ ap (λ (n : Numbers). formedOf (arrays n a.words.now a.marks.now a.mail.now a.flags.now a.rows.now a.pages.now a.frames.now a.principals.now a.counts.now)) c.before.numbers-from.ensures.0
+    c.formed.ensures ∙ ap (λ (n : Numbers). formed_of (arrays n a.words.now a.marks.now a.mail.now a.flags.now a.rows.now a.pages.now a.frames.now a.principals.now a.counts.now)) c.before.numbers-from.ensures.0
 
-pub cetomuhi-well-formed-spec : {M : Type 1} → statement M
-cetomuhi-well-formed-spec = tie.close (tie.spec
+pub cetomuhi_well_formed_spec : {M : Type 1} → statement M
+cetomuhi_well_formed_spec = tie.close (tie.spec
     numbers-from-requires
     formed-requires
     returns)

@@ -2,7 +2,7 @@
 use Prim.Native.Nat.{◌≤◌}
 use native.Mathlib.Omega.{arith}
 use lib.ListN.{length, length-set}
-use Rattle.capabilities.proofs.Choice.{byte-pick}
+use Rattle.capabilities.proofs.Choice.{byte_pick}
 use Rattle.cetomuhi.proofs.Writing.{put_four}
 use borrow.Author.Rules.{rules}
 use Rattle.cetomuhi.proofs.put_answer.Statement.{statement}
@@ -32,10 +32,10 @@ same_length : tie.Need-same-length
 same_length c = search rules
 
 returns : tie.Need-returns
-returns c = let a = c.before.before.args in rw (byte-pick a.answer.tag) (put_four _ _ _ _ a.answers.now c.before.before.requires)
+returns c = let a = c.before.before.args in rw (byte_pick a.answer.tag) (put_four _ _ _ _ a.answers.now c.before.before.requires)
 
-pub put-answer-spec : {M : Type 1} → statement M
-put-answer-spec =
+pub put_answer_spec : {M : Type 1} → statement M
+put_answer_spec =
     tie.close
     (tie.spec
     cast-answers

@@ -8,8 +8,8 @@ use Rattle.capabilities.specs.Lists.{pick}
 use Rattle.words.specs.Words.{empty}
 use Rattle.arrays.specs.declared.Answer.{Answer}
 use Rattle.arrays.specs.Steps.{answer}
-use Rattle.entries.specs.Runs.{answerNumbers}
-use Rattle.cetomuhi.specs.Exports.{endCode}
+use Rattle.entries.specs.Runs.{answer_numbers}
+use Rattle.cetomuhi.specs.Exports.{end_code}
 use borrow.Author.Rules.{rules}
 use Rattle.cetomuhi.proofs.put_end.Statement.{statement}
 use Rattle.cetomuhi.proofs.put_end.Tie as tie
@@ -35,7 +35,7 @@ same_length : tie.Need-same-length
 same_length c = search rules
 
 returns : tie.Need-returns
-unfolding endCode
+unfolding end_code
 returns c =
     let put = c.before.before.put-answer in
     let coded = c.before.before.before.coded in
@@ -43,12 +43,12 @@ returns c =
     let first = c.before.before.before.before.before.before.first in
     let a = c.before.before.before.before.before.before.before.before.before.before.args in (
       refl,
-      put.ensures ∙ ap (λ (x : Answer). answerNumbers x 0 ++ drop 4 a.answers.now)
+      put.ensures ∙ ap (λ (x : Answer). answer_numbers x 0 ++ drop 4 a.answers.now)
           (coded.ensures ∙ ap (λ (k : ℕ). answer k empty) (first2.ensures ∙ ap (λ (k : ℕ). pick (not a.good) 1 k) first.ensures)),
     )
 
-pub put-end-spec : {M : Type 1} → statement M
-put-end-spec =
+pub put_end_spec : {M : Type 1} → statement M
+put_end_spec =
     tie.close
     (tie.spec
     mul-size

@@ -2,7 +2,7 @@
 use Prim.Native.Nat.{◌≤◌}
 use native.Mathlib.Omega.{arith}
 use lib.ListN.{length, length-set}
-use Rattle.cetomuhi.proofs.Writing.{put_six, over-other}
+use Rattle.cetomuhi.proofs.Writing.{put_six, over_other}
 use borrow.Author.Rules.{rules}
 use Rattle.cetomuhi.proofs.put_numbers.Statement.{statement}
 use Rattle.cetomuhi.proofs.put_numbers.Tie as tie
@@ -40,10 +40,10 @@ returns : tie.Need-returns
 returns c = put_six c.before.before.before.args.nums c.before.before.before.args.numbers.now c.before.before.if1.true
 
 returns-2 : tie.Need-returns-2
-returns-2 c = over-other c.before.args.nums c.before.args.numbers.now c.if1.false
+returns-2 c = over_other c.before.args.nums c.before.args.numbers.now c.if1.false
 
-pub put-numbers-spec : {M : Type 1} → statement M
-put-numbers-spec =
+pub put_numbers_spec : {M : Type 1} → statement M
+put_numbers_spec =
     tie.close
     (tie.spec
     slice-write-numbers

@@ -2,7 +2,7 @@
 use lib.Seq.{length-take-le}
 use borrow.Author.Rules.{rules}
 use Rattle.session_rules.specs.Session.{lines_of}
-use Rattle.session_rules.proofs.Sessions.{printed-within}
+use Rattle.session_rules.proofs.Sessions.{printed_within}
 use Rattle.console.proofs.show.Statement.{statement}
 use Rattle.console.proofs.show.Tie as tie
 
@@ -29,7 +29,7 @@ array-share-prefix-out c =
     let cetomuhi-session = c.before.before.cetomuhi-session in
     let output-buffer = c.before.before.before.before.output-buffer in
     let a = c.before.before.before.before.before.before.args in
-    let w = printed-within (lines_of a.input.now) output-buffer.result cetomuhi-session.result _ cetomuhi-session.ensures in
+    let w = printed_within (lines_of a.input.now) output-buffer.result cetomuhi-session.result _ cetomuhi-session.ensures in
     search (rules, w)
 
 slice-aggregate-write-all : tie.Need-slice-aggregate-write-all
@@ -37,7 +37,7 @@ slice-aggregate-write-all c =
     let cetomuhi-session = c.before.before.before.cetomuhi-session in
     let output-buffer = c.before.before.before.before.before.output-buffer in
     let a = c.before.before.before.before.before.before.before.args in
-    let w = printed-within (lines_of a.input.now) output-buffer.result cetomuhi-session.result _ cetomuhi-session.ensures in
+    let w = printed_within (lines_of a.input.now) output-buffer.result cetomuhi-session.result _ cetomuhi-session.ensures in
     search (rules, w, length-take-le)
 
 write-all-requires : tie.Need-write-all-requires
@@ -55,8 +55,8 @@ returns-2 c = search rules
 returns-3 : tie.Need-returns-3
 returns-3 c = search rules
 
-pub show-spec : {M : Type 1} → statement M
-show-spec =
+pub show_spec : {M : Type 1} → statement M
+show_spec =
     tie.close
     (tie.spec
     output-buffer-requires

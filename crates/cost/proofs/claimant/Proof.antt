@@ -2,7 +2,7 @@
 use mathlib.Core.Path.{sym, subst}
 use Prim.Native.Nat.{ℕ, ◌≤◌}
 use lib.Dec.{ltb}
-use Rattle.capabilities.proofs.Choice.{byte-pick, at_most}
+use Rattle.capabilities.proofs.Choice.{byte_pick, at_most}
 use borrow.Author.Rules.{rules}
 use Rattle.cost.proofs.claimant.Statement.{statement}
 use Rattle.cost.proofs.claimant.Tie as tie
@@ -11,7 +11,7 @@ cast-result : tie.Need-overflow-cast-result
 cast-result c = search rules
 
 returns : tie.Need-returns
-returns c = let b = ltb 0 c.args.count in (byte-pick b, subst (λ (k : ℕ). k ≤ 1) (sym (byte-pick b)) (at_most b))
+returns c = let b = ltb 0 c.args.count in (byte_pick b, subst (λ (k : ℕ). k ≤ 1) (sym (byte_pick b)) (at_most b))
 
-pub claimant-spec : {M : Type 1} → statement M
-claimant-spec = tie.close (tie.spec cast-result returns)
+pub claimant_spec : {M : Type 1} → statement M
+claimant_spec = tie.close (tie.spec cast-result returns)

@@ -4,13 +4,13 @@ use Prim.Native.Nat.{ℕ, ◌≤◌, ◌-◌}
 use mathlib.Core.Path.{◌≡◌, refl, ap, ◌∙◌}
 use borrow.Author.Rules.{rules}
 use Rattle.claims.specs.Claims.{one, sum}
-use Rattle.claims.specs.Lent.{countIn}
-use Rattle.claims.proofs.Sums.{sum-turn}
+use Rattle.claims.specs.Lent.{count_in}
+use Rattle.claims.proofs.Sums.{sum_turn}
 use Rattle.cost.proofs.claimants.Statement.{statement}
 use Rattle.cost.proofs.claimants.Tie as tie
 
 abbrev invariant-loop : tie.invariant-loop
-invariant-loop counts page n₀ p₀ n p = (p ≤ 32) × (n ≤ p) × (n ≡ sum p (λ q. one (countIn counts q page)))
+invariant-loop counts page n₀ p₀ n p = (p ≤ 32) × (n ≤ p) × (n ≡ sum p (λ q. one (count_in counts q page)))
 
 abbrev decreases-loop : tie.decreases-loop
 decreases-loop counts page n₀ p₀ n p = 32 - p
@@ -41,7 +41,7 @@ loop-again c =
     let here = c.claimant.ensures in (
       omega arith,
       omega (arith, here.1),
-      sum-turn (λ q. one (countIn a.counts.now q a.page)) loop.p loop.n _ loop.invariant.2
+      sum_turn (λ q. one (count_in a.counts.now q a.page)) loop.p loop.n _ loop.invariant.2
           (here.0 ∙ ap one c.before.count-in.ensures),
     )
 
@@ -50,7 +50,7 @@ returns c =
     let a = c.before.before.before.args in
     let loop = c.before.loop in
     let e : loop.p ≡ 32 = omega arith in
-    loop.invariant.2 ∙ ap (λ (k : ℕ). sum k (λ q. one (countIn a.counts.now q a.page))) e
+    loop.invariant.2 ∙ ap (λ (k : ℕ). sum k (λ q. one (count_in a.counts.now q a.page))) e
 
-pub claimants-spec : {M : Type 1} → statement M
-claimants-spec = tie.close (tie.spec invariant-loop decreases-loop loop-holds count-in-requires claimant-requires add-n add-p loop-less loop-again returns)
+pub claimants_spec : {M : Type 1} → statement M
+claimants_spec = tie.close (tie.spec invariant-loop decreases-loop loop-holds count-in-requires claimant-requires add-n add-p loop-less loop-again returns)

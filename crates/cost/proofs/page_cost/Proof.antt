@@ -1,9 +1,9 @@
 -- `cost::page_cost` meets its contract. Refused, the code says why; granted, the arrays are well formed and the counts are the state's.
 use mathlib.Core.Path.{ap, ap₂, ◌∙◌}
 use Rattle.arrays.specs.Reading.{arrays}
-use Rattle.claims.specs.Cost.{cost, costOf}
+use Rattle.claims.specs.Cost.{cost, cost_of}
 use Rattle.machine.specs.Cost.{costed}
-use Rattle.cost.proofs.Asking.{asked-refused, asked_low, asked-cost}
+use Rattle.cost.proofs.Asking.{asked_refused, asked_low, asked_cost}
 use borrow.Author.Rules.{rules}
 use Rattle.cost.proofs.page_cost.Statement.{statement}
 use Rattle.cost.proofs.page_cost.Tie as tie
@@ -31,7 +31,7 @@ returns : tie.Need-returns
 returns c =
     let a = c.before.before.before.before.before.before.before.before.before.before.before.before.before.before.args in
     let m = arrays a.nums a.words.now a.marks.now a.mail.now a.flags.now a.rows.now a.pages.now a.frames.now a.principals.now a.counts.now in
-    asked-refused m a.page _ c.before.before.before.before.formed.ensures _ _ c.before.before.first.ensures c.before.first2.ensures c.if1.true
+    asked_refused m a.page _ c.before.before.before.before.formed.ensures _ _ c.before.before.first.ensures c.before.first2.ensures c.if1.true
 
 cast-claimants : tie.Need-overflow-cast-claimants
 cast-claimants c =
@@ -54,11 +54,11 @@ returns-2 c =
     let a = c.before.before.before.before.before.before.before.before.before.before.before.before.before.before.before.before.before.args in
     let m = arrays a.nums a.words.now a.marks.now a.mail.now a.flags.now a.rows.now a.pages.now a.frames.now a.principals.now a.counts.now in
     ap₂ (λ s r. costed 0 (cost s r)) c.before.share.ensures c.remainder.ensures
-    ∙ ap (λ k. costed 0 (costOf k)) c.before.before.claimants.ensures
-    ∙ asked-cost m a.page _ c.before.before.before.before.before.before.before.formed.ensures _ _ c.before.before.before.before.before.first.ensures c.before.before.before.before.first2.ensures c.before.before.before.if1.false
+    ∙ ap (λ k. costed 0 (cost_of k)) c.before.before.claimants.ensures
+    ∙ asked_cost m a.page _ c.before.before.before.before.before.before.before.formed.ensures _ _ c.before.before.before.before.before.first.ensures c.before.before.before.before.first2.ensures c.before.before.before.if1.false
 
-pub page-cost-spec : {M : Type 1} → statement M
-page-cost-spec =
+pub page_cost_spec : {M : Type 1} → statement M
+page_cost_spec =
     tie.close
     (tie.spec
     formed-requires

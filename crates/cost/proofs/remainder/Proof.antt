@@ -15,5 +15,5 @@ returns c = sym (ap (λ (x : Cost). x.remainder) (undivided c.before.args.n c.if
 returns-2 : tie.Need-returns-2
 returns-2 c = sym (ap (λ (x : Cost). x.remainder) (divided c.before.args.n c.if1.false))
 
-pub remainder-spec : {M : Type 1} → statement M
-remainder-spec = tie.close (tie.spec rem-result returns returns-2)
+pub remainder_spec : {M : Type 1} → statement M
+remainder_spec = tie.close (tie.spec rem-result returns returns-2)

@@ -15,5 +15,5 @@ returns c = sym (ap (λ (x : Cost). x.share) (undivided c.before.args.n c.if1.tr
 returns-2 : tie.Need-returns-2
 returns-2 c = sym (ap (λ (x : Cost). x.share) (divided c.before.args.n c.if1.false))
 
-pub share-spec : {M : Type 1} → statement M
-share-spec = tie.close (tie.spec div-result returns returns-2)
+pub share_spec : {M : Type 1} → statement M
+share_spec = tie.close (tie.spec div-result returns returns-2)

@@ -3,7 +3,7 @@ use mathlib.Core.Path.{◌≡◌, sym, ◌∙◌}
 use borrow.Author.Tests.{not-true, not-false}
 use Rattle.arrays.specs.Reading.{arrays}
 use Rattle.formed.proofs.Tested.{tested}
-use Rattle.step.proofs.Commanding.{call_fits, call-unformed, call-formed, call-unfit, fitted}
+use Rattle.step.proofs.Commanding.{call_fits, call_unformed, call_formed, call_unfit, fitted}
 use borrow.Author.Rules.{rules}
 use Rattle.entries.proofs.call_in.Statement.{statement}
 use Rattle.entries.proofs.call_in.Tie as tie
@@ -50,7 +50,7 @@ returns : tie.Need-returns
 returns c =
     let a = c.before.before.before.before.before.before.before.before.before.before.before.before.before.before.before.before.before.before.before.before.before.before.before.args in
     let m = arrays a.nums a.words.now a.marks.now a.mail.now a.flags.now a.rows.now a.pages.now a.frames.now a.principals.now a.counts.now in
-    rw c.coded.ensures (call-unformed m a.cells.now a.tags.now a.call (sym c.before.before.formed.ensures ∙ not-true _ c.before.if1.true))
+    rw c.coded.ensures (call_unformed m a.cells.now a.tags.now a.call (sym c.before.before.formed.ensures ∙ not-true _ c.before.if1.true))
 
 cast-size : tie.Need-overflow-cast-size
 cast-size c = search rules
@@ -93,7 +93,7 @@ returns-2 c =
     let a = c.before.before.before.before.before.before.before.before.before.before.before.before.before.before.before.before.before.before.before.before.before.before.before.before.before.args in
     let m = arrays a.nums a.words.now a.marks.now a.mail.now a.flags.now a.rows.now a.pages.now a.frames.now a.principals.now a.counts.now in
     let e = sym c.before.before.before.before.formed.ensures ∙ not-false _ c.before.before.before.if1.false in
-    rw c.coded2.ensures (call-formed m a.cells.now a.tags.now a.call e _ (call-unfit m (tested m e) a.cells.now a.tags.now (not-true _ c.before.if2.true) a.call))
+    rw c.coded2.ensures (call_formed m a.cells.now a.tags.now a.call e _ (call_unfit m (tested m e) a.cells.now a.tags.now (not-true _ c.before.if2.true) a.call))
 
 step-requires : tie.Need-step-requires
 step-requires c κs = search rules
@@ -136,10 +136,10 @@ returns-3 c =
     let a = c.before.before.before.before.before.before.before.before.before.before.before.before.before.before.before.before.before.before.before.before.before.before.before.before.before.before.before.before.before.before.before.before.before.before.before.before.before.before.before.before.before.before.before.before.before.before.before.before.before.before.before.before.before.before.before.before.before.before.args in
     let m = arrays a.nums a.words.now a.marks.now a.mail.now a.flags.now a.rows.now a.pages.now a.frames.now a.principals.now a.counts.now in
     let e = sym c.before.before.before.before.before.before.before.before.before.before.before.before.before.before.before.before.before.before.before.before.before.before.before.before.before.before.before.before.before.before.before.before.before.before.before.before.before.formed.ensures ∙ not-false _ c.before.before.before.before.before.before.before.before.before.before.before.before.before.before.before.before.before.before.before.before.before.before.before.before.before.before.before.before.before.before.before.before.before.before.before.before.if1.false in
-    call-formed m a.cells.now a.tags.now a.call e _ (call_fits m a.cells.now a.tags.now (not-false _ c.before.before.before.before.before.before.before.before.before.before.before.before.before.before.before.before.before.before.before.before.before.before.before.before.before.before.before.before.before.before.before.before.before.before.if2.false) a.call _ (c.before.before.before.before.before.before.before.before.before.before.before.before.before.before.before.before.before.before.before.before.before.before.step.ensures (tested m e) (fitted m a.cells.now a.tags.now (not-false _ c.before.before.before.before.before.before.before.before.before.before.before.before.before.before.before.before.before.before.before.before.before.before.before.before.before.before.before.before.before.before.before.before.before.before.if2.false))))
+    call_formed m a.cells.now a.tags.now a.call e _ (call_fits m a.cells.now a.tags.now (not-false _ c.before.before.before.before.before.before.before.before.before.before.before.before.before.before.before.before.before.before.before.before.before.before.before.before.before.before.before.before.before.before.before.before.before.before.if2.false) a.call _ (c.before.before.before.before.before.before.before.before.before.before.before.before.before.before.before.before.before.before.before.before.before.before.step.ensures (tested m e) (fitted m a.cells.now a.tags.now (not-false _ c.before.before.before.before.before.before.before.before.before.before.before.before.before.before.before.before.before.before.before.before.before.before.before.before.before.before.before.before.before.before.before.before.before.before.if2.false))))
 
-pub call-in-spec : {M : Type 1} → statement M
-call-in-spec =
+pub call_in_spec : {M : Type 1} → statement M
+call_in_spec =
     tie.close
     (tie.spec
     formed-requires

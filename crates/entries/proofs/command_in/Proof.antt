@@ -3,14 +3,14 @@ use mathlib.Core.Path.{◌≡◌, sym, ◌∙◌}
 use borrow.Author.Tests.{not-true, not-false}
 use Rattle.arrays.specs.Reading.{arrays}
 use Rattle.formed.proofs.Tested.{tested}
-use Rattle.step.proofs.Commanding.{command-unformed, command-formed, command-unfit, fitted}
+use Rattle.step.proofs.Commanding.{command_unformed, command_formed, command_unfit, fitted}
 use borrow.Author.Rules.{rules}
 use Rattle.entries.proofs.command_in.Statement.{statement}
 use Rattle.entries.proofs.command_in.Tie as tie
 use Rattle.entries.proofs.command_in.Reads as reads
 use Rattle.entries.proofs.command_in.Lts as lts
 use Rattle.formed.proofs.formed.Reads as formed-reads
-use Rattle.step.proofs.command.Reads as command-reads
+use Rattle.step.proofs.command.Reads as command_reads
 use Rattle.calls_in_place.proofs.word_calls.coded.Reads as coded-reads
 
 formed-requires : tie.Need-formed-requires
@@ -50,7 +50,7 @@ returns : tie.Need-returns
 returns c =
     let a = c.before.before.before.before.before.before.before.before.before.before.before.before.before.before.before.before.before.before.before.before.before.before.before.before.args in
     let m = arrays a.nums a.words.now a.marks.now a.mail.now a.flags.now a.rows.now a.pages.now a.frames.now a.principals.now a.counts.now in
-    rw c.coded.ensures (command-unformed m a.cells.now a.tags.now a.input.now a.at (sym c.before.before.formed.ensures ∙ not-true _ c.before.if1.true))
+    rw c.coded.ensures (command_unformed m a.cells.now a.tags.now a.input.now a.at (sym c.before.before.formed.ensures ∙ not-true _ c.before.if1.true))
 
 cast-size : tie.Need-overflow-cast-size
 cast-size c = search rules
@@ -93,7 +93,7 @@ returns-2 c =
     let a = c.before.before.before.before.before.before.before.before.before.before.before.before.before.before.before.before.before.before.before.before.before.before.before.before.before.before.args in
     let m = arrays a.nums a.words.now a.marks.now a.mail.now a.flags.now a.rows.now a.pages.now a.frames.now a.principals.now a.counts.now in
     let e = sym c.before.before.before.before.formed.ensures ∙ not-false _ c.before.before.before.if1.false in
-    rw c.coded2.ensures (command-formed m a.cells.now a.tags.now a.input.now a.at e _ (command-unfit m (tested m e) a.cells.now a.tags.now (not-true _ c.before.if2.true) a.input.now a.at))
+    rw c.coded2.ensures (command_formed m a.cells.now a.tags.now a.input.now a.at e _ (command_unfit m (tested m e) a.cells.now a.tags.now (not-true _ c.before.if2.true) a.input.now a.at))
 
 command-requires : tie.Need-command-requires
 command-requires c κs = search rules
@@ -136,10 +136,10 @@ returns-3 c =
     let a = c.before.before.before.before.before.before.before.before.before.before.before.before.before.before.before.before.before.before.before.before.before.before.before.before.before.before.before.before.before.before.before.before.before.before.before.before.before.before.before.before.before.before.before.before.before.before.before.before.before.before.before.before.before.before.before.before.before.before.before.args in
     let m = arrays a.nums a.words.now a.marks.now a.mail.now a.flags.now a.rows.now a.pages.now a.frames.now a.principals.now a.counts.now in
     let e = sym c.before.before.before.before.before.before.before.before.before.before.before.before.before.before.before.before.before.before.before.before.before.before.before.before.before.before.before.before.before.before.before.before.before.before.before.before.before.formed.ensures ∙ not-false _ c.before.before.before.before.before.before.before.before.before.before.before.before.before.before.before.before.before.before.before.before.before.before.before.before.before.before.before.before.before.before.before.before.before.before.before.before.if1.false in
-    command-formed m a.cells.now a.tags.now a.input.now a.at e _ (c.before.before.before.before.before.before.before.before.before.before.before.before.before.before.before.before.before.before.before.before.before.before.command.ensures (tested m e) (fitted m a.cells.now a.tags.now (not-false _ c.before.before.before.before.before.before.before.before.before.before.before.before.before.before.before.before.before.before.before.before.before.before.before.before.before.before.before.before.before.before.before.before.before.before.if2.false)))
+    command_formed m a.cells.now a.tags.now a.input.now a.at e _ (c.before.before.before.before.before.before.before.before.before.before.before.before.before.before.before.before.before.before.before.before.before.before.command.ensures (tested m e) (fitted m a.cells.now a.tags.now (not-false _ c.before.before.before.before.before.before.before.before.before.before.before.before.before.before.before.before.before.before.before.before.before.before.before.before.before.before.before.before.before.before.before.before.before.before.if2.false)))
 
-pub command-in-spec : {M : Type 1} → statement M
-command-in-spec =
+pub command_in_spec : {M : Type 1} → statement M
+command_in_spec =
     tie.close
     (tie.spec
     formed-requires

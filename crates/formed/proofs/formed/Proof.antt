@@ -3,7 +3,7 @@ use mathlib.Core.Bool.{Bool, ◌&&◌}
 use mathlib.Core.Path.{◌≡◌, refl, sym, ap, ◌∙◌}
 use borrow.Author.Tests.{not-true, not-false}
 use Rattle.arrays.specs.Reading.{arrays}
-use Rattle.formed.proofs.Tested.{lengthsFit, front-fails, back-decides}
+use Rattle.formed.proofs.Tested.{lengths_fit, front_fails, back_decides}
 use borrow.Author.Rules.{rules}
 use Rattle.formed.proofs.formed.Statement.{statement}
 use Rattle.formed.proofs.formed.Tie as tie
@@ -23,7 +23,7 @@ returns : tie.Need-returns
 returns c =
     let a = c.before.before.before.before.before.before.before.before.before.before.before.args in
     let m = arrays a.nums a.words.now a.marks.now a.mail.now a.flags.now a.rows.now a.pages.now a.frames.now a.principals.now a.counts.now in
-    front-fails m (ap (λ (x : Bool). lengthsFit m && x) (sym c.before.layer-sound.ensures) ∙ not-true _ c.if1.true)
+    front_fails m (ap (λ (x : Bool). lengths_fit m && x) (sym c.before.layer-sound.ensures) ∙ not-true _ c.if1.true)
 
 cast-well-formed : tie.Need-overflow-cast-well-formed
 cast-well-formed c = search rules
@@ -60,11 +60,11 @@ returns-2 c =
     let a = c.before.before.before.before.before.before.before.before.before.before.before.before.before.before.before.before.before.before.before.before.args in
     let m = arrays a.nums a.words.now a.marks.now a.mail.now a.flags.now a.rows.now a.pages.now a.frames.now a.principals.now a.counts.now in
     let e = not-false _ c.before.before.before.before.before.before.before.before.before.if1.false in
-    back-decides m (ap (λ (x : Bool). lengthsFit m && x) (sym c.before.before.before.before.before.before.before.before.before.before.layer-sound.ensures) ∙ e) _
+    back_decides m (ap (λ (x : Bool). lengths_fit m && x) (sym c.before.before.before.before.before.before.before.before.before.before.layer-sound.ensures) ∙ e) _
     (rw (c.claims-sound.ensures, c.before.mailboxes-sound.ensures, c.before.before.bits2.ensures, c.before.before.before.bits.ensures, c.before.before.before.before.revocation-kept.ensures a.frames.now a.principals.now a.counts.now, c.before.before.before.before.before.before.before.well-formed-2.ensures))
 
-pub formed-spec : {M : Type 1} → statement M
-formed-spec =
+pub formed_spec : {M : Type 1} → statement M
+formed_spec =
     tie.close
     (tie.spec
     layer-sound-requires

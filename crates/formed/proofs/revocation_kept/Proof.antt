@@ -3,10 +3,10 @@ use mathlib.Core.Bool.{Bool, ◌&&◌}
 use mathlib.Core.Path.{◌≡◌, sym, ap, ◌∙◌}
 use lib.Dec.{eqb}
 use Rattle.capabilities.specs.declared.Range.{Range}
-use Rattle.pages.specs.Freed.{allFreed}
-use Rattle.pages.specs.Numbers.{layerOf}
-use Rattle.reservations.specs.Revocation.{wholePages}
-use Rattle.formed.proofs.Revocation.{none_runs, one-runs}
+use Rattle.pages.specs.Freed.{all_freed}
+use Rattle.pages.specs.Numbers.{layer_of}
+use Rattle.reservations.specs.Revocation.{whole_pages}
+use Rattle.formed.proofs.Revocation.{none_runs, one_runs}
 use borrow.Author.Rules.{rules}
 use Rattle.formed.proofs.revocation_kept.Statement.{statement}
 use Rattle.formed.proofs.revocation_kept.Tie as tie
@@ -51,11 +51,11 @@ returns-2 c =
     let row = c.before.before.before.before.before.before.before.before.before.row_in in
     let kept = eqb a.nums.base row.result.base && eqb a.nums.length row.result.length in
     λ frames principals counts. ap (λ (x : Bool). kept && (x && c.all-freed.result)) c.before.before.whole-pages.ensures
-    ∙ ap (λ (x : Bool). kept && (wholePages row.result && x)) (c.all-freed.ensures a.nums.v a.nums.f frames ∙ ap (λ (r : Range). allFreed (layerOf a.nums.v a.nums.f a.pages.now frames) r) c.before.range-of.ensures)
-    ∙ one-runs a.nums a.rows.now a.pages.now frames principals counts found.result row.result found.ensures row.ensures (sym c.before.before.before.before.missing.ensures ∙ c.before.before.before.if1.false)
+    ∙ ap (λ (x : Bool). kept && (whole_pages row.result && x)) (c.all-freed.ensures a.nums.v a.nums.f frames ∙ ap (λ (r : Range). all_freed (layer_of a.nums.v a.nums.f a.pages.now frames) r) c.before.range-of.ensures)
+    ∙ one_runs a.nums a.rows.now a.pages.now frames principals counts found.result row.result found.ensures row.ensures (sym c.before.before.before.before.missing.ensures ∙ c.before.before.before.if1.false)
 
-pub revocation-kept-spec : {M : Type 1} → statement M
-revocation-kept-spec =
+pub revocation_kept_spec : {M : Type 1} → statement M
+revocation_kept_spec =
     tie.close
     (tie.spec
     revoking-requires

@@ -4,7 +4,7 @@ use lib.Dec.{ltb}
 use borrow.Author.Tests.{ltb-true}
 use Rattle.capabilities.proofs.Choice.{and_left, and_right}
 use borrow.Author.Rules.{rules}
-use Rattle.lines.proofs.Laying.{line-near}
+use Rattle.lines.proofs.Laying.{line_near}
 use Rattle.lines.proofs.put_line.Statement.{statement}
 use Rattle.lines.proofs.put_line.Tie as tie
 
@@ -18,7 +18,7 @@ same_length : tie.Need-same-length
 same_length c = search rules
 
 returns : tie.Need-returns
-returns c = let a = c.before.before.before.before.before.before.args in let p = c.before.before.put-short.ensures in (p.0, (p.1, λ h. line-near a.code a.number a.tag a.at _ p.0 h (omega arith)))
+returns c = let a = c.before.before.before.before.before.before.args in let p = c.before.before.put-short.ensures in (p.0, (p.1, λ h. line_near a.code a.number a.tag a.at _ p.0 h (omega arith)))
 
 put-long-requires : tie.Need-put-long-requires
 put-long-requires c κs = search rules
@@ -27,10 +27,10 @@ same-length-2 : tie.Need-same-length-2
 same-length-2 c = search rules
 
 returns-2 : tie.Need-returns-2
-returns-2 c = let a = c.before.before.before.before.before.before.args in let p = c.before.before.put-long.ensures in (p.0, (p.1, λ h. line-near a.code a.number a.tag a.at _ p.0 h (omega arith)))
+returns-2 c = let a = c.before.before.before.before.before.before.args in let p = c.before.before.put-long.ensures in (p.0, (p.1, λ h. line_near a.code a.number a.tag a.at _ p.0 h (omega arith)))
 
-pub put-line-spec : {M : Type 1} → statement M
-put-line-spec =
+pub put_line_spec : {M : Type 1} → statement M
+put_line_spec =
     tie.close
     (tie.spec
     cast-put-short

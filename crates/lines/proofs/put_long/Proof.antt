@@ -4,7 +4,7 @@ use Prim.Native.Nat.{◌+◌}
 use mathlib.Core.Path.{◌∙◌}
 use lib.ListN.{length-set}
 use Rattle.lines.specs.Lines.{line_of}
-use Rattle.lines.proofs.Laying.{in-past, in-laid, laid-line, line-length, spaced-size}
+use Rattle.lines.proofs.Laying.{in_past, in_laid, laid_line, line_length, spaced_size}
 use borrow.Author.Rules.{rules}
 use Rattle.lines.proofs.put_long.Statement.{statement}
 use Rattle.lines.proofs.put_long.Tie as tie
@@ -34,7 +34,7 @@ returns c =
     let first = a.at + c.before.before.width.result in
     let two = c.before.width2.ensures.0 in
     let second = first + 1 + c.before.width2.result in
-    in-past (line_of a.code a.number a.tag) a.at (second + 3) a.out.now (rw (line-length a.code a.number a.tag) (omega (arith, one, two))) c.if1.true
+    in_past (line_of a.code a.number a.tag) a.at (second + 3) a.out.now (rw (line_length a.code a.number a.tag) (omega (arith, one, two))) c.if1.true
 
 put-requires : tie.Need-put-requires
 put-requires c κs = search rules
@@ -61,7 +61,7 @@ put-tag-requires c κs =
     let second = first + 1 + c.before.before.before.before.before.before.before.before.before.before.width2.result in
     let p = c.before.before.before.before.before.before.before.put.ensures a.at (omega (arith, one)) in
     let q = c.before.before.before.put2.ensures (first + 1) (omega (arith, two)) in
-    let s = spaced-size a.code a.number a.tag a.at first second (second + 3) a.out.now _ _ a.out.now p q in
+    let s = spaced_size a.code a.number a.tag a.at first second (second + 3) a.out.now _ _ a.out.now p q in
     omega (arith, s)
 
 same_length : tie.Need-same-length
@@ -73,7 +73,7 @@ same_length c =
     let second = first + 1 + c.before.before.before.before.before.before.before.before.before.before.before.before.before.width2.result in
     let p = c.before.before.before.before.before.before.before.before.before.before.put.ensures a.at (omega (arith, one)) in
     let q = c.before.before.before.before.before.before.put2.ensures (first + 1) (omega (arith, two)) in
-    c.before.before.put-tag.ensures.size ∙ spaced-size a.code a.number a.tag a.at first second (second + 3) a.out.now _ _ a.out.now p q
+    c.before.before.put-tag.ensures.size ∙ spaced_size a.code a.number a.tag a.at first second (second + 3) a.out.now _ _ a.out.now p q
 
 returns-2 : tie.Need-returns-2
 returns-2 c =
@@ -84,11 +84,11 @@ returns-2 c =
     let second = first + 1 + c.before.before.before.before.before.before.before.before.before.before.before.before.before.width2.result in
     let p = c.before.before.before.before.before.before.before.before.before.before.put.ensures a.at (omega (arith, one)) in
     let q = c.before.before.before.before.before.before.put2.ensures (first + 1) (omega (arith, two)) in
-    in-laid (line_of a.code a.number a.tag) a.at (second + 3) a.out.now (omega arith)
-    (laid-line a.code a.number a.tag a.at first second (second + 3) a.out.now _ _ _ p (omega (arith, p.size)) q c.before.before.put-tag.ensures)
+    in_laid (line_of a.code a.number a.tag) a.at (second + 3) a.out.now (omega arith)
+    (laid_line a.code a.number a.tag a.at first second (second + 3) a.out.now _ _ _ p (omega (arith, p.size)) q c.before.before.put-tag.ensures)
 
-pub put-long-spec : {M : Type 1} → statement M
-put-long-spec =
+pub put_long_spec : {M : Type 1} → statement M
+put_long_spec =
     tie.close
     (tie.spec
     width-requires

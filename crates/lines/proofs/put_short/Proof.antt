@@ -4,7 +4,7 @@ use Prim.Native.Nat.{◌+◌}
 use mathlib.Core.Path.{refl, ◌∙◌}
 use lib.ListN.{length-set}
 use Rattle.lines.specs.Lines.{line_of}
-use Rattle.lines.proofs.Laying.{short-past, in-laid, laid-short, laid-three}
+use Rattle.lines.proofs.Laying.{short_past, in_laid, laid_short, laid_three}
 use borrow.Author.Rules.{rules}
 use Rattle.lines.proofs.put_short.Statement.{statement}
 use Rattle.lines.proofs.put_short.Tie as tie
@@ -13,7 +13,7 @@ add-end : tie.Need-overflow-add-end
 add-end c = search rules
 
 returns : tie.Need-returns
-returns c = let a = c.before.before.args in short-past a.code a.number a.tag a.at a.out.now c.before.before.requires.0 c.before.before.requires.1.0 c.if1.true
+returns c = let a = c.before.before.args in short_past a.code a.number a.tag a.at a.out.now c.before.before.requires.0 c.before.before.requires.1.0 c.if1.true
 
 add-out : tie.Need-overflow-add-out
 add-out c = search rules
@@ -46,10 +46,10 @@ same_length : tie.Need-same-length
 same_length c = c.before.before.put-tag.ensures.size ∙ simp length-set refl
 
 returns-2 : tie.Need-returns-2
-returns-2 c = let a = c.before.before.before.before.before.before.args in let p = c.before.before.before.before.before.before.requires in in-laid (line_of a.code a.number a.tag) a.at (a.at + 6) a.out.now (omega arith) (laid-short a.code a.number a.tag a.at a.out.now p.0 p.1.0 _ _ (laid-three (48 + a.code) 32 (48 + a.number) a.at a.out.now (omega arith)) c.before.before.put-tag.ensures)
+returns-2 c = let a = c.before.before.before.before.before.before.args in let p = c.before.before.before.before.before.before.requires in in_laid (line_of a.code a.number a.tag) a.at (a.at + 6) a.out.now (omega arith) (laid_short a.code a.number a.tag a.at a.out.now p.0 p.1.0 _ _ (laid_three (48 + a.code) 32 (48 + a.number) a.at a.out.now (omega arith)) c.before.before.put-tag.ensures)
 
-pub put-short-spec : {M : Type 1} → statement M
-put-short-spec =
+pub put_short_spec : {M : Type 1} → statement M
+put_short_spec =
     tie.close
     (tie.spec
     add-end

@@ -1,7 +1,7 @@
 -- `lines::put_tag` meets its contract. Three stores.
 use native.Mathlib.Omega.{arith}
 use lib.ListN.{length-set}
-use Rattle.lines.proofs.Laying.{laid-tag}
+use Rattle.lines.proofs.Laying.{laid_tag}
 use borrow.Author.Rules.{rules}
 use Rattle.lines.proofs.put_tag.Statement.{statement}
 use Rattle.lines.proofs.put_tag.Tie as tie
@@ -31,10 +31,10 @@ same_length : tie.Need-same-length
 same_length c = search rules
 
 returns : tie.Need-returns
-returns c = laid-tag c.before.before.args.tag c.byte.result c.before.before.args.at c.before.before.args.out.now c.byte.ensures.0 c.before.before.requires
+returns c = laid_tag c.before.before.args.tag c.byte.result c.before.before.args.at c.before.before.args.out.now c.byte.ensures.0 c.before.before.requires
 
-pub put-tag-spec : {M : Type 1} → statement M
-put-tag-spec =
+pub put_tag_spec : {M : Type 1} → statement M
+put_tag_spec =
     tie.close
     (tie.spec
     slice-write-out

@@ -32,8 +32,8 @@ same_length c = search rules
 returns : tie.Need-returns
 returns c = search rules
 
-pub put-two-spec : {M : Type 1} → statement M
-put-two-spec =
+pub put_two_spec : {M : Type 1} → statement M
+put_two_spec =
     tie.close
     (tie.spec
     cast-out

@@ -1,7 +1,7 @@
 -- `lines::width` meets its contract. The count goes up while the number is not below the count's power of ten.
 use Prim.Native.Nat.{◌-◌, ◌≤◌}
 use native.Mathlib.Omega.{arith}
-use Rattle.lines.proofs.Decimal.{Counted, counted-one, counted-all, counted-fits, counted_next, counted-most}
+use Rattle.lines.proofs.Decimal.{Counted, counted_one, counted_all, counted_fits, counted_next, counted_most}
 use Rattle.lines.proofs.width.Statement.{statement}
 use Rattle.lines.proofs.width.Tie as tie
 
@@ -12,13 +12,13 @@ abbrev decreases-loop : tie.decreases-loop
 decreases-loop n count₀ power₀ count power = 19 - count
 
 loop-holds : tie.Need-loop-init invariant-loop decreases-loop
-loop-holds c = counted-one c.args.n
+loop-holds c = counted_one c.args.n
 
 returns : tie.Need-returns invariant-loop decreases-loop
-returns c = let l = c.before.before.loop in (counted-all c.before.before.before.args.n l.count l.power l.invariant c.if1.true, omega (arith, l.invariant.most))
+returns c = let l = c.before.before.loop in (counted_all c.before.before.before.args.n l.count l.power l.invariant c.if1.true, omega (arith, l.invariant.most))
 
 mul_power : tie.Need-overflow-mul-power invariant-loop decreases-loop
-mul_power c = let l = c.before.before.loop in let p = counted-fits c.before.before.before.args.n l.count l.power l.invariant c.before.loop-test.true in omega (arith, p)
+mul_power c = let l = c.before.before.loop in let p = counted_fits c.before.before.before.args.n l.count l.power l.invariant c.before.loop-test.true in omega (arith, p)
 
 add-count : tie.Need-overflow-add-count invariant-loop decreases-loop
 add-count c = omega arith
@@ -32,12 +32,12 @@ loop-again c = let l = c.before.before.loop in counted_next c.before.before.befo
 returns-2 : tie.Need-returns-2 invariant-loop decreases-loop
 returns-2 c =
     let l = c.before.before.loop in
-    let e = counted-all c.before.before.before.args.n l.count l.power l.invariant c.if2.true in
+    let e = counted_all c.before.before.before.args.n l.count l.power l.invariant c.if2.true in
     let h = c.before.loop-test.false in
     (omega (arith, e, h, l.invariant.most), omega arith)
 
 returns-3 : tie.Need-returns-3 invariant-loop decreases-loop
-returns-3 c = let l = c.before.before.loop in (counted-most c.before.before.before.args.n l.count l.power l.invariant c.before.loop-test.false c.if2.false (omega arith), omega arith)
+returns-3 c = let l = c.before.before.loop in (counted_most c.before.before.before.args.n l.count l.power l.invariant c.before.loop-test.false c.if2.false (omega arith), omega arith)
 
 pub width_spec : {M : Type 1} → statement M
 width_spec =

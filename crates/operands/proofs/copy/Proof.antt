@@ -4,7 +4,7 @@ use Prim.Native.Nat.{◌≤◌, ◌-◌}
 use mathlib.Core.Path.{◌≡◌, ◌∙◌, refl}
 use lib.ListN.{length, length-set}
 use lib.Seq.{paste, paste-zero}
-use Rattle.operands.proofs.Lists.{one-copied, all-copied}
+use Rattle.operands.proofs.Lists.{one_copied, all_copied}
 use Rattle.operands.proofs.copy.Statement.{statement}
 use Rattle.operands.proofs.copy.Tie as tie
 
@@ -41,7 +41,7 @@ loop-again c =
     let loop = c.before.before.loop in (
       omega arith,
       simp length-set loop.invariant.1,
-      one-copied a.from.now a.to.now loop.to loop.i (omega arith)
+      one_copied a.from.now a.to.now loop.to loop.i (omega arith)
           (omega (arith, c.before.before.before.requires)) loop.invariant.2,
     )
 
@@ -52,7 +52,7 @@ returns : tie.Need-returns invariant-loop decreases-loop
 returns c =
     let a = c.before.before.args in
     let loop = c.before.loop in
-    loop.invariant.2 ∙ all-copied a.from.now a.to.now loop.i c.before.before.requires (omega arith)
+    loop.invariant.2 ∙ all_copied a.from.now a.to.now loop.i c.before.before.requires (omega arith)
 
 pub copy_spec : {M : Type 1} → statement M
 copy_spec =

@@ -1,12 +1,12 @@
 -- `operands::read_numbers` meets its contract: there is a call, whose numbers are copied, or none.
 use borrow.Author.Rules.{rules}
 use mathlib.Core.Path.{sym, ◌∙◌}
-use Rattle.operands.proofs.Answers.{other-count, call-numbered, none-numbered}
+use Rattle.operands.proofs.Answers.{other_count, call_numbered, none_numbered}
 use Rattle.operands.proofs.read_numbers.Statement.{statement}
 use Rattle.operands.proofs.read_numbers.Tie as tie
 
 returns : tie.Need-returns
-returns c = let a = c.before.before.before.args in other-count a.input.now a.at a.numbers.now c.if1.true
+returns c = let a = c.before.before.before.args in other_count a.input.now a.at a.numbers.now c.if1.true
 
 read-at-requires : tie.Need-read-at-requires
 read-at-requires c κs = search rules
@@ -34,17 +34,17 @@ returns-2 c =
     let n = c.before.before.before.before.before in
     let r = n.before.before.before.before in
     let a = r.before.before.before.before.args in
-    call-numbered a.input.now a.at a.numbers.now r.before.if1.false
+    call_numbered a.input.now a.at a.numbers.now r.before.if1.false
     (sym r.read_at.ensures.is ∙ n.before.before.call.given.1)
     (c.before.before.copy.ensures ∙ n.Numbers-of.ensures)
 
 returns-3 : tie.Need-returns-3
 returns-3 c =
     let a = c.before.before.before.before.before.before.args in
-    none-numbered a.input.now a.at a.numbers.now c.before.before.before.if1.false (sym c.before.before.read_at.ensures.is ∙ c.enum_told.given.1)
+    none_numbered a.input.now a.at a.numbers.now c.before.before.before.if1.false (sym c.before.before.read_at.ensures.is ∙ c.enum_told.given.1)
 
-pub read-numbers-spec : {M : Type 1} → statement M
-read-numbers-spec =
+pub read_numbers_spec : {M : Type 1} → statement M
+read_numbers_spec =
     tie.close
     (tie.spec
     returns

@@ -2,8 +2,8 @@
 use borrow.Author.Rules.{rules}
 use borrow.Author.Tests.{not-true, not-false}
 use mathlib.Core.Path.{sym, ap, ◌∙◌}
-use Rattle.calls.specs.Writer.{outcomeOf}
-use Rattle.operands.proofs.Answers.{tested, none_written, call-written}
+use Rattle.calls.specs.Writer.{outcome_of}
+use Rattle.operands.proofs.Answers.{tested, none_written, call_written}
 use Rattle.operands.proofs.write_numbers.Statement.{statement}
 use Rattle.operands.proofs.write_numbers.Tie as tie
 
@@ -43,10 +43,10 @@ returns-2 c =
     let w = c.before.before.before.before.before in
     let t = w.before.before.before in
     let a = t.before.before.before.before.before.before.args in
-    call-written a.numbers.now a.out.now
+    call_written a.numbers.now a.out.now
     (tested a.numbers.now t.before.before.before.call_from.ensures t.before.before.Numbers-of.ensures t.same.ensures ∙ not-false _ w.before.before.if1.false)
     t.before.before.before.call_from.ensures
-    (sym (ap (λ r. outcomeOf r w.write-call.new.1.0) c.before.len.given.1) ∙ w.write-call.ensures)
+    (sym (ap (λ r. outcome_of r w.write-call.new.1.0) c.before.len.given.1) ∙ w.write-call.ensures)
 
 same-length-2 : tie.Need-same-length-2
 same-length-2 c = search rules
@@ -56,13 +56,13 @@ returns-3 c =
     let w = c.before.before.before.before in
     let t = w.before.before.before in
     let a = t.before.before.before.before.before.before.args in
-    call-written a.numbers.now a.out.now
+    call_written a.numbers.now a.out.now
     (tested a.numbers.now t.before.before.before.call_from.ensures t.before.before.Numbers-of.ensures t.same.ensures ∙ not-false _ w.before.before.if1.false)
     t.before.before.before.call_from.ensures
-    (sym (ap (λ r. outcomeOf r w.write-call.new.1.0) c.enum_told.given.1) ∙ w.write-call.ensures)
+    (sym (ap (λ r. outcome_of r w.write-call.new.1.0) c.enum_told.given.1) ∙ w.write-call.ensures)
 
-pub write-numbers-spec : {M : Type 1} → statement M
-write-numbers-spec =
+pub write_numbers_spec : {M : Type 1} → statement M
+write_numbers_spec =
     tie.close
     (tie.spec
     call-from-requires

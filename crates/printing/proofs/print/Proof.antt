@@ -3,7 +3,7 @@ use native.Mathlib.Omega.{arith}
 use lib.ListN.{length}
 use borrow.Author.Rules.{rules}
 use Rattle.session_rules.specs.Session.{lines_of}
-use Rattle.session_rules.proofs.Sessions.{print-fits}
+use Rattle.session_rules.proofs.Sessions.{print_fits}
 use Rattle.printing.proofs.print.Statement.{statement}
 use Rattle.printing.proofs.print.Tie as tie
 
@@ -44,11 +44,11 @@ returns-3 c =
     let looked = c.before.before.before.before.before.looked-at.ensures.0 in
     let if1 = c.before.before.before.before.before.before.if1 in
     let a = c.before.before.before.before.before.before.before.before.before.args in
-    print-fits (lines_of a.input.now) a.out.now lines.result _ lines.ensures.0
+    print_fits (lines_of a.input.now) a.out.now lines.result _ lines.ensures.0
     (lines.ensures.1 (length a.out.now) if1.false (omega (arith, if2, looked)))
 
-pub print-spec : {M : Type 1} → statement M
-print-spec =
+pub print_spec : {M : Type 1} → statement M
+print_spec =
     tie.close
     (tie.spec
     print-counted-requires

@@ -2,7 +2,7 @@
 use native.Mathlib.Omega.{arith}
 use borrow.Author.Rules.{rules}
 use Rattle.session_rules.specs.Session.{lines_of}
-use Rattle.session_rules.proofs.Sessions.{print-fits, print-not}
+use Rattle.session_rules.proofs.Sessions.{print_fits, print_not}
 use Rattle.printing.proofs.print_counted.Statement.{statement}
 use Rattle.printing.proofs.print_counted.Tie as tie
 
@@ -16,7 +16,7 @@ returns : tie.Need-returns
 returns c =
     let lines = c.before.before.lines in
     let a = c.before.before.before.before.before.before.args in
-    print-not (lines_of a.input.now) a.out.now lines.result lines.ensures.0.ends c.if1.true
+    print_not (lines_of a.input.now) a.out.now lines.result lines.ensures.0.ends c.if1.true
 
 lines-requires-2 : tie.Need-lines-requires-2
 lines-requires-2 c κs = search rules
@@ -29,10 +29,10 @@ returns-2 c =
     let lines2 = c.before.before.lines2 in
     let lines = c.before.before.before.before.before.before.lines in
     let a = c.before.before.before.before.before.before.before.before.before.before.args in
-    print-fits (lines_of a.input.now) a.out.now lines2.result _ lines2.ensures.0
+    print_fits (lines_of a.input.now) a.out.now lines2.result _ lines2.ensures.0
     (let e = lines2.ensures.0.ends in let e₂ = lines.ensures.0.ends in omega (arith, e, e₂))
 
-pub print-counted-spec : {M : Type 1} → statement M
-print-counted-spec =
+pub print_counted_spec : {M : Type 1} → statement M
+print_counted_spec =
     tie.close
     (tie.spec slice-aggregate-lines lines-requires returns lines-requires-2 same_length returns-2)

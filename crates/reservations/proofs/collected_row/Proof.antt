@@ -6,5 +6,5 @@ use Rattle.reservations.proofs.collected_row.Tie as tie
 returns : tie.Need-returns
 returns c = refl
 
-pub collected-row-spec : {M : Type 1} → statement M
-collected-row-spec = tie.close (tie.spec returns)
+pub collected_row_spec : {M : Type 1} → statement M
+collected_row_spec = tie.close (tie.spec returns)

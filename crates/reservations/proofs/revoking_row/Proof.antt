@@ -9,5 +9,5 @@ revoking-taker-requires c κs = search rules
 returns : tie.Need-returns
 returns c = rw c.revoking-taker.ensures
 
-pub revoking-row-spec : {M : Type 1} → statement M
-revoking-row-spec = tie.close (tie.spec revoking-taker-requires returns)
+pub revoking_row_spec : {M : Type 1} → statement M
+revoking_row_spec = tie.close (tie.spec revoking-taker-requires returns)

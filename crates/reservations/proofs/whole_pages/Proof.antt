@@ -6,5 +6,5 @@ use Rattle.reservations.proofs.whole_pages.Tie as tie
 returns : tie.Need-returns
 returns c = refl
 
-pub whole-pages-spec : {M : Type 1} → statement M
-whole-pages-spec = tie.close (tie.spec returns)
+pub whole_pages_spec : {M : Type 1} → statement M
+whole_pages_spec = tie.close (tie.spec returns)

@@ -15,5 +15,5 @@ list-requires c κs = search rules
 returns : tie.Need-returns
 returns c = fills (replicate 5043 0) c.before.list.result c.before.list.new.0 (length-replicate {A = ℕ} 5043 0) c.before.list.ensures
 
-pub lines-spec : {M : Type 1} → statement M
-lines-spec = tie.close (tie.spec slice-aggregate-list list-requires returns)
+pub lines_spec : {M : Type 1} → statement M
+lines_spec = tie.close (tie.spec slice-aggregate-list list-requires returns)

@@ -1,7 +1,7 @@
 -- `step::command` meets its contract. The bytes read as a call, which the step does, or as none.
 use mathlib.Core.Path.{◌≡◌, sym, ap, ◌∙◌}
 use Rattle.arrays.specs.Reading.{arrays}
-use Rattle.step.proofs.Commanding.{fitting, command-reads, command-none}
+use Rattle.step.proofs.Commanding.{fitting, command_reads, command_none}
 use borrow.Author.Rules.{rules}
 use Rattle.step.proofs.command.Statement.{statement}
 use Rattle.step.proofs.command.Tie as tie
@@ -64,17 +64,17 @@ returns c formed fits =
     let a = c.before.before.before.before.before.before.before.before.before.before.before.before.before.before.before.before.before.before.before.before.before.before.before.before.before.before.before.before.before.before.before.before.before.before.before.before.before.before.before.before.before.before.before.before.before.before.before.before.before.before.before.before.args in
     let read = sym c.before.before.before.before.before.before.before.before.before.before.before.before.before.before.before.before.before.before.before.before.before.before.before.before.before.before.before.before.before.before.before.before.before.before.before.before.before.before.before.read_at.ensures.is ∙ c.before.before.before.before.before.before.before.before.before.before.before.before.before.before.before.before.before.before.before.before.before.before.before.before.before.before.before.before.before.before.before.before.before.before.before.before.before.call.given.1 in
     let m = arrays a.nums a.words.now a.marks.now a.mail.now a.flags.now a.rows.now a.pages.now a.frames.now a.principals.now a.counts.now in
-    command-reads m a.cells.now a.tags.now (fitting m a.cells.now a.tags.now fits.0 fits.1) a.input.now a.at _ _ read _ (c.before.before.before.before.before.before.before.before.before.before.before.before.before.before.before.before.before.before.before.before.before.before.before.before.step.ensures formed fits)
+    command_reads m a.cells.now a.tags.now (fitting m a.cells.now a.tags.now fits.0 fits.1) a.input.now a.at _ _ read _ (c.before.before.before.before.before.before.before.before.before.before.before.before.before.before.before.before.before.before.before.before.before.before.before.before.step.ensures formed fits)
 
 returns-2 : tie.Need-returns-2
 returns-2 c formed fits =
     let a = c.before.before.before.before.before.before.before.before.before.before.before.before.before.before.before.before.args in
     let read = sym c.before.before.before.read_at.ensures.is ∙ c.before.enum_told.given.1 in
     let m = arrays a.nums a.words.now a.marks.now a.mail.now a.flags.now a.rows.now a.pages.now a.frames.now a.principals.now a.counts.now in
-    rw c.coded.ensures (command-none m a.cells.now a.tags.now (fitting m a.cells.now a.tags.now fits.0 fits.1) a.input.now a.at formed read)
+    rw c.coded.ensures (command_none m a.cells.now a.tags.now (fitting m a.cells.now a.tags.now fits.0 fits.1) a.input.now a.at formed read)
 
-pub command-spec : {M : Type 1} → statement M
-command-spec =
+pub command_spec : {M : Type 1} → statement M
+command_spec =
     tie.close
     (tie.spec
     read-at-requires

@@ -1,8 +1,8 @@
 -- `step::step` meets its contract. Each kind of call is done by one function, whose promise is the step's for that kind.
 use mathlib.Core.Path.{refl}
 use Rattle.arrays.specs.Reading.{arrays, state_of}
-use Rattle.step.specs.Entries.{ruledOn}
-use Rattle.calls_in_place.proofs.Tabling.{take-plain}
+use Rattle.step.specs.Entries.{ruled_on}
+use Rattle.calls_in_place.proofs.Tabling.{take_plain}
 use borrow.Author.Rules.{rules}
 use Rattle.step.proofs.step.Statement.{statement}
 use Rattle.step.proofs.step.Tie as tie
@@ -12,16 +12,16 @@ use Rattle.calls_in_place.proofs.claim_calls.create.Reads as create-reads
 use Rattle.calls_in_place.proofs.claim_calls.claim.Reads as claim-reads
 use Rattle.calls_in_place.proofs.claim_calls.release.Reads as release-reads
 use Rattle.calls_in_place.proofs.claim_calls.destroy.Reads as destroy-reads
-use Rattle.calls_in_place.proofs.collect_calls.collect.Reads as collect-reads
+use Rattle.calls_in_place.proofs.collect_calls.collect.Reads as collect_reads
 use Rattle.calls_in_place.proofs.page_calls.map.Reads as map-reads
 use Rattle.calls_in_place.proofs.page_calls.unmap.Reads as unmap-reads
 use Rattle.calls_in_place.proofs.page_calls.zero.Reads as zero-reads
-use Rattle.calls_in_place.proofs.revoke_calls.revoke.Reads as revoke-reads
+use Rattle.calls_in_place.proofs.revoke_calls.revoke.Reads as revoke_reads
 use Rattle.step.proofs.on.Reads as on-reads
 use Rattle.calls_in_place.proofs.sweep_calls.sweep.Reads as sweep-reads
 use Rattle.calls_in_place.proofs.table_calls.give.Reads as give-reads
-use Rattle.calls_in_place.proofs.table_calls.merge.Reads as merge-reads
-use Rattle.calls_in_place.proofs.table_calls.split.Reads as split-reads
+use Rattle.calls_in_place.proofs.table_calls.merge.Reads as merge_reads
+use Rattle.calls_in_place.proofs.table_calls.split.Reads as split_reads
 use Rattle.calls_in_place.proofs.table_calls.take.Reads as take-reads
 use Rattle.calls_in_place.proofs.word_calls.grant.Reads as grant-reads
 use Rattle.calls_in_place.proofs.word_calls.load.Reads as load-reads
@@ -208,17 +208,17 @@ same-length-3 : tie.Need-same-length-3
 same-length-3 c = search rules
 
 returns : tie.Need-returns
-unfolding ruledOn
+unfolding ruled_on
 returns c formed fits =
     let a = c.before.before.before.before.before.before.before.before.before.before.before.before.before.before.before.before.before.before.before.before.before.before.before.before.args in
     let m = arrays a.nums a.words.now a.marks.now a.mail.now a.flags.now a.rows.now a.pages.now a.frames.now a.principals.now a.counts.now in
-    rw c.before.before.before.before.before.before.before.before.before.before.before.call.given.1 (take-plain (state_of m) _ _ _ a.cells.now a.tags.now _ (c.before.before.before.before.before.before.take.ensures m formed a.cells.now a.tags.now))
+    rw c.before.before.before.before.before.before.before.before.before.before.before.call.given.1 (take_plain (state_of m) _ _ _ a.cells.now a.tags.now _ (c.before.before.before.before.before.before.take.ensures m formed a.cells.now a.tags.now))
 
 same-length-4 : tie.Need-same-length-4
 same-length-4 c = search rules
 
 returns-2 : tie.Need-returns-2
-unfolding ruledOn
+unfolding ruled_on
 returns-2 c formed fits =
     let a = c.before.before.before.before.before.before.before.before.before.before.before.before.before.before.before.before.before.before.args in
     let m = arrays a.nums a.words.now a.marks.now a.mail.now a.flags.now a.rows.now a.pages.now a.frames.now a.principals.now a.counts.now in
@@ -228,7 +228,7 @@ same-length-5 : tie.Need-same-length-5
 same-length-5 c = search rules
 
 returns-3 : tie.Need-returns-3
-unfolding ruledOn
+unfolding ruled_on
 returns-3 c formed fits =
     let a = c.before.before.before.before.before.before.before.before.before.before.before.before.before.before.before.before.before.before.args in
     let m = arrays a.nums a.words.now a.marks.now a.mail.now a.flags.now a.rows.now a.pages.now a.frames.now a.principals.now a.counts.now in
@@ -238,7 +238,7 @@ same-length-6 : tie.Need-same-length-6
 same-length-6 c = search rules
 
 returns-4 : tie.Need-returns-4
-unfolding ruledOn
+unfolding ruled_on
 returns-4 c formed fits =
     let a = c.before.before.before.before.before.before.before.before.before.before.before.before.before.before.before.before.before.before.before.args in
     let m = arrays a.nums a.words.now a.marks.now a.mail.now a.flags.now a.rows.now a.pages.now a.frames.now a.principals.now a.counts.now in
@@ -251,7 +251,7 @@ same-length-8 : tie.Need-same-length-8
 same-length-8 c = search rules
 
 returns-5 : tie.Need-returns-5
-unfolding ruledOn
+unfolding ruled_on
 returns-5 c formed fits =
     let a = c.before.before.before.before.before.before.before.before.before.before.before.before.before.before.before.before.before.before.before.before.before.args in
     let m = arrays a.nums a.words.now a.marks.now a.mail.now a.flags.now a.rows.now a.pages.now a.frames.now a.principals.now a.counts.now in
@@ -267,7 +267,7 @@ same-length-11 : tie.Need-same-length-11
 same-length-11 c = search rules
 
 returns-6 : tie.Need-returns-6
-unfolding ruledOn
+unfolding ruled_on
 returns-6 c formed fits =
     let a = c.before.before.before.before.before.before.before.before.before.before.before.before.before.before.before.before.before.before.before.before.args in
     let m = arrays a.nums a.words.now a.marks.now a.mail.now a.flags.now a.rows.now a.pages.now a.frames.now a.principals.now a.counts.now in
@@ -292,7 +292,7 @@ same-length-17 : tie.Need-same-length-17
 same-length-17 c = search rules
 
 returns-7 : tie.Need-returns-7
-unfolding ruledOn
+unfolding ruled_on
 returns-7 c formed fits =
     let a = c.before.before.before.before.before.before.before.before.before.before.before.before.before.before.before.before.before.before.before.before.before.before.before.before.before.before.before.before.before.before.before.args in
     let m = arrays a.nums a.words.now a.marks.now a.mail.now a.flags.now a.rows.now a.pages.now a.frames.now a.principals.now a.counts.now in
@@ -305,7 +305,7 @@ same-length-19 : tie.Need-same-length-19
 same-length-19 c = search rules
 
 returns-8 : tie.Need-returns-8
-unfolding ruledOn
+unfolding ruled_on
 returns-8 c formed fits =
     let a = c.before.before.before.before.before.before.before.before.before.before.before.before.before.before.before.before.before.before.before.before.before.before.args in
     let m = arrays a.nums a.words.now a.marks.now a.mail.now a.flags.now a.rows.now a.pages.now a.frames.now a.principals.now a.counts.now in
@@ -321,7 +321,7 @@ same-length-22 : tie.Need-same-length-22
 same-length-22 c = search rules
 
 returns-9 : tie.Need-returns-9
-unfolding ruledOn
+unfolding ruled_on
 returns-9 c formed fits =
     let a = c.before.before.before.before.before.before.before.before.before.before.before.before.before.before.before.before.before.before.before.before.before.before.before.args in
     let m = arrays a.nums a.words.now a.marks.now a.mail.now a.flags.now a.rows.now a.pages.now a.frames.now a.principals.now a.counts.now in
@@ -337,7 +337,7 @@ same-length-25 : tie.Need-same-length-25
 same-length-25 c = search rules
 
 returns-10 : tie.Need-returns-10
-unfolding ruledOn
+unfolding ruled_on
 returns-10 c formed fits =
     let a = c.before.before.before.before.before.before.before.before.before.before.before.before.before.before.before.before.before.before.before.before.before.before.before.before.before.args in
     let m = arrays a.nums a.words.now a.marks.now a.mail.now a.flags.now a.rows.now a.pages.now a.frames.now a.principals.now a.counts.now in
@@ -359,7 +359,7 @@ same-length-30 : tie.Need-same-length-30
 same-length-30 c = search rules
 
 returns-11 : tie.Need-returns-11
-unfolding ruledOn
+unfolding ruled_on
 returns-11 c formed fits =
     let a = c.before.before.before.before.before.before.before.before.before.before.before.before.before.before.before.before.before.before.before.before.before.before.before.before.before.args in
     let m = arrays a.nums a.words.now a.marks.now a.mail.now a.flags.now a.rows.now a.pages.now a.frames.now a.principals.now a.counts.now in
@@ -381,7 +381,7 @@ same-length-35 : tie.Need-same-length-35
 same-length-35 c = search rules
 
 returns-12 : tie.Need-returns-12
-unfolding ruledOn
+unfolding ruled_on
 returns-12 c formed fits =
     let a = c.before.before.before.before.before.before.before.before.before.before.before.before.before.before.before.before.before.before.before.before.before.before.before.before.before.args in
     let m = arrays a.nums a.words.now a.marks.now a.mail.now a.flags.now a.rows.now a.pages.now a.frames.now a.principals.now a.counts.now in
@@ -394,7 +394,7 @@ same-length-37 : tie.Need-same-length-37
 same-length-37 c = search rules
 
 returns-13 : tie.Need-returns-13
-unfolding ruledOn
+unfolding ruled_on
 returns-13 c formed fits =
     let a = c.before.before.before.before.before.before.before.before.before.before.before.before.before.before.before.before.before.before.before.before.before.before.args in
     let m = arrays a.nums a.words.now a.marks.now a.mail.now a.flags.now a.rows.now a.pages.now a.frames.now a.principals.now a.counts.now in
@@ -407,7 +407,7 @@ same-length-39 : tie.Need-same-length-39
 same-length-39 c = search rules
 
 returns-14 : tie.Need-returns-14
-unfolding ruledOn
+unfolding ruled_on
 returns-14 c formed fits =
     let a = c.before.before.before.before.before.before.before.before.before.before.before.before.before.before.before.before.before.before.before.before.before.before.args in
     let m = arrays a.nums a.words.now a.marks.now a.mail.now a.flags.now a.rows.now a.pages.now a.frames.now a.principals.now a.counts.now in
@@ -426,7 +426,7 @@ same-length-43 : tie.Need-same-length-43
 same-length-43 c = search rules
 
 returns-15 : tie.Need-returns-15
-unfolding ruledOn
+unfolding ruled_on
 returns-15 c formed fits =
     let a = c.before.before.before.before.before.before.before.before.before.before.before.before.before.before.before.before.before.before.before.before.before.before.before.before.args in
     let m = arrays a.nums a.words.now a.marks.now a.mail.now a.flags.now a.rows.now a.pages.now a.frames.now a.principals.now a.counts.now in
@@ -445,7 +445,7 @@ same-length-47 : tie.Need-same-length-47
 same-length-47 c = search rules
 
 returns-16 : tie.Need-returns-16
-unfolding ruledOn
+unfolding ruled_on
 returns-16 c formed fits =
     let a = c.before.before.before.before.before.before.before.before.before.before.before.before.before.before.before.before.before.before.before.before.before.before.before.before.before.before.before.before.args in
     let m = arrays a.nums a.words.now a.marks.now a.mail.now a.flags.now a.rows.now a.pages.now a.frames.now a.principals.now a.counts.now in
@@ -461,7 +461,7 @@ same-length-50 : tie.Need-same-length-50
 same-length-50 c = search rules
 
 returns-17 : tie.Need-returns-17
-unfolding ruledOn
+unfolding ruled_on
 returns-17 c formed fits =
     let a = c.before.before.before.before.before.before.before.before.before.before.before.before.before.before.before.before.before.before.before.before.before.before.before.before.args in
     let m = arrays a.nums a.words.now a.marks.now a.mail.now a.flags.now a.rows.now a.pages.now a.frames.now a.principals.now a.counts.now in
@@ -471,7 +471,7 @@ same-length-51 : tie.Need-same-length-51
 same-length-51 c = search rules
 
 returns-18 : tie.Need-returns-18
-unfolding ruledOn
+unfolding ruled_on
 returns-18 c formed fits =
     let a = c.before.before.before.before.before.before.before.before.before.before.before.before.before.before.before.before.before.before.before.args in
     let m = arrays a.nums a.words.now a.marks.now a.mail.now a.flags.now a.rows.now a.pages.now a.frames.now a.principals.now a.counts.now in
@@ -484,7 +484,7 @@ same-length-53 : tie.Need-same-length-53
 same-length-53 c = search rules
 
 returns-19 : tie.Need-returns-19
-unfolding ruledOn
+unfolding ruled_on
 returns-19 c formed fits =
     let a = c.before.before.before.before.before.before.before.before.before.before.before.before.before.before.before.before.before.before.before.before.before.before.args in
     let m = arrays a.nums a.words.now a.marks.now a.mail.now a.flags.now a.rows.now a.pages.now a.frames.now a.principals.now a.counts.now in
@@ -497,7 +497,7 @@ same-length-55 : tie.Need-same-length-55
 same-length-55 c = search rules
 
 returns-20 : tie.Need-returns-20
-unfolding ruledOn
+unfolding ruled_on
 returns-20 c formed fits =
     let a = c.before.before.before.before.before.before.before.before.before.before.before.before.before.before.before.before.before.before.before.before.before.before.args in
     let m = arrays a.nums a.words.now a.marks.now a.mail.now a.flags.now a.rows.now a.pages.now a.frames.now a.principals.now a.counts.now in
@@ -510,7 +510,7 @@ same-length-57 : tie.Need-same-length-57
 same-length-57 c = search rules
 
 returns-21 : tie.Need-returns-21
-unfolding ruledOn
+unfolding ruled_on
 returns-21 c formed fits =
     let a = c.before.before.before.before.before.before.before.before.before.before.before.before.before.before.before.before.before.before.before.before.before.before.args in
     let m = arrays a.nums a.words.now a.marks.now a.mail.now a.flags.now a.rows.now a.pages.now a.frames.now a.principals.now a.counts.now in

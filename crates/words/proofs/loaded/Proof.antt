@@ -12,5 +12,5 @@ keep-tag-requires c κs = search rules
 returns : tie.Need-returns
 returns c = rw (c.keep-tag.ensures, c.before.may-load-capability.ensures)
 
-pub loaded-spec : {M : Type 1} → statement M
-loaded-spec = tie.close (tie.spec may-load-capability-requires keep-tag-requires returns)
+pub loaded_spec : {M : Type 1} → statement M
+loaded_spec = tie.close (tie.spec may-load-capability-requires keep-tag-requires returns)

@@ -71,8 +71,8 @@ returns-21 c = search rules
 returns-22 : tie.Need-returns-22
 returns-22 c = no_length c.before.args.command c.match.rest
 
-pub length-of-spec : {M : Type 1} → statement M
-length-of-spec =
+pub length_of_spec : {M : Type 1} → statement M
+length_of_spec =
     tie.close
     (tie.spec
     returns

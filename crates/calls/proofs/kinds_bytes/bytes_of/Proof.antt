@@ -2,7 +2,7 @@
 -- In each arm the call is of the arm's kind, so that kind's own function answers.
 use borrow.Author.Rules.{rules}
 use Rattle.calls.specs.Commands.{bytes_of, padded}
-use Rattle.calls.proofs.Cases.{in-case}
+use Rattle.calls.proofs.Cases.{in_case}
 use Rattle.calls.proofs.kinds_bytes.bytes_of.Statement.{statement}
 use Rattle.calls.proofs.kinds_bytes.bytes_of.Tie as tie
 
@@ -133,70 +133,70 @@ destroy-bytes-requires : tie.Need-destroy-bytes-requires
 destroy-bytes-requires c κs = search rules
 
 returns : tie.Need-returns
-returns c = in-case (λ call. padded (bytes_of call)) c.before.before.call.given.1 c.take-bytes.ensures
+returns c = in_case (λ call. padded (bytes_of call)) c.before.before.call.given.1 c.take-bytes.ensures
 
 returns-2 : tie.Need-returns-2
-returns-2 c = in-case (λ call. padded (bytes_of call)) c.before.before.call2.given.1 c.split-bytes.ensures
+returns-2 c = in_case (λ call. padded (bytes_of call)) c.before.before.call2.given.1 c.split-bytes.ensures
 
 returns-3 : tie.Need-returns-3
-returns-3 c = in-case (λ call. padded (bytes_of call)) c.before.before.call3.given.1 c.merge-bytes.ensures
+returns-3 c = in_case (λ call. padded (bytes_of call)) c.before.before.call3.given.1 c.merge-bytes.ensures
 
 returns-4 : tie.Need-returns-4
-returns-4 c = in-case (λ call. padded (bytes_of call)) c.before.before.call4.given.1 c.give-bytes.ensures
+returns-4 c = in_case (λ call. padded (bytes_of call)) c.before.before.call4.given.1 c.give-bytes.ensures
 
 returns-5 : tie.Need-returns-5
-returns-5 c = in-case (λ call. padded (bytes_of call)) c.before.before.call5.given.1 c.revoke-bytes.ensures
+returns-5 c = in_case (λ call. padded (bytes_of call)) c.before.before.call5.given.1 c.revoke-bytes.ensures
 
 returns-6 : tie.Need-returns-6
-returns-6 c = in-case (λ call. padded (bytes_of call)) c.before.before.call6.given.1 c.sweep-bytes.ensures
+returns-6 c = in_case (λ call. padded (bytes_of call)) c.before.before.call6.given.1 c.sweep-bytes.ensures
 
 returns-7 : tie.Need-returns-7
-returns-7 c = in-case (λ call. padded (bytes_of call)) c.before.before.call7.given.1 c.collect-bytes.ensures
+returns-7 c = in_case (λ call. padded (bytes_of call)) c.before.before.call7.given.1 c.collect-bytes.ensures
 
 returns-8 : tie.Need-returns-8
-returns-8 c = in-case (λ call. padded (bytes_of call)) c.before.before.call8.given.1 c.map-bytes.ensures
+returns-8 c = in_case (λ call. padded (bytes_of call)) c.before.before.call8.given.1 c.map-bytes.ensures
 
 returns-9 : tie.Need-returns-9
-returns-9 c = in-case (λ call. padded (bytes_of call)) c.before.before.call9.given.1 c.unmap-bytes.ensures
+returns-9 c = in_case (λ call. padded (bytes_of call)) c.before.before.call9.given.1 c.unmap-bytes.ensures
 
 returns-10 : tie.Need-returns-10
-returns-10 c = in-case (λ call. padded (bytes_of call)) c.before.before.call10.given.1 c.zero-bytes.ensures
+returns-10 c = in_case (λ call. padded (bytes_of call)) c.before.before.call10.given.1 c.zero-bytes.ensures
 
 returns-11 : tie.Need-returns-11
-returns-11 c = in-case (λ call. padded (bytes_of call)) c.before.before.call11.given.1 c.load-bytes.ensures
+returns-11 c = in_case (λ call. padded (bytes_of call)) c.before.before.call11.given.1 c.load-bytes.ensures
 
 returns-12 : tie.Need-returns-12
-returns-12 c = in-case (λ call. padded (bytes_of call)) c.before.before.call12.given.1 c.store_Bytes.ensures
+returns-12 c = in_case (λ call. padded (bytes_of call)) c.before.before.call12.given.1 c.store_Bytes.ensures
 
 returns-13 : tie.Need-returns-13
-returns-13 c = in-case (λ call. padded (bytes_of call)) c.before.before.call13.given.1 c.narrow-bytes.ensures
+returns-13 c = in_case (λ call. padded (bytes_of call)) c.before.before.call13.given.1 c.narrow-bytes.ensures
 
 returns-14 : tie.Need-returns-14
-returns-14 c = in-case (λ call. padded (bytes_of call)) c.before.before.call14.given.1 c.number-bytes.ensures
+returns-14 c = in_case (λ call. padded (bytes_of call)) c.before.before.call14.given.1 c.number-bytes.ensures
 
 returns-15 : tie.Need-returns-15
-returns-15 c = in-case (λ call. padded (bytes_of call)) c.before.before.call15.given.1 c.grant-bytes.ensures
+returns-15 c = in_case (λ call. padded (bytes_of call)) c.before.before.call15.given.1 c.grant-bytes.ensures
 
 returns-16 : tie.Need-returns-16
-returns-16 c = in-case (λ call. padded (bytes_of call)) c.before.before.call16.given.1 c.receive-bytes.ensures
+returns-16 c = in_case (λ call. padded (bytes_of call)) c.before.before.call16.given.1 c.receive-bytes.ensures
 
 returns-17 : tie.Need-returns-17
-returns-17 c = in-case (λ call. padded (bytes_of call)) c.before.before.call17.given.1 c.take-masked-bytes.ensures
+returns-17 c = in_case (λ call. padded (bytes_of call)) c.before.before.call17.given.1 c.take-masked-bytes.ensures
 
 returns-18 : tie.Need-returns-18
-returns-18 c = in-case (λ call. padded (bytes_of call)) c.before.before.call18.given.1 c.create-bytes.ensures
+returns-18 c = in_case (λ call. padded (bytes_of call)) c.before.before.call18.given.1 c.create-bytes.ensures
 
 returns-19 : tie.Need-returns-19
-returns-19 c = in-case (λ call. padded (bytes_of call)) c.before.before.call19.given.1 c.claim-bytes.ensures
+returns-19 c = in_case (λ call. padded (bytes_of call)) c.before.before.call19.given.1 c.claim-bytes.ensures
 
 returns-20 : tie.Need-returns-20
-returns-20 c = in-case (λ call. padded (bytes_of call)) c.before.before.call20.given.1 c.release-bytes.ensures
+returns-20 c = in_case (λ call. padded (bytes_of call)) c.before.before.call20.given.1 c.release-bytes.ensures
 
 returns-21 : tie.Need-returns-21
-returns-21 c = in-case (λ call. padded (bytes_of call)) c.before.before.call21.given.1 c.destroy-bytes.ensures
+returns-21 c = in_case (λ call. padded (bytes_of call)) c.before.before.call21.given.1 c.destroy-bytes.ensures
 
-pub bytes-of-spec : {M : Type 1} → statement M
-bytes-of-spec =
+pub bytes_of_spec : {M : Type 1} → statement M
+bytes_of_spec =
     tie.close
     (tie.spec
     enum-known-call

@@ -13,5 +13,5 @@ low-requires c κs = search rules
 returns : tie.Need-returns
 returns c = simp (c.low.ensures, c.before.high.ensures)
 
-pub create-bytes-spec : {M : Type 1} → statement M
-create-bytes-spec = tie.close (tie.spec high-requires low-requires returns)
+pub create_bytes_spec : {M : Type 1} → statement M
+create_bytes_spec = tie.close (tie.spec high-requires low-requires returns)

@@ -13,5 +13,5 @@ low-requires c κs = search rules
 returns : tie.Need-returns
 returns c = simp (c.low.ensures, c.before.high.ensures)
 
-pub load-bytes-spec : {M : Type 1} → statement M
-load-bytes-spec = tie.close (tie.spec high-requires low-requires returns)
+pub load_bytes_spec : {M : Type 1} → statement M
+load_bytes_spec = tie.close (tie.spec high-requires low-requires returns)

@@ -19,8 +19,8 @@ low-requires-2 c κs = search rules
 returns : tie.Need-returns
 returns c = simp (c.low2.ensures, c.before.high2.ensures, c.before.before.low.ensures, c.before.before.before.high.ensures)
 
-pub narrow-bytes-spec : {M : Type 1} → statement M
-narrow-bytes-spec =
+pub narrow_bytes_spec : {M : Type 1} → statement M
+narrow_bytes_spec =
     tie.close
     (tie.spec
     high-requires

@@ -32,8 +32,8 @@ lowest-requires-8 c κs = search rules
 returns : tie.Need-returns
 returns c = simp (c.lowest8.ensures, c.before.lowest7.ensures, c.before.before.lowest6.ensures, c.before.before.before.lowest5.ensures, c.before.before.before.before.lowest4.ensures, c.before.before.before.before.before.lowest3.ensures, c.before.before.before.before.before.before.lowest2.ensures, c.before.before.before.before.before.before.before.lowest.ensures, top_digit c.before.before.before.before.before.before.before.before.args.value c.before.before.before.before.before.before.before.before.ranges.value.fits)
 
-pub number-bytes-spec : {M : Type 1} → statement M
-number-bytes-spec =
+pub number_bytes_spec : {M : Type 1} → statement M
+number_bytes_spec =
     tie.close
     (tie.spec
     lowest-requires

@@ -19,8 +19,8 @@ low-requires-2 c κs = search rules
 returns : tie.Need-returns
 returns c = simp (c.low2.ensures, c.before.high2.ensures, c.before.before.low.ensures, c.before.before.before.high.ensures)
 
-pub split-bytes-spec : {M : Type 1} → statement M
-split-bytes-spec =
+pub split_bytes_spec : {M : Type 1} → statement M
+split_bytes_spec =
     tie.close
     (tie.spec
     high-requires

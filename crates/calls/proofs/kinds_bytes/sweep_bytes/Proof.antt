@@ -13,5 +13,5 @@ low-requires c κs = search rules
 returns : tie.Need-returns
 returns c = simp (c.low.ensures, c.before.high.ensures)
 
-pub sweep-bytes-spec : {M : Type 1} → statement M
-sweep-bytes-spec = tie.close (tie.spec high-requires low-requires returns)
+pub sweep_bytes_spec : {M : Type 1} → statement M
+sweep_bytes_spec = tie.close (tie.spec high-requires low-requires returns)

@@ -13,5 +13,5 @@ low-requires c κs = search rules
 returns : tie.Need-returns
 returns c = simp (c.low.ensures, c.before.high.ensures)
 
-pub take-bytes-spec : {M : Type 1} → statement M
-take-bytes-spec = tie.close (tie.spec high-requires low-requires returns)
+pub take_bytes_spec : {M : Type 1} → statement M
+take_bytes_spec = tie.close (tie.spec high-requires low-requires returns)

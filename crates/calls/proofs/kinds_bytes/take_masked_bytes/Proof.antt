@@ -13,5 +13,5 @@ low-requires c κs = search rules
 returns : tie.Need-returns
 returns c = simp (c.low.ensures, c.before.high.ensures)
 
-pub take-masked-bytes-spec : {M : Type 1} → statement M
-take-masked-bytes-spec = tie.close (tie.spec high-requires low-requires returns)
+pub take_masked_bytes_spec : {M : Type 1} → statement M
+take_masked_bytes_spec = tie.close (tie.spec high-requires low-requires returns)

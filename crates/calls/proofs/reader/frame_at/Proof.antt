@@ -11,8 +11,8 @@ byte-in-requires c κs = search rules
 returns : tie.Need-returns
 returns c = ap frame c.byte-in.ensures
 
-pub frame-at-spec : {M : Type 1} → statement M
-frame-at-spec =
+pub frame_at_spec : {M : Type 1} → statement M
+frame_at_spec =
     tie.close
     (tie.spec
     byte-in-requires

@@ -11,8 +11,8 @@ byte-in-requires c κs = search rules
 returns : tie.Need-returns
 returns c = ap page c.byte-in.ensures
 
-pub page-at-spec : {M : Type 1} → statement M
-page-at-spec =
+pub page_at_spec : {M : Type 1} → statement M
+page_at_spec =
     tie.close
     (tie.spec
     byte-in-requires

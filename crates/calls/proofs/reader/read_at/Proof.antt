@@ -36,8 +36,8 @@ returns-2 c =
     (simp length-drop (omega arith)))
     c.read-call.ensures
 
-pub read-at-spec : {M : Type 1} → statement M
-read-at-spec =
+pub read_at_spec : {M : Type 1} → statement M
+read_at_spec =
     tie.close
     (tie.spec
     returns

@@ -28,8 +28,8 @@ add-result c = search rules
 returns : tie.Need-returns
 returns c = in_order c.before.byte-in.ensures c.byte-in2.ensures
 
-pub two-at-spec : {M : Type 1} → statement M
-two-at-spec =
+pub two_at_spec : {M : Type 1} → statement M
+two_at_spec =
     tie.close
     (tie.spec
     byte-in-requires

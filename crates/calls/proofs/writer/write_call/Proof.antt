@@ -46,8 +46,8 @@ returns-2 c =
     c.before.before.before.before.before.if1.false
     c.before.before.copy.ensures.1
 
-pub write-call-spec : {M : Type 1} → statement M
-write-call-spec =
+pub write_call_spec : {M : Type 1} → statement M
+write_call_spec =
     tie.close
     (tie.spec
     bytes-of-requires

@@ -1,6 +1,6 @@
 -- `calls_in_place::claim_calls::claim` meets its contract: 4 and 12 first, then the claims' own.
-use Rattle.arrays.specs.Steps.{withClaims}
-use Rattle.calls_in_place.proofs.Claiming.{claim-early, claim-left}
+use Rattle.arrays.specs.Steps.{with_claims}
+use Rattle.calls_in_place.proofs.Claiming.{claim_early, claim_left}
 use borrow.Author.Rules.{rules}
 use Rattle.calls_in_place.proofs.claim_calls.claim.Statement.{statement}
 use Rattle.calls_in_place.proofs.claim_calls.claim.Tie as tie
@@ -15,7 +15,7 @@ returns : tie.Need-returns
 returns c =
     let a = c.before.before.before.before.before.args in
     let early = c.before.before.early-code in
-    λ m ev f cells tags. rw c.coded.ensures (claim-early (withClaims m a.principals.now a.counts.now) f cells tags a.v ev a.party a.principal a.page early.result early.ensures c.before.if1.true)
+    λ m ev f cells tags. rw c.coded.ensures (claim_early (with_claims m a.principals.now a.counts.now) f cells tags a.v ev a.party a.principal a.page early.result early.ensures c.before.if1.true)
 
 page-number-requires : tie.Need-page-number-requires
 page-number-requires c κs = search rules
@@ -38,10 +38,10 @@ returns-2 c =
     let early = c.before.before.before.before.before.before.before.before.before.before.early-code in
     let at = c.before.before.before.before.before.before.before.before.page-number in
     let call = c.before.before.before.before.before.claim in
-    λ m ev f cells tags. rw c.coded2.ensures (claim-left (withClaims m a.principals.now a.counts.now) f cells tags a.v ev a.party a.principal a.page early.result early.ensures c.before.before.before.before.before.before.before.before.before.if1.false at.result at.ensures call.result _ _ call.ensures.0 call.ensures.1.0 call.ensures.1.1)
+    λ m ev f cells tags. rw c.coded2.ensures (claim_left (with_claims m a.principals.now a.counts.now) f cells tags a.v ev a.party a.principal a.page early.result early.ensures c.before.before.before.before.before.before.before.before.before.if1.false at.result at.ensures call.result _ _ call.ensures.0 call.ensures.1.0 call.ensures.1.1)
 
-pub claim-spec : {M : Type 1} → statement M
-claim-spec =
+pub claim_spec : {M : Type 1} → statement M
+claim_spec =
     tie.close
     (tie.spec
     early-code-requires

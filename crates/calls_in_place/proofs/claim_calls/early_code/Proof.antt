@@ -16,8 +16,8 @@ returns : tie.Need-returns
 returns c =
     rw (c.first2.ensures, c.before.first.ensures)
 
-pub early-code-spec : {M : Type 1} → statement M
-early-code-spec =
+pub early_code_spec : {M : Type 1} → statement M
+early_code_spec =
     tie.close
     (tie.spec
     cast-first

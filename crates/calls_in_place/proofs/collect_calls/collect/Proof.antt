@@ -1,10 +1,10 @@
--- `calls_in_place::collect_calls::collect` meets its contract. Refused by `collect-down`; granted, its callees leave the arrays that `collect-done` names.
+-- `calls_in_place::collect_calls::collect` meets its contract. Refused by `collect_down`; granted, its callees leave the arrays that `collect_done` names.
 use borrow.Author.Rules.{rules}
 use mathlib.Core.Path.{ap, ◌∙◌}
 use Rattle.capabilities.specs.Lists.{pick}
-use Rattle.words.specs.WordReasons.{unnamed, notManager}
+use Rattle.words.specs.WordReasons.{unnamed, not_manager}
 use Rattle.arrays.specs.Reading.{arrays}
-use Rattle.calls_in_place.proofs.Collecting.{collect-down, collect-done}
+use Rattle.calls_in_place.proofs.Collecting.{collect_down, collect_done}
 use Rattle.calls_in_place.proofs.collect_calls.collect.Statement.{statement}
 use Rattle.calls_in_place.proofs.collect_calls.collect.Tie as tie
 
@@ -27,8 +27,8 @@ returns : tie.Need-returns
 returns c =
     let a = c.before.before.before.before.before.before.before.before.before.before.before.before.before.args in
     λ frames principals counts f cells tags. rw c.coded.ensures
-    (collect-down (arrays a.nums a.words.now a.marks.now a.mail.now a.flags.now a.rows.now a.pages.now frames principals counts) f a.party c.before.before.manager-code.result
-    (c.before.before.manager-code.ensures ∙ ap (λ k. pick (unnamed a.party) 4 (pick (notManager a.party) 5 k)) c.before.before.before.first.ensures) cells tags c.before.if1.true)
+    (collect_down (arrays a.nums a.words.now a.marks.now a.mail.now a.flags.now a.rows.now a.pages.now frames principals counts) f a.party c.before.before.manager-code.result
+    (c.before.before.manager-code.ensures ∙ ap (λ k. pick (unnamed a.party) 4 (pick (not_manager a.party) 5 k)) c.before.before.before.first.ensures) cells tags c.before.if1.true)
 
 collect-words-requires : tie.Need-collect-words-requires
 collect-words-requires c κs = search rules
@@ -66,11 +66,11 @@ returns-2 c =
     let left = c.before.before.before.before.before.before.collect.ensures in
     let mail = c.before.before.before.before.before.before.before.before.before.before.before.before.before.collect-mail.ensures in
     λ frames principals counts f cells tags. rw (c.granted.ensures, c.before.empty.ensures, left.0, left.1.0, mail.0, mail.1, c.before.before.before.before.before.before.before.before.before.before.before.before.before.before.before.before.before.before.collect-words.ensures)
-    (collect-done (arrays a.nums a.words.now a.marks.now a.mail.now a.flags.now a.rows.now a.pages.now frames principals counts) f a.party c.before.before.before.before.before.before.before.before.before.before.before.before.before.before.before.before.before.before.before.before.before.manager-code.result
-    (c.before.before.before.before.before.before.before.before.before.before.before.before.before.before.before.before.before.before.before.before.before.manager-code.ensures ∙ ap (λ k. pick (unnamed a.party) 4 (pick (notManager a.party) 5 k)) c.before.before.before.before.before.before.before.before.before.before.before.before.before.before.before.before.before.before.before.before.before.before.first.ensures) cells tags c.before.before.before.before.before.before.before.before.before.before.before.before.before.before.before.before.before.before.before.before.if1.false)
+    (collect_done (arrays a.nums a.words.now a.marks.now a.mail.now a.flags.now a.rows.now a.pages.now frames principals counts) f a.party c.before.before.before.before.before.before.before.before.before.before.before.before.before.before.before.before.before.before.before.before.before.manager-code.result
+    (c.before.before.before.before.before.before.before.before.before.before.before.before.before.before.before.before.before.before.before.before.before.manager-code.ensures ∙ ap (λ k. pick (unnamed a.party) 4 (pick (not_manager a.party) 5 k)) c.before.before.before.before.before.before.before.before.before.before.before.before.before.before.before.before.before.before.before.before.before.before.first.ensures) cells tags c.before.before.before.before.before.before.before.before.before.before.before.before.before.before.before.before.before.before.before.before.if1.false)
 
-pub collect-spec : {M : Type 1} → statement M
-collect-spec =
+pub collect_spec : {M : Type 1} → statement M
+collect_spec =
     tie.close
     (tie.spec
     cast-end

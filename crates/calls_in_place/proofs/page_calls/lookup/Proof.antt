@@ -10,5 +10,5 @@ lookup-requires c κs = search rules
 returns : tie.Need-returns
 returns c = c.lookup.ensures 0 []
 
-pub lookup-spec : {M : Type 1} → statement M
-lookup-spec = tie.close (tie.spec lookup-requires returns)
+pub lookup_spec : {M : Type 1} → statement M
+lookup_spec = tie.close (tie.spec lookup-requires returns)

@@ -1,8 +1,8 @@
 -- `calls_in_place::page_calls::unmap` meets its contract: 4 and 5 first, then the layer's own.
 use mathlib.Core.Path.{◌≡◌, refl, sym, ap, ◌∙◌}
-use Rattle.claims.specs.Lent.{anyCounts}
-use Rattle.arrays.specs.Steps.{withPages}
-use Rattle.calls_in_place.proofs.Mapping.{unmap-early, unmap-left}
+use Rattle.claims.specs.Lent.{any_counts}
+use Rattle.arrays.specs.Steps.{with_pages}
+use Rattle.calls_in_place.proofs.Mapping.{unmap_early, unmap_left}
 use borrow.Author.Rules.{rules}
 use Rattle.calls_in_place.proofs.page_calls.unmap.Statement.{statement}
 use Rattle.calls_in_place.proofs.page_calls.unmap.Tie as tie
@@ -17,7 +17,7 @@ returns : tie.Need-returns
 returns c =
     let a = c.before.before.before.before.before.before.args in
     let early = c.before.before.manager-code in
-    λ m ev eh ec f cells tags. rw c.coded.ensures (unmap-early (withPages m a.pages.now a.frames.now) f a.party early.result early.ensures cells tags a.page c.before.if1.true)
+    λ m ev eh ec f cells tags. rw c.coded.ensures (unmap_early (with_pages m a.pages.now a.frames.now) f a.party early.result early.ensures cells tags a.page c.before.if1.true)
 
 page-number-requires : tie.Need-page-number-requires
 page-number-requires c κs = search rules
@@ -44,10 +44,10 @@ returns-2 c =
     let at = c.before.before.before.before.before.before.before.before.before.page-number in
     let any = c.before.before.before.before.before.before.before.before.any-counts in
     let call = c.before.before.before.before.before.unmap in
-    λ m ev eh ec f cells tags. rw c.coded2.ensures (unmap-left (withPages m a.pages.now a.frames.now) f a.party early.result early.ensures cells tags a.nums.v a.nums.f ev eh c.before.before.before.before.before.before.before.before.before.before.if1.false call.result a.page at.result at.ensures any.result (any.ensures ∙ ap (λ n. anyCounts 32 n at.result) (sym ec)) (call.ensures.0 a.nums.f) _ _ call.ensures.1.0 call.ensures.1.1)
+    λ m ev eh ec f cells tags. rw c.coded2.ensures (unmap_left (with_pages m a.pages.now a.frames.now) f a.party early.result early.ensures cells tags a.nums.v a.nums.f ev eh c.before.before.before.before.before.before.before.before.before.before.if1.false call.result a.page at.result at.ensures any.result (any.ensures ∙ ap (λ n. any_counts 32 n at.result) (sym ec)) (call.ensures.0 a.nums.f) _ _ call.ensures.1.0 call.ensures.1.1)
 
-pub unmap-spec : {M : Type 1} → statement M
-unmap-spec =
+pub unmap_spec : {M : Type 1} → statement M
+unmap_spec =
     tie.close
     (tie.spec
     manager-code-requires

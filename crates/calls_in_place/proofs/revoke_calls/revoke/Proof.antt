@@ -1,7 +1,7 @@
--- `calls_in_place::revoke_calls::revoke` meets its contract. Refused by `revoke-down`; granted, rows and pages are left as `revoke-done` names them.
+-- `calls_in_place::revoke_calls::revoke` meets its contract. Refused by `revoke_down`; granted, rows and pages are left as `revoke_done` names them.
 use borrow.Author.Rules.{rules}
 use Rattle.calls_in_place.specs.Parts.{around}
-use Rattle.calls_in_place.proofs.Revoking.{revoke-down, revoke-done}
+use Rattle.calls_in_place.proofs.Revoking.{revoke_down, revoke_done}
 use Rattle.calls_in_place.proofs.revoke_calls.revoke.Statement.{statement}
 use Rattle.calls_in_place.proofs.revoke_calls.revoke.Tie as tie
 
@@ -27,7 +27,7 @@ returns : tie.Need-returns
 returns c =
     let a = c.before.before.before.before.before.before.before.before.before.before.before.args in
     λ m f cells tags. rw c.coded.ensures
-    (revoke-down (around m a.nums a.rows.now a.pages.now) f a.party a.base c.before.before.before.before.before.before.before.find.result c.before.before.before.before.before.before.before.find.ensures
+    (revoke_down (around m a.nums a.rows.now a.pages.now) f a.party a.base c.before.before.before.before.before.before.before.find.result c.before.before.before.before.before.before.before.find.ensures
     c.before.before.before.revoke-code.result (c.before.before.before.revoke-code.ensures a.nums.v a.nums.f m.frames) c.before.before.manager-code.result c.before.before.manager-code.ensures cells tags c.before.if1.true)
 
 revoke-requires : tie.Need-revoke-requires
@@ -50,11 +50,11 @@ returns-2 c =
     let a = c.before.before.before.before.before.before.before.before.before.before.before.before.before.before.before.before.before.before.before.args in
     let left = c.before.before.before.before.before.before.revoke.ensures in
     λ m f cells tags. rw (c.granted.ensures, c.before.empty.ensures, left.0, left.1.0, left.1.1.0)
-    (revoke-done (around m a.nums a.rows.now a.pages.now) f a.party a.base c.before.before.before.before.before.before.before.before.before.before.before.before.before.before.before.find.result c.before.before.before.before.before.before.before.before.before.before.before.before.before.before.before.find.ensures
+    (revoke_done (around m a.nums a.rows.now a.pages.now) f a.party a.base c.before.before.before.before.before.before.before.before.before.before.before.before.before.before.before.find.result c.before.before.before.before.before.before.before.before.before.before.before.before.before.before.before.find.ensures
     c.before.before.before.before.before.before.before.before.before.before.before.revoke-code.result (c.before.before.before.before.before.before.before.before.before.before.before.revoke-code.ensures a.nums.v a.nums.f m.frames) c.before.before.before.before.before.before.before.before.before.before.manager-code.result c.before.before.before.before.before.before.before.before.before.before.manager-code.ensures cells tags c.before.before.before.before.before.before.before.before.before.if1.false)
 
-pub revoke-spec : {M : Type 1} → statement M
-revoke-spec =
+pub revoke_spec : {M : Type 1} → statement M
+revoke_spec =
     tie.close
     (tie.spec
     find-requires

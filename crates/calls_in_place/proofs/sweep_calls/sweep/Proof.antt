@@ -1,9 +1,9 @@
--- `calls_in_place::sweep_calls::sweep` meets its contract. Refused by `sweep-down`; granted, `sweep_in` leaves what `sweep-done` names.
+-- `calls_in_place::sweep_calls::sweep` meets its contract. Refused by `sweep_down`; granted, `sweep_in` leaves what `sweep_done` names.
 use mathlib.Core.Path.{◌≡◌, refl, sym, ap, ◌∙◌}
 use Rattle.capabilities.specs.Lists.{pick}
-use Rattle.words.specs.WordReasons.{unnamed, notManager}
-use Rattle.calls_in_place.specs.Parts.{withNumbers}
-use Rattle.calls_in_place.proofs.Sweeping.{sweep-down, sweep-done}
+use Rattle.words.specs.WordReasons.{unnamed, not_manager}
+use Rattle.calls_in_place.specs.Parts.{with_numbers}
+use Rattle.calls_in_place.proofs.Sweeping.{sweep_down, sweep_done}
 use borrow.Author.Rules.{rules}
 use Rattle.calls_in_place.proofs.sweep_calls.sweep.Statement.{statement}
 use Rattle.calls_in_place.proofs.sweep_calls.sweep.Tie as tie
@@ -25,7 +25,7 @@ coded-requires : tie.Need-coded-requires
 coded-requires c κs = search rules
 
 returns : tie.Need-returns
-returns c = λ m ef lc lt f. rw c.coded.ensures (sweep-down (withNumbers m c.before.before.before.before.before.before.before.before.args.nums) f c.before.before.before.before.before.before.before.before.args.party c.before.before.before.before.before.before.before.before.args.n c.before.before.manager-code.result (c.before.before.manager-code.ensures ∙ ap (λ k. pick (unnamed c.before.before.before.before.before.before.before.before.args.party) 4 (pick (notManager c.before.before.before.before.before.before.before.before.args.party) 5 k)) c.before.before.before.first.ensures) c.before.before.before.before.before.before.before.before.args.cells.now c.before.before.before.before.before.before.before.before.args.tags.now c.before.if1.true)
+returns c = λ m ef lc lt f. rw c.coded.ensures (sweep_down (with_numbers m c.before.before.before.before.before.before.before.before.args.nums) f c.before.before.before.before.before.before.before.before.args.party c.before.before.before.before.before.before.before.before.args.n c.before.before.manager-code.result (c.before.before.manager-code.ensures ∙ ap (λ k. pick (unnamed c.before.before.before.before.before.before.before.before.args.party) 4 (pick (not_manager c.before.before.before.before.before.before.before.before.args.party) 5 k)) c.before.before.before.first.ensures) c.before.before.before.before.before.before.before.before.args.cells.now c.before.before.before.before.before.before.before.before.args.tags.now c.before.if1.true)
 
 sweep-in-requires : tie.Need-sweep-in-requires
 sweep-in-requires c κs = search rules
@@ -40,10 +40,10 @@ same_length : tie.Need-same-length
 same_length c = search rules
 
 returns-2 : tie.Need-returns-2
-returns-2 c = λ m ef lc lt f. rw c.granted.ensures (sweep-done (withNumbers m c.before.before.before.before.before.before.before.before.before.before.before.before.before.args.nums) f c.before.before.before.before.before.before.before.before.before.before.before.before.before.args.party c.before.before.before.before.before.before.before.before.before.before.before.before.before.args.n c.before.before.before.before.before.before.before.manager-code.result (c.before.before.before.before.before.before.before.manager-code.ensures ∙ ap (λ k. pick (unnamed c.before.before.before.before.before.before.before.before.before.before.before.before.before.args.party) 4 (pick (notManager c.before.before.before.before.before.before.before.before.before.before.before.before.before.args.party) 5 k)) c.before.before.before.before.before.before.before.before.first.ensures) c.before.before.before.before.before.before.before.before.before.before.before.before.before.args.cells.now c.before.before.before.before.before.before.before.before.before.before.before.before.before.args.tags.now c.before.before.before.before.before.before.if1.false lc lt c.before.before.before.before.before.before.before.before.before.before.before.before.before.args.frames.now ef c.before.before.before.before.sweep-in.result _ (c.before.before.before.before.sweep-in.ensures c.before.before.before.before.before.before.before.before.before.before.before.before.before.args.nums.v m.pages))
+returns-2 c = λ m ef lc lt f. rw c.granted.ensures (sweep_done (with_numbers m c.before.before.before.before.before.before.before.before.before.before.before.before.before.args.nums) f c.before.before.before.before.before.before.before.before.before.before.before.before.before.args.party c.before.before.before.before.before.before.before.before.before.before.before.before.before.args.n c.before.before.before.before.before.before.before.manager-code.result (c.before.before.before.before.before.before.before.manager-code.ensures ∙ ap (λ k. pick (unnamed c.before.before.before.before.before.before.before.before.before.before.before.before.before.args.party) 4 (pick (not_manager c.before.before.before.before.before.before.before.before.before.before.before.before.before.args.party) 5 k)) c.before.before.before.before.before.before.before.before.first.ensures) c.before.before.before.before.before.before.before.before.before.before.before.before.before.args.cells.now c.before.before.before.before.before.before.before.before.before.before.before.before.before.args.tags.now c.before.before.before.before.before.before.if1.false lc lt c.before.before.before.before.before.before.before.before.before.before.before.before.before.args.frames.now ef c.before.before.before.before.sweep-in.result _ (c.before.before.before.before.sweep-in.ensures c.before.before.before.before.before.before.before.before.before.before.before.before.before.args.nums.v m.pages))
 
-pub sweep-spec : {M : Type 1} → statement M
-sweep-spec =
+pub sweep_spec : {M : Type 1} → statement M
+sweep_spec =
     tie.close
     (tie.spec
     first-requires

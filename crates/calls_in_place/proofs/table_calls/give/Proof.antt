@@ -1,7 +1,7 @@
 -- Refused under 4, or else what the table's own call leaves, which is the rule's table written.
-use Rattle.arrays.specs.Steps.{withRows}
-use Rattle.calls_in_place.proofs.Tabling.{give-unknown, give-judged}
-use Rattle.table.proofs.Numbered.{give-leaves}
+use Rattle.arrays.specs.Steps.{with_rows}
+use Rattle.calls_in_place.proofs.Tabling.{give_unknown, give_judged}
+use Rattle.table.proofs.Numbered.{give_leaves}
 use borrow.Author.Rules.{rules}
 use Rattle.calls_in_place.proofs.table_calls.give.Statement.{statement}
 use Rattle.calls_in_place.proofs.table_calls.give.Tie as tie
@@ -16,7 +16,7 @@ coded-requires c κs = search rules
 returns : tie.Need-returns
 returns c =
     let a = c.before.before.before.args in
-    λ m ec f cells tags. rw c.coded.ensures (give-unknown (withRows m a.rows.now) f a.count ec a.party a.base a.to cells tags c.before.if1.true)
+    λ m ec f cells tags. rw c.coded.ensures (give_unknown (with_rows m a.rows.now) f a.count ec a.party a.base a.to cells tags c.before.if1.true)
 
 give-requires : tie.Need-give-requires
 give-requires c κs = search rules
@@ -30,7 +30,7 @@ same_length c = search rules
 returns-2 : tie.Need-returns-2
 returns-2 c =
     let a = c.before.before.before.before.before.before.before.args in
-    λ m ec f cells tags. rw c.coded2.ensures (give-judged (withRows m a.rows.now) f a.count ec a.party a.base a.to cells tags c.before.before.before.before.before.if1.false _ _ (give-leaves a.rows.now _ a.count a.party a.base a.to c.before.before.before.before.before.before.before.ranges.to.fits _ c.before.before.before.give.ensures.0 c.before.before.before.give.ensures.1))
+    λ m ec f cells tags. rw c.coded2.ensures (give_judged (with_rows m a.rows.now) f a.count ec a.party a.base a.to cells tags c.before.before.before.before.before.if1.false _ _ (give_leaves a.rows.now _ a.count a.party a.base a.to c.before.before.before.before.before.before.before.ranges.to.fits _ c.before.before.before.give.ensures.0 c.before.before.before.give.ensures.1))
 
 pub give_spec : {M : Type 1} → statement M
 give_spec =

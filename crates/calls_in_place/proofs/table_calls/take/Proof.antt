@@ -1,9 +1,9 @@
 -- Refused under 4, or else what the table's own call leaves, which is the rule's table written with the register put beside it.
 use mathlib.Core.Path.{refl, ap}
 use Rattle.table.specs.declared.TakeAnswer.{TakeAnswer}
-use Rattle.table.proofs.Numbered.{take-leaves}
-use Rattle.arrays.specs.Steps.{withTable, with_words}
-use Rattle.calls_in_place.proofs.Tabling.{take-unknown, take-down, take_done}
+use Rattle.table.proofs.Numbered.{take_leaves}
+use Rattle.arrays.specs.Steps.{with_table, with_words}
+use Rattle.calls_in_place.proofs.Tabling.{take_unknown, take_down, take_done}
 use borrow.Author.Rules.{rules}
 use Rattle.calls_in_place.proofs.table_calls.take.Statement.{statement}
 use Rattle.calls_in_place.proofs.table_calls.take.Tie as tie
@@ -22,7 +22,7 @@ coded-requires c κs = search rules
 returns : tie.Need-returns
 returns c =
     let a = c.before.before.before.before.before.args in
-    λ m f cells tags. rw c.coded.ensures (take-unknown (withTable (with_words m a.words.now a.marks.now) a.nums a.rows.now) f a.nums.count refl a.party a.base a.reg a.mask cells tags c.before.if1.true)
+    λ m f cells tags. rw c.coded.ensures (take_unknown (with_table (with_words m a.words.now a.marks.now) a.nums a.rows.now) f a.nums.count refl a.party a.base a.reg a.mask cells tags c.before.if1.true)
 
 take-requires : tie.Need-take-requires
 take-requires c κs = search rules
@@ -36,7 +36,7 @@ same_length c = search rules
 returns-2 : tie.Need-returns-2
 returns-2 c =
     let a = c.before.before.before.before.before.before.before.before.before.before.before.args in
-    λ m f cells tags. rw c.coded2.ensures (take-down (withTable (with_words m a.words.now a.marks.now) a.nums a.rows.now) f a.nums.count refl a.party a.base a.reg a.mask cells tags c.before.before.before.before.before.before.before.if1.false _ _ (take-leaves a.rows.now _ a.nums.count a.party a.base c.before.before.before.before.before.before.before.before.before.before.before.ranges.party.fits _ c.before.before.before.before.before.take.ensures.0 c.before.before.before.before.before.take.ensures.1) c.before.if2.true)
+    λ m f cells tags. rw c.coded2.ensures (take_down (with_table (with_words m a.words.now a.marks.now) a.nums a.rows.now) f a.nums.count refl a.party a.base a.reg a.mask cells tags c.before.before.before.before.before.before.before.if1.false _ _ (take_leaves a.rows.now _ a.nums.count a.party a.base c.before.before.before.before.before.before.before.before.before.before.before.ranges.party.fits _ c.before.before.before.before.before.take.ensures.0 c.before.before.before.before.before.take.ensures.1) c.before.if2.true)
 
 mul_at : tie.Need-overflow-mul-at
 mul_at c = search rules
@@ -73,7 +73,7 @@ returns-3 c =
     let a = c.before.before.before.before.before.before.before.before.before.before.before.before.before.before.before.before.before.before.before.before.before.args in
     let put = c.before.before.before.before.before.before.put_word.ensures in
     λ m f cells tags. rw (c.granted.ensures, put.0, put.1, c.before.before.before.before.before.before.before.before.before.capability.ensures, c.before.before.before.before.before.before.before.before.before.before.permitted.ensures)
-    (take_done (withTable (with_words m a.words.now a.marks.now) a.nums a.rows.now) f a.nums.count refl a.party a.base a.reg a.mask cells tags c.before.before.before.before.before.before.before.before.before.before.before.before.before.before.before.before.before.if1.false _ _ (take-leaves a.rows.now _ a.nums.count a.party a.base c.before.before.before.before.before.before.before.before.before.before.before.before.before.before.before.before.before.before.before.before.before.ranges.party.fits _ c.before.before.before.before.before.before.before.before.before.before.before.before.before.before.before.take.ensures.0 c.before.before.before.before.before.before.before.before.before.before.before.before.before.before.before.take.ensures.1) _ (ap (λ (r : TakeAnswer). r.length) c.before.before.before.before.before.before.before.before.before.before.before.before.before.before.before.take.ensures.0) c.before.before.before.before.before.before.before.before.before.before.before.if2.false)
+    (take_done (with_table (with_words m a.words.now a.marks.now) a.nums a.rows.now) f a.nums.count refl a.party a.base a.reg a.mask cells tags c.before.before.before.before.before.before.before.before.before.before.before.before.before.before.before.before.before.if1.false _ _ (take_leaves a.rows.now _ a.nums.count a.party a.base c.before.before.before.before.before.before.before.before.before.before.before.before.before.before.before.before.before.before.before.before.before.ranges.party.fits _ c.before.before.before.before.before.before.before.before.before.before.before.before.before.before.before.take.ensures.0 c.before.before.before.before.before.before.before.before.before.before.before.before.before.before.before.take.ensures.1) _ (ap (λ (r : TakeAnswer). r.length) c.before.before.before.before.before.before.before.before.before.before.before.before.before.before.before.take.ensures.0) c.before.before.before.before.before.before.before.before.before.before.before.if2.false)
 
 pub take_spec : {M : Type 1} → statement M
 take_spec =

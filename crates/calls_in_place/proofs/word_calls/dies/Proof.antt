@@ -9,5 +9,5 @@ dies-requires c κs = search rules
 returns : tie.Need-returns
 returns c = c.dies.ensures
 
-pub dies-spec : {M : Type 1} → statement M
-dies-spec = tie.close (tie.spec dies-requires returns)
+pub dies_spec : {M : Type 1} → statement M
+dies_spec = tie.close (tie.spec dies-requires returns)

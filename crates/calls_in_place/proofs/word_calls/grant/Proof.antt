@@ -1,7 +1,7 @@
 -- `calls_in_place::word_calls::grant` meets its contract: the laws of 0F, one for each return.
 use mathlib.Core.Path.{◌≡◌, refl, sym, ap, ◌∙◌}
-use Rattle.arrays.specs.Steps.{with_words, withMail, withMails}
-use Rattle.calls_in_place.proofs.Mailing.{grant-down, grant-done}
+use Rattle.arrays.specs.Steps.{with_words, with_mail, with_mails}
+use Rattle.calls_in_place.proofs.Mailing.{grant_down, grant_done}
 use borrow.Author.Rules.{rules}
 use Rattle.calls_in_place.proofs.word_calls.grant.Statement.{statement}
 use Rattle.calls_in_place.proofs.word_calls.grant.Tie as tie
@@ -30,7 +30,7 @@ returns c =
     let from = c.before.before.before.before.before.before.register-in in
     let here = c.before.before.before.word-at in
     let code = c.before.before.grant-code in
-    λ m f cells tags. rw c.coded.ensures (grant-down (withMails m a.words.now a.marks.now a.mail.now a.flags.now) f a.party a.s a.to from.result here.result from.ensures here.ensures code.result code.ensures cells tags c.before.if1.true)
+    λ m f cells tags. rw c.coded.ensures (grant_down (with_mails m a.words.now a.marks.now a.mail.now a.flags.now) f a.party a.s a.to from.result here.result from.ensures here.ensures code.result code.ensures cells tags c.before.if1.true)
 
 put-word-requires : tie.Need-put-word-requires
 put-word-requires c κs = search rules
@@ -54,10 +54,10 @@ returns-2 c =
     let here = c.before.before.before.before.before.before.before.before.before.before.before.word-at in
     let code = c.before.before.before.before.before.before.before.before.before.before.grant-code in
     let put = c.before.before.before.before.before.before.put_word.ensures in
-    λ m f cells tags. rw (c.granted.ensures, c.before.empty.ensures, put.0, put.1) (grant-done (withMails m a.words.now a.marks.now a.mail.now a.flags.now) f a.party a.s a.to from.result here.result from.ensures here.ensures code.result code.ensures cells tags c.before.before.before.before.before.before.before.before.before.if1.false)
+    λ m f cells tags. rw (c.granted.ensures, c.before.empty.ensures, put.0, put.1) (grant_done (with_mails m a.words.now a.marks.now a.mail.now a.flags.now) f a.party a.s a.to from.result here.result from.ensures here.ensures code.result code.ensures cells tags c.before.before.before.before.before.before.before.before.before.if1.false)
 
-pub grant-spec : {M : Type 1} → statement M
-grant-spec =
+pub grant_spec : {M : Type 1} → statement M
+grant_spec =
     tie.close
     (tie.spec
     register-in-requires

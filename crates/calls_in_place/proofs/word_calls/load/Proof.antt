@@ -1,8 +1,8 @@
 use mathlib.Core.Path.{◌≡◌, refl, sym, ap, ◌∙◌}
 use Prim.Native.Nat.{◌+◌}
-use Rattle.calls_in_place.specs.Parts.{lookupIn}
-use Rattle.arrays.specs.Steps.{with_words, withPages, withRows}
-use Rattle.calls_in_place.proofs.Loading.{load-down, load-done}
+use Rattle.calls_in_place.specs.Parts.{lookup_in}
+use Rattle.arrays.specs.Steps.{with_words, with_pages, with_rows}
+use Rattle.calls_in_place.proofs.Loading.{load_down, load_done}
 use borrow.Author.Rules.{rules}
 use Rattle.calls_in_place.proofs.word_calls.load.Statement.{statement}
 use Rattle.calls_in_place.proofs.word_calls.load.Tie as tie
@@ -41,7 +41,7 @@ returns c =
     let base = c.before.before.before.before.base-of in
     let place = c.before.before.before.lookup in
     let code = c.before.before.load_code in
-    λ m en ep f. rw c.coded.ensures (load-down (with_words m a.words.now a.marks.now) f a.nums a.pages.now en ep a.party a.a a.off a.d from.result place.result from.ensures (place.ensures ∙ ap (λ n. lookupIn a.nums.v a.pages.now (n + a.off)) base.ensures) code.result code.ensures a.cells.now a.tags.now c.before.if1.true)
+    λ m en ep f. rw c.coded.ensures (load_down (with_words m a.words.now a.marks.now) f a.nums a.pages.now en ep a.party a.a a.off a.d from.result place.result from.ensures (place.ensures ∙ ap (λ n. lookup_in a.nums.v a.pages.now (n + a.off)) base.ensures) code.result code.ensures a.cells.now a.tags.now c.before.if1.true)
 
 place-number-requires : tie.Need-place-number-requires
 place-number-requires c κs = search rules
@@ -86,7 +86,7 @@ returns-2 c =
     let loaded = c.before.before.before.before.before.before.before.before.loaded in
     let put = c.before.before.before.before.before.put_word.ensures in
     λ m en ep f. rw (c.granted.ensures, put.0, put.1)
-    (load-done (with_words m a.words.now a.marks.now) f a.nums a.pages.now en ep a.party a.a a.off a.d from.result place.result from.ensures (place.ensures ∙ ap (λ n. lookupIn a.nums.v a.pages.now (n + a.off)) base.ensures) code.result code.ensures a.cells.now a.tags.now c.before.before.before.before.before.before.before.before.before.before.before.before.if1.false word.result loaded.result (rw (word.ensures, at.ensures)) (rw (loaded.ensures, dies.ensures)))
+    (load_done (with_words m a.words.now a.marks.now) f a.nums a.pages.now en ep a.party a.a a.off a.d from.result place.result from.ensures (place.ensures ∙ ap (λ n. lookup_in a.nums.v a.pages.now (n + a.off)) base.ensures) code.result code.ensures a.cells.now a.tags.now c.before.before.before.before.before.before.before.before.before.before.before.before.if1.false word.result loaded.result (rw (word.ensures, at.ensures)) (rw (loaded.ensures, dies.ensures)))
 
 pub load_spec : {M : Type 1} → statement M
 load_spec =

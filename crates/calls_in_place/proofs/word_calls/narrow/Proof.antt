@@ -1,7 +1,7 @@
 -- `calls_in_place::word_calls::narrow` meets its contract: the laws of 0D, one for each return.
 use mathlib.Core.Path.{◌≡◌, refl, sym, ap, ◌∙◌}
-use Rattle.arrays.specs.Steps.{with_words, withMail, withMails}
-use Rattle.calls_in_place.proofs.Narrowing.{narrow-down, narrow-done}
+use Rattle.arrays.specs.Steps.{with_words, with_mail, with_mails}
+use Rattle.calls_in_place.proofs.Narrowing.{narrow_down, narrow_done}
 use borrow.Author.Rules.{rules}
 use Rattle.calls_in_place.proofs.word_calls.narrow.Statement.{statement}
 use Rattle.calls_in_place.proofs.word_calls.narrow.Tie as tie
@@ -26,7 +26,7 @@ returns c =
     let a = c.before.before.before.before.before.before.before.before.args in
     let from = c.before.before.before.register-in in
     let code = c.before.before.narrow-code in
-    λ m f cells tags. rw c.coded.ensures (narrow-down (with_words m a.words.now a.marks.now) f a.party a.s a.off a.len a.mask a.d from.result from.ensures code.result code.ensures cells tags c.before.if1.true)
+    λ m f cells tags. rw c.coded.ensures (narrow_down (with_words m a.words.now a.marks.now) f a.party a.s a.off a.len a.mask a.d from.result from.ensures code.result code.ensures cells tags c.before.if1.true)
 
 mul_at : tie.Need-overflow-mul-at
 mul_at c = search rules
@@ -59,10 +59,10 @@ returns-2 c =
     let code = c.before.before.before.before.before.before.before.before.before.before.before.narrow-code in
     let put = c.before.before.before.before.before.before.put_word.ensures in
     let narrowed = c.before.before.before.before.before.before.before.before.before.narrowed in
-    λ m f cells tags. rw (c.granted.ensures, c.before.empty.ensures, put.0, put.1) (narrow-done (with_words m a.words.now a.marks.now) f a.party a.s a.off a.len a.mask a.d from.result from.ensures code.result code.ensures cells tags c.before.before.before.before.before.before.before.before.before.before.if1.false narrowed.result narrowed.ensures)
+    λ m f cells tags. rw (c.granted.ensures, c.before.empty.ensures, put.0, put.1) (narrow_done (with_words m a.words.now a.marks.now) f a.party a.s a.off a.len a.mask a.d from.result from.ensures code.result code.ensures cells tags c.before.before.before.before.before.before.before.before.before.before.if1.false narrowed.result narrowed.ensures)
 
-pub narrow-spec : {M : Type 1} → statement M
-narrow-spec =
+pub narrow_spec : {M : Type 1} → statement M
+narrow_spec =
     tie.close
     (tie.spec
     register-in-requires

@@ -5,7 +5,7 @@ use mathlib.Core.Bool.{false}
 use Rattle.words.specs.Words.{slot, empty}
 use Rattle.machine.specs.Reasons.{reasons}
 use Rattle.machine.specs.Effects.{effect}
-use Rattle.arrays.specs.Steps.{with_words, withPages, withRows}
+use Rattle.arrays.specs.Steps.{with_words, with_pages, with_rows}
 use Rattle.arrays.proofs.Ruling.{down, registered}
 use borrow.Author.Rules.{rules}
 use Rattle.calls_in_place.proofs.word_calls.number.Statement.{statement}
@@ -54,8 +54,8 @@ returns-2 c =
     (registered (with_words m a.words.now a.marks.now) f (Number a.party a.d a.value) cells tags _ c.before.before.before.before.before.before.before.before.before.before.first.ensures
     a.party a.d (slot a.value false) empty c.before.before.before.before.before.before.before.before.before.if1.false refl)
 
-pub number-spec : {M : Type 1} → statement M
-number-spec =
+pub number_spec : {M : Type 1} → statement M
+number_spec =
     tie.close
     (tie.spec
     first-requires

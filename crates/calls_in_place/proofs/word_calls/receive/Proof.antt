@@ -1,7 +1,7 @@
 -- `calls_in_place::word_calls::receive` meets its contract: the laws of 10, one for each return.
 use mathlib.Core.Path.{◌≡◌, refl, sym, ap, ◌∙◌}
-use Rattle.arrays.specs.Steps.{with_words, withMail, withMails}
-use Rattle.calls_in_place.proofs.Mailing.{receive-down, receive-done}
+use Rattle.arrays.specs.Steps.{with_words, with_mail, with_mails}
+use Rattle.calls_in_place.proofs.Mailing.{receive_down, receive_done}
 use borrow.Author.Rules.{rules}
 use Rattle.calls_in_place.proofs.word_calls.receive.Statement.{statement}
 use Rattle.calls_in_place.proofs.word_calls.receive.Tie as tie
@@ -26,7 +26,7 @@ returns c =
     let a = c.before.before.before.before.before.before.before.before.before.before.args in
     let here = c.before.before.before.word-at in
     let code = c.before.before.receive-code in
-    λ m f cells tags. rw c.coded.ensures (receive-down (withMails m a.words.now a.marks.now a.mail.now a.flags.now) f a.party a.d here.result here.ensures code.result code.ensures cells tags c.before.if1.true)
+    λ m f cells tags. rw c.coded.ensures (receive_down (with_mails m a.words.now a.marks.now a.mail.now a.flags.now) f a.party a.d here.result here.ensures code.result code.ensures cells tags c.before.if1.true)
 
 mul_at : tie.Need-overflow-mul-at
 mul_at c = search rules
@@ -65,10 +65,10 @@ returns-2 c =
     let code = c.before.before.before.before.before.before.before.before.before.before.before.before.before.before.before.before.before.receive-code in
     let put = c.before.before.before.before.before.before.before.before.before.before.before.before.before.put_word.ensures in
     let emptied = c.before.before.before.before.before.put-word2.ensures in
-    λ m f cells tags. rw (c.granted.ensures, put.0, put.1, emptied.0, emptied.1, c.before.before.before.before.before.before.empty.ensures) (receive-done (withMails m a.words.now a.marks.now a.mail.now a.flags.now) f a.party a.d here.result here.ensures code.result code.ensures cells tags c.before.before.before.before.before.before.before.before.before.before.before.before.before.before.before.before.if1.false)
+    λ m f cells tags. rw (c.granted.ensures, put.0, put.1, emptied.0, emptied.1, c.before.before.before.before.before.before.empty.ensures) (receive_done (with_mails m a.words.now a.marks.now a.mail.now a.flags.now) f a.party a.d here.result here.ensures code.result code.ensures cells tags c.before.before.before.before.before.before.before.before.before.before.before.before.before.before.before.before.if1.false)
 
-pub receive-spec : {M : Type 1} → statement M
-receive-spec =
+pub receive_spec : {M : Type 1} → statement M
+receive_spec =
     tie.close
     (tie.spec
     word-at-requires

@@ -1,8 +1,8 @@
 -- `calls_in_place::word_calls::store` meets its contract: the laws of 0C, one for each return.
 use mathlib.Core.Path.{◌≡◌, refl, sym, ap, ◌∙◌}
 use Prim.Native.Nat.{◌+◌}
-use Rattle.calls_in_place.specs.Parts.{lookupIn}
-use Rattle.calls_in_place.proofs.Storing.{store-down, store-done}
+use Rattle.calls_in_place.specs.Parts.{lookup_in}
+use Rattle.calls_in_place.proofs.Storing.{store_down, store_done}
 use borrow.Author.Rules.{rules}
 use Rattle.calls_in_place.proofs.word_calls.store.Statement.{statement}
 use Rattle.calls_in_place.proofs.word_calls.store.Tie as tie
@@ -39,7 +39,7 @@ returns c =
     let base = c.before.before.before.before.base-of in
     let place = c.before.before.before.lookup in
     let code = c.before.before.store_code in
-    λ m en ep ew em f. rw c.coded.ensures (store-down m f a.nums a.pages.now a.words.now a.marks.now en ep ew em a.party a.a a.off a.s to.result from.result place.result to.ensures from.ensures (place.ensures ∙ ap (λ n. lookupIn a.nums.v a.pages.now (n + a.off)) base.ensures) code.result code.ensures a.cells.now a.tags.now c.before.if1.true)
+    λ m en ep ew em f. rw c.coded.ensures (store_down m f a.nums a.pages.now a.words.now a.marks.now en ep ew em a.party a.a a.off a.s to.result from.result place.result to.ensures from.ensures (place.ensures ∙ ap (λ n. lookup_in a.nums.v a.pages.now (n + a.off)) base.ensures) code.result code.ensures a.cells.now a.tags.now c.before.if1.true)
 
 place-number-requires : tie.Need-place-number-requires
 place-number-requires c κs = search rules
@@ -75,7 +75,7 @@ returns-2 c =
     let code = c.before.before.before.before.before.before.before.before.before.before.before.before.before.store_code in
     let put = c.before.before.before.before.before.before.put_word.ensures in
     λ m en ep ew em f. rw (c.granted.ensures, c.before.empty.ensures, put.0, put.1, c.before.before.before.before.before.before.before.stored.ensures, c.before.before.before.before.before.before.before.before.dies.ensures, c.before.before.before.before.before.before.before.before.before.place-number.ensures)
-    (store-done m f a.nums a.pages.now a.words.now a.marks.now en ep ew em a.party a.a a.off a.s to.result from.result place.result to.ensures from.ensures (place.ensures ∙ ap (λ n. lookupIn a.nums.v a.pages.now (n + a.off)) base.ensures) code.result code.ensures a.cells.now a.tags.now c.before.before.before.before.before.before.before.before.before.before.before.before.if1.false)
+    (store_done m f a.nums a.pages.now a.words.now a.marks.now en ep ew em a.party a.a a.off a.s to.result from.result place.result to.ensures from.ensures (place.ensures ∙ ap (λ n. lookup_in a.nums.v a.pages.now (n + a.off)) base.ensures) code.result code.ensures a.cells.now a.tags.now c.before.before.before.before.before.before.before.before.before.before.before.before.if1.false)
 
 pub store_spec : {M : Type 1} → statement M
 store_spec =

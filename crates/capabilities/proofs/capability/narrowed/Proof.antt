@@ -24,8 +24,8 @@ capability-requires c κs = search rules
 returns : tie.Need-returns
 returns c = cc
 
-pub narrowed-spec : {M : Type 1} → statement M
-narrowed-spec =
+pub narrowed_spec : {M : Type 1} → statement M
+narrowed_spec =
     tie.close
     (tie.spec
     base-of-requires

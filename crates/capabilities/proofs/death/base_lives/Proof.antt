@@ -8,5 +8,5 @@ use Rattle.capabilities.proofs.death.base_lives.Tie as tie
 returns : tie.Need-returns
 returns c = λ cell some el eb. ap not (by_last c.before.args.range c.before.args.last c.before.args.base cell some el eb)
 
-pub base-lives-spec : {M : Type 1} → statement M
-base-lives-spec = tie.close (tie.spec returns)
+pub base_lives_spec : {M : Type 1} → statement M
+base_lives_spec = tie.close (tie.spec returns)

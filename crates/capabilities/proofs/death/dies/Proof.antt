@@ -17,5 +17,5 @@ returns : tie.Need-returns
 unfolding dies
 returns c = rw (c.inside.ensures, c.before.base-of.ensures)
 
-pub dies-spec : {M : Type 1} → statement M
-dies-spec = tie.close (tie.spec base-of-requires cast-inside inside-requires returns)
+pub dies_spec : {M : Type 1} → statement M
+dies_spec = tie.close (tie.spec base-of-requires cast-inside inside-requires returns)

@@ -31,7 +31,7 @@ returns-2 : tie.Need-returns-2
 unfolding last_of
 returns-2 c = omega arith
 
-pub last-of-spec : {M : Type 1} → statement M
-last-of-spec =
+pub last_of_spec : {M : Type 1} → statement M
+last_of_spec =
     tie.close
     (tie.spec cast-last one-less-requires cast-last-2 add-last cast-result returns returns-2)

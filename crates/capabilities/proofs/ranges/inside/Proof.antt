@@ -18,5 +18,5 @@ returns : tie.Need-returns
 unfolding inside
 returns c = refl
 
-pub inside-spec : {M : Type 1} → statement M
-inside-spec = tie.close (tie.spec cast-base cast-end add-end returns)
+pub inside_spec : {M : Type 1} → statement M
+inside_spec = tie.close (tie.spec cast-base cast-end add-end returns)

@@ -1,6 +1,6 @@
 -- `cetomuhi::numbers::numbers_from` meets its contract. Six numbers are read, or none.
 use native.Mathlib.Omega.{arith}
-use Rattle.cetomuhi.proofs.Writing.{from-six, from-other}
+use Rattle.cetomuhi.proofs.Writing.{from_six, from_other}
 use borrow.Author.Rules.{rules}
 use Rattle.cetomuhi.proofs.numbers.numbers_from.Statement.{statement}
 use Rattle.cetomuhi.proofs.numbers.numbers_from.Tie as tie
@@ -9,7 +9,7 @@ use Rattle.cetomuhi.proofs.numbers.numbers_from.Lts as lts
 use Rattle.cetomuhi.proofs.numbers.wide.Reads as wide-reads
 
 returns : tie.Need-returns
-returns c = (from-other c.before.before.args.numbers.now c.if1.true, (omega arith, omega arith))
+returns c = (from_other c.before.before.args.numbers.now c.if1.true, (omega arith, omega arith))
 
 shared-slice-read-t5 : tie.Need-shared-slice-read-t5
 shared-slice-read-t5 c = search rules
@@ -42,10 +42,10 @@ returns-2 : tie.Need-returns-2
 returns-2 c =
     let count = c.before.before.before.before.wide in
     let place = c.before.before.wide2 in
-    (rw (count.ensures.0, place.ensures.0) (from-six c.before.before.before.before.before.before.before.before.before.before.args.numbers.now c.before.before.before.before.before.before.before.before.if1.false), (count.ensures.1, place.ensures.1))
+    (rw (count.ensures.0, place.ensures.0) (from_six c.before.before.before.before.before.before.before.before.before.before.args.numbers.now c.before.before.before.before.before.before.before.before.if1.false), (count.ensures.1, place.ensures.1))
 
-pub numbers-from-spec : {M : Type 1} → statement M
-numbers-from-spec =
+pub numbers_from_spec : {M : Type 1} → statement M
+numbers_from_spec =
     tie.close
     (tie.spec
     returns

@@ -1,25 +1,25 @@
--- `claims::destroying::clear_counts` meets its contract. After q turns the first q principals' counts are done: `cleared-turn`.
+-- `claims::destroying::clear_counts` meets its contract. After q turns the first q principals' counts are done: `cleared_turn`.
 use native.Mathlib.Omega.{arith}
 use Prim.Native.Nat.{◌+◌, ◌-◌, ◌*◌, ◌≤◌}
 use mathlib.Core.List.{◌++◌}
 use mathlib.Core.Path.{◌≡◌, refl, sym, ap, ◌∙◌}
 use lib.ListN.{length, take, drop}
 use borrow.Author.Rules.{rules}
-use Rattle.capabilities.specs.Lists.{mapEach}
-use Rattle.capabilities.proofs.Lists.{mapEach-whole}
+use Rattle.capabilities.specs.Lists.{map_each}
+use Rattle.capabilities.proofs.Lists.{map_each_whole}
 use Rattle.capabilities.proofs.Lists.{part_length}
-use Rattle.claims.proofs.Looping.{clearedBy, cleared-turn}
+use Rattle.claims.proofs.Looping.{cleared_by, cleared_turn}
 use Rattle.claims.proofs.destroying.clear_counts.Statement.{statement}
 use Rattle.claims.proofs.destroying.clear_counts.Tie as tie
 
 abbrev invariant-loop : tie.invariant-loop
-invariant-loop counts₀ marks q₀ counts q = (q ≤ 32) × (length counts ≡ 8192) × (counts ≡ mapEach (clearedBy marks) 0 (take (256 * q) counts₀) ++ drop (256 * q) counts₀)
+invariant-loop counts₀ marks q₀ counts q = (q ≤ 32) × (length counts ≡ 8192) × (counts ≡ map_each (cleared_by marks) 0 (take (256 * q) counts₀) ++ drop (256 * q) counts₀)
 
 abbrev decreases-loop : tie.decreases-loop
 decreases-loop counts₀ marks q₀ counts q = 32 - q
 
 loop-holds : tie.Need-loop-init invariant-loop decreases-loop
-unfolding mapEach
+unfolding map_each
 loop-holds c = (omega arith, c.before.requires, refl)
 
 mul-start : tie.Need-overflow-mul-start invariant-loop decreases-loop
@@ -56,17 +56,17 @@ loop-again : tie.Need-loop-preserved invariant-loop decreases-loop
 loop-again c =
     let a = c.before.before.before.before.before.before.before.before.args in
     let loop = c.before.before.before.before.before.before.loop in
-    let turn = cleared-turn a.marks.now a.counts.now loop.counts _ loop.q (256 * loop.q + 256 - 256 * loop.q) (omega arith) (omega (arith, c.before.before.before.before.before.before.before.before.requires)) loop.invariant.2 c.before.before.clear-if.ensures in
-    (omega arith, ap length turn ∙ part_length (clearedBy a.marks.now) (256 * (loop.q + 1)) a.counts.now ∙ c.before.before.before.before.before.before.before.before.requires, turn)
+    let turn = cleared_turn a.marks.now a.counts.now loop.counts _ loop.q (256 * loop.q + 256 - 256 * loop.q) (omega arith) (omega (arith, c.before.before.before.before.before.before.before.before.requires)) loop.invariant.2 c.before.before.clear-if.ensures in
+    (omega arith, ap length turn ∙ part_length (cleared_by a.marks.now) (256 * (loop.q + 1)) a.counts.now ∙ c.before.before.before.before.before.before.before.before.requires, turn)
 
 same_length : tie.Need-same-length invariant-loop decreases-loop
 same_length c = c.before.loop.invariant.1 ∙ sym c.before.before.before.requires
 
 returns : tie.Need-returns invariant-loop decreases-loop
-returns c = let a = c.before.before.before.args in c.before.loop.invariant.2 ∙ mapEach-whole (clearedBy a.marks.now) a.counts.now (256 * c.before.loop.q) (omega (arith, c.before.before.before.requires))
+returns c = let a = c.before.before.before.args in c.before.loop.invariant.2 ∙ map_each_whole (cleared_by a.marks.now) a.counts.now (256 * c.before.loop.q) (omega (arith, c.before.before.before.requires))
 
-pub clear-counts-spec : {M : Type 1} → statement M
-clear-counts-spec =
+pub clear_counts_spec : {M : Type 1} → statement M
+clear_counts_spec =
     tie.close
     (tie.spec
     invariant-loop

@@ -17,5 +17,5 @@ returns c = c.before.before.clear.ensures ∙ sym (pick_yes c.before.before.befo
 returns-2 : tie.Need-returns-2
 returns-2 c = search rules
 
-pub clear-if-spec : {M : Type 1} → statement M
-clear-if-spec = tie.close (tie.spec clear-requires same_length returns returns-2)
+pub clear_if_spec : {M : Type 1} → statement M
+clear_if_spec = tie.close (tie.spec clear-requires same_length returns returns-2)

@@ -1,4 +1,4 @@
--- `claims::destroying::clear_numbers` meets its contract. After q turns the first q numbers are done: `mapEach-turn`.
+-- `claims::destroying::clear_numbers` meets its contract. After q turns the first q numbers are done: `map_each_turn`.
 use native.Mathlib.Omega.{arith}
 use Prim.Native.Nat.{◌-◌, ◌≤◌}
 use mathlib.Core.Bool.{false}
@@ -6,19 +6,19 @@ use mathlib.Core.List.{◌++◌}
 use mathlib.Core.Path.{◌≡◌, refl, sym, ◌∙◌}
 use lib.ListN.{length, get_or, take, drop, length-set}
 use borrow.Author.Rules.{rules}
-use Rattle.capabilities.specs.Lists.{pick, mapEach}
-use Rattle.capabilities.proofs.Lists.{mapEach-turn, mapEach-whole}
+use Rattle.capabilities.specs.Lists.{pick, map_each}
+use Rattle.capabilities.proofs.Lists.{map_each_turn, map_each_whole}
 use Rattle.claims.proofs.destroying.clear_numbers.Statement.{statement}
 use Rattle.claims.proofs.destroying.clear_numbers.Tie as tie
 
 abbrev invariant-loop : tie.invariant-loop
-invariant-loop principals₀ marks q₀ principals q = (q ≤ 32) × (length principals ≡ 32) × (principals ≡ mapEach (λ k n. pick (get_or marks k false) 0 n) 0 (take q principals₀) ++ drop q principals₀)
+invariant-loop principals₀ marks q₀ principals q = (q ≤ 32) × (length principals ≡ 32) × (principals ≡ map_each (λ k n. pick (get_or marks k false) 0 n) 0 (take q principals₀) ++ drop q principals₀)
 
 abbrev decreases-loop : tie.decreases-loop
 decreases-loop principals₀ marks q₀ principals q = 32 - q
 
 loop-holds : tie.Need-loop-init invariant-loop decreases-loop
-unfolding mapEach
+unfolding map_each
 loop-holds c = (omega arith, c.before.requires, refl)
 
 element-copy-out-unless : tie.Need-element-copy-out-unless invariant-loop decreases-loop
@@ -51,17 +51,17 @@ loop-again c =
     let loop = c.before.before.before.before.loop in (
       omega arith,
       length-set loop.principals loop.q c.unless.result ∙ loop.invariant.1,
-      mapEach-turn (λ k n. pick (get_or a.marks.now k false) 0 n) a.principals.now loop.principals loop.q 0 c.unless.result (omega (arith, c.before.before.before.before.before.before.requires)) loop.invariant.2 c.unless.ensures,
+      map_each_turn (λ k n. pick (get_or a.marks.now k false) 0 n) a.principals.now loop.principals loop.q 0 c.unless.result (omega (arith, c.before.before.before.before.before.before.requires)) loop.invariant.2 c.unless.ensures,
     )
 
 same_length : tie.Need-same-length invariant-loop decreases-loop
 same_length c = c.before.loop.invariant.1 ∙ sym c.before.before.before.requires
 
 returns : tie.Need-returns invariant-loop decreases-loop
-returns c = let a = c.before.before.before.args in c.before.loop.invariant.2 ∙ mapEach-whole (λ k n. pick (get_or a.marks.now k false) 0 n) a.principals.now c.before.loop.q (omega (arith, c.before.before.before.requires))
+returns c = let a = c.before.before.before.args in c.before.loop.invariant.2 ∙ map_each_whole (λ k n. pick (get_or a.marks.now k false) 0 n) a.principals.now c.before.loop.q (omega (arith, c.before.before.before.requires))
 
-pub clear-numbers-spec : {M : Type 1} → statement M
-clear-numbers-spec =
+pub clear_numbers_spec : {M : Type 1} → statement M
+clear_numbers_spec =
     tie.close
     (tie.spec
     invariant-loop

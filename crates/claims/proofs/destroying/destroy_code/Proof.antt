@@ -4,8 +4,8 @@ use mathlib.Core.Path.{sym, ap, ◌∙◌}
 use lib.Dec.{eqb}
 use Rattle.capabilities.specs.Lists.{pick}
 use Rattle.claims.specs.declared.Principal.{Principal}
-use Rattle.claims.specs.Lent.{principalIn}
-use Rattle.claims.proofs.Reading.{destroyCode, destroy-read}
+use Rattle.claims.specs.Lent.{principal_in}
+use Rattle.claims.proofs.Reading.{destroy_code, destroy_read}
 use borrow.Author.Rules.{rules}
 use Rattle.claims.proofs.destroying.destroy_code.Statement.{statement}
 use Rattle.claims.proofs.destroying.destroy_code.Tie as tie
@@ -31,12 +31,12 @@ returns c =
     let q = c.before.before.before.before.before.principal-in in
     λ counts.
     c.first.ensures ∙ ap (λ (b : Bool). pick (not (q.result.being && (not (eqb a.principal 0) && b))) 20 0) c.before.before.holds.ensures
-    ∙ ap (destroyCode a.party a.principal q.result) c.before.before.before.principal-in2.ensures
-    ∙ ap (λ (x : Principal). destroyCode a.party a.principal x (principalIn a.principals.now x.parent)) q.ensures
-    ∙ sym (destroy-read a.principals.now counts a.party a.principal)
+    ∙ ap (destroy_code a.party a.principal q.result) c.before.before.before.principal-in2.ensures
+    ∙ ap (λ (x : Principal). destroy_code a.party a.principal x (principal_in a.principals.now x.parent)) q.ensures
+    ∙ sym (destroy_read a.principals.now counts a.party a.principal)
 
-pub destroy-code-spec : {M : Type 1} → statement M
-destroy-code-spec =
+pub destroy_code_spec : {M : Type 1} → statement M
+destroy_code_spec =
     tie.close
     (tie.spec
     principal-in-requires

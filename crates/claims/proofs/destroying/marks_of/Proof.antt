@@ -6,14 +6,14 @@ use mathlib.Core.List.{List}
 use mathlib.Core.Path.{◌≡◌, refl, ◌∙◌}
 use lib.ListN.{length, get_or, length-set}
 use borrow.Author.Rules.{rules}
-use Rattle.claims.specs.Tree.{leadsUp}
-use Rattle.claims.specs.Numbers.{claimsIn}
+use Rattle.claims.specs.Tree.{leads_up}
+use Rattle.claims.specs.Numbers.{claims_in}
 use Rattle.claims.proofs.Looping.{filled_more}
 use Rattle.claims.proofs.destroying.marks_of.Statement.{statement}
 use Rattle.claims.proofs.destroying.marks_of.Tie as tie
 
 abbrev invariant-loop : tie.invariant-loop
-invariant-loop principals principal marks₀ q₀ marks q = (q ≤ 32) × (length marks ≡ 32) × ((counts : List ℕ) (k : ℕ) → k < q → get_or marks k false ≡ leadsUp (claimsIn principals counts) principal k)
+invariant-loop principals principal marks₀ q₀ marks q = (q ≤ 32) × (length marks ≡ 32) × ((counts : List ℕ) (k : ℕ) → k < q → get_or marks k false ≡ leads_up (claims_in principals counts) principal k)
 
 abbrev decreases-loop : tie.decreases-loop
 decreases-loop principals principal marks₀ q₀ marks q = 32 - q
@@ -39,14 +39,14 @@ loop-again c =
     let loop = c.before.before.loop in (
       omega arith,
       length-set loop.marks loop.q c.leads-up.result ∙ loop.invariant.1,
-      λ counts. filled_more (leadsUp (claimsIn a.principals.now counts) a.principal) loop.marks loop.q c.leads-up.result false (omega arith) (c.leads-up.ensures counts) (loop.invariant.2 counts),
+      λ counts. filled_more (leads_up (claims_in a.principals.now counts) a.principal) loop.marks loop.q c.leads-up.result false (omega arith) (c.leads-up.ensures counts) (loop.invariant.2 counts),
     )
 
 returns : tie.Need-returns invariant-loop decreases-loop
 returns c = λ counts q h. c.before.loop.invariant.2 counts q (omega arith)
 
-pub marks-of-spec : {M : Type 1} → statement M
-marks-of-spec =
+pub marks_of_spec : {M : Type 1} → statement M
+marks_of_spec =
     tie.close
     (tie.spec
     invariant-loop

@@ -5,10 +5,10 @@ use mathlib.Core.Path.{◌≡◌, refl, ap, ◌∙◌}
 use lib.ListN.{drop, length-take}
 use borrow.Author.Rules.{rules}
 use Rattle.claims.specs.Claims.{sum}
-use Rattle.claims.proofs.Sums.{sum-most}
-use Rattle.claims.proofs.Laid.{window-part}
-use Rattle.claims.proofs.Reading.{of-numbers, of-counts}
-use Rattle.claims.proofs.Looping.{marked, marked-most, marked_turn}
+use Rattle.claims.proofs.Sums.{sum_most}
+use Rattle.claims.proofs.Laid.{window_part}
+use Rattle.claims.proofs.Reading.{of_numbers, of_counts}
+use Rattle.claims.proofs.Looping.{marked, marked_most, marked_turn}
 use Rattle.claims.proofs.destroying.shares.Statement.{statement}
 use Rattle.claims.proofs.destroying.shares.Tie as tie
 
@@ -35,7 +35,7 @@ mul-share : tie.Need-overflow-mul-share invariant-loop decreases-loop
 mul-share c = omega arith
 
 shared-slice-read-share : tie.Need-shared-slice-read-share invariant-loop decreases-loop
-shared-slice-read-share c = let a = c.before.before.before.before.before.before.args in omega (arith, of-numbers a.principals.now a.counts.now c.before.before.before.before.before.before.requires)
+shared-slice-read-share c = let a = c.before.before.before.before.before.before.args in omega (arith, of_numbers a.principals.now a.counts.now c.before.before.before.before.before.before.requires)
 
 mul-share-2 : tie.Need-overflow-mul-share-2 invariant-loop decreases-loop
 mul-share-2 c = omega arith
@@ -47,7 +47,7 @@ part-share-start : tie.Need-slice-bounds-share-start invariant-loop decreases-lo
 part-share-start c = omega arith
 
 part-share-end : tie.Need-slice-bounds-share-end invariant-loop decreases-loop
-part-share-end c = let a = c.before.before.before.before.before.before.args in omega (arith, of-counts a.principals.now a.counts.now c.before.before.before.before.before.before.requires)
+part-share-end c = let a = c.before.before.before.before.before.before.args in omega (arith, of_counts a.principals.now a.counts.now c.before.before.before.before.before.before.requires)
 
 share-requires : tie.Need-share-requires invariant-loop decreases-loop
 share-requires c κs = let q = c.before.before.before.before.loop.q in omega (arith, length-take (256 * q + 256 - 256 * q) (drop (256 * q) c.before.before.before.before.before.before.before.args.counts.now))
@@ -57,10 +57,10 @@ totals : (c : tie.After-share invariant-loop decreases-loop)
 totals c =
     let a = c.before.before.before.before.before.before.before.before.args in
     let loop = c.before.before.before.before.before.loop in
-    marked_turn a.principals.now a.counts.now a.marks.now loop.q loop.total c.share.result _ (window-part a.counts.now loop.q) c.share.ensures loop.invariant.1
+    marked_turn a.principals.now a.counts.now a.marks.now loop.q loop.total c.share.result _ (window_part a.counts.now loop.q) c.share.ensures loop.invariant.1
 
 add_total : tie.Need-overflow-add-total invariant-loop decreases-loop
-add_total c = let a = c.before.before.before.before.before.before.before.before.args in omega (arith, totals c, sum-most 65791 _ (marked-most a.principals.now a.counts.now a.marks.now) (c.before.before.before.before.before.loop.q + 1))
+add_total c = let a = c.before.before.before.before.before.before.before.before.args in omega (arith, totals c, sum_most 65791 _ (marked_most a.principals.now a.counts.now a.marks.now) (c.before.before.before.before.before.loop.q + 1))
 
 add-q : tie.Need-overflow-add-q invariant-loop decreases-loop
 add-q c = omega arith
@@ -78,8 +78,8 @@ returns c =
     let done : loop.q ≡ 32 = omega arith in
     loop.invariant.1 ∙ ap (λ (k : ℕ). sum k (marked a.principals.now a.counts.now a.marks.now)) done
 
-pub shares-spec : {M : Type 1} → statement M
-shares-spec =
+pub shares_spec : {M : Type 1} → statement M
+shares_spec =
     tie.close
     (tie.spec
     invariant-loop

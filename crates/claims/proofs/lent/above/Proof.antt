@@ -6,7 +6,7 @@ use borrow.Author.Rules.{rules}
 use lib.ListN.{get_or, take}
 use lib.Dec.{ltb}
 use Rattle.capabilities.specs.Lists.{pick}
-use Rattle.capabilities.proofs.Choice.{byte-pick, at_most}
+use Rattle.capabilities.proofs.Choice.{byte_pick, at_most}
 use Rattle.claims.specs.Claims.{above}
 use Rattle.claims.proofs.Counting.{above_more}
 use Rattle.claims.proofs.Looping.{part_low}
@@ -38,7 +38,7 @@ cast-n c = search rules
 add-n : tie.Need-overflow-add-n invariant-loop decreases-loop
 add-n c =
     let here = get_or c.before.before.before.before.before.args.counts.now c.before.before.loop.i 0 in
-    omega (arith, byte-pick (ltb 0 here), at_most (ltb 0 here), c.before.before.before.lesser.ensures)
+    omega (arith, byte_pick (ltb 0 here), at_most (ltb 0 here), c.before.before.before.lesser.ensures)
 
 add-i : tie.Need-overflow-add-i invariant-loop decreases-loop
 add-i c = omega arith
@@ -53,8 +53,8 @@ loop-again c =
     let loop = c.before.before.loop in
     let here = get_or l loop.i 0 in (
       omega arith,
-      omega (arith, byte-pick (ltb 0 here), at_most (ltb 0 here)),
-      ap (λ (k : ℕ). loop.n + k) (byte-pick (ltb 0 here)) ∙ ap (λ (k : ℕ). k + pick (ltb 0 here) 1 0) loop.invariant.2 ∙ sym (above_more l loop.i (omega (arith, least))),
+      omega (arith, byte_pick (ltb 0 here), at_most (ltb 0 here)),
+      ap (λ (k : ℕ). loop.n + k) (byte_pick (ltb 0 here)) ∙ ap (λ (k : ℕ). k + pick (ltb 0 here) 1 0) loop.invariant.2 ∙ sym (above_more l loop.i (omega (arith, least))),
     )
 
 returns : tie.Need-returns invariant-loop decreases-loop
@@ -63,8 +63,8 @@ returns c =
     let l = c.before.before.before.before.args.counts.now in
     loop.invariant.2 ∙ ap above (part_low 65535 l loop.i (omega (arith, c.before.before.lesser.ensures)))
 
-pub above-spec : {M : Type 1} → statement M
-above-spec =
+pub above_spec : {M : Type 1} → statement M
+above_spec =
     tie.close
     (tie.spec
     invariant-loop

@@ -6,18 +6,18 @@ use mathlib.Core.Bool.{Bool, ◌||◌}
 use mathlib.Core.Path.{◌≡◌, refl, sym, ap, ◌∙◌}
 use lib.Dec.{ltb}
 use borrow.Author.Rules.{rules}
-use Rattle.claims.specs.Lent.{anyCounts}
+use Rattle.claims.specs.Lent.{any_counts}
 use Rattle.claims.proofs.lent.any_counts.Statement.{statement}
 use Rattle.claims.proofs.lent.any_counts.Tie as tie
 
 abbrev invariant-loop : tie.invariant-loop
-invariant-loop counts page any₀ p₀ any p = (p ≤ 32) × (any ≡ anyCounts p counts page)
+invariant-loop counts page any₀ p₀ any p = (p ≤ 32) × (any ≡ any_counts p counts page)
 
 abbrev decreases-loop : tie.decreases-loop
 decreases-loop counts page any₀ p₀ any p = 32 - p
 
 loop-holds : tie.Need-loop-init invariant-loop decreases-loop
-unfolding anyCounts
+unfolding any_counts
 loop-holds c = (omega arith, refl)
 
 count-in-requires : tie.Need-count-in-requires invariant-loop decreases-loop
@@ -30,14 +30,14 @@ loop-less : tie.Need-loop-smaller invariant-loop decreases-loop
 loop-less c = omega arith
 
 loop-again : tie.Need-loop-preserved invariant-loop decreases-loop
-unfolding anyCounts
+unfolding any_counts
 loop-again c =
     let a = c.before.before.before.before.args in
     let loop = c.before.before.loop in (
       omega arith,
       ap (λ (b : Bool). b || ltb 0 c.count-in.result) loop.invariant.1
-          ∙ ap (λ (n : ℕ). anyCounts loop.p a.counts.now a.page || ltb 0 n) c.count-in.ensures
-          ∙ ap (λ (k : ℕ). anyCounts k a.counts.now a.page) (sym (add-one loop.p)),
+          ∙ ap (λ (n : ℕ). any_counts loop.p a.counts.now a.page || ltb 0 n) c.count-in.ensures
+          ∙ ap (λ (k : ℕ). any_counts k a.counts.now a.page) (sym (add-one loop.p)),
     )
 
 returns : tie.Need-returns invariant-loop decreases-loop
@@ -45,7 +45,7 @@ returns c =
     let a = c.before.before.before.args in
     let loop = c.before.loop in
     let e : loop.p ≡ 32 = omega arith in
-    loop.invariant.1 ∙ ap (λ (k : ℕ). anyCounts k a.counts.now a.page) e
+    loop.invariant.1 ∙ ap (λ (k : ℕ). any_counts k a.counts.now a.page) e
 
-pub any-counts-spec : {M : Type 1} → statement M
-any-counts-spec = tie.close (tie.spec invariant-loop decreases-loop loop-holds count-in-requires add-p loop-less loop-again returns)
+pub any_counts_spec : {M : Type 1} → statement M
+any_counts_spec = tie.close (tie.spec invariant-loop decreases-loop loop-holds count-in-requires add-p loop-less loop-again returns)

@@ -23,6 +23,6 @@ returns c = search rules
 returns-2 : tie.Need-returns-2
 returns-2 c = sym (get_or-eq_default c.before.args.counts.now 0 c.if1.false)
 
-pub count-in-spec : {M : Type 1} → statement M
-count-in-spec =
+pub count_in_spec : {M : Type 1} → statement M
+count_in_spec =
     tie.close (tie.spec mul_at add_at mul-result shared-slice-read-result returns returns-2)

@@ -35,7 +35,7 @@ returns-2 c =
     sym (zero-add q.result.unspent) ∙ ap (λ (k : ℕ). k + q.result.unspent) (sym (pick_no q.result.being n 0 c.before.if1.false))
     ∙ ap (λ (x : Principal). pick x.being n 0 + x.unspent) q.ensures
 
-pub limit-of-spec : {M : Type 1} → statement M
-limit-of-spec =
+pub limit_of_spec : {M : Type 1} → statement M
+limit_of_spec =
     tie.close
     (tie.spec principal-of-requires cast-result add-result returns cast-result-2 returns-2)

@@ -1,7 +1,7 @@
 -- `claims::lent::principal_in` meets its contract.
 use mathlib.Core.Path.{sym, ap, ◌∙◌}
 use lib.ListN.{get_or-eq_default}
-use Rattle.claims.specs.Numbers.{principalFrom}
+use Rattle.claims.specs.Numbers.{principal_from}
 use borrow.Author.Rules.{rules}
 use Rattle.claims.proofs.lent.principal_in.Statement.{statement}
 use Rattle.claims.proofs.lent.principal_in.Tie as tie
@@ -22,10 +22,10 @@ principal-of-requires-2 : tie.Need-principal-of-requires-2
 principal-of-requires-2 c κs = search rules
 
 returns-2 : tie.Need-returns-2
-returns-2 c = c.principal-of2.ensures ∙ ap principalFrom (sym (get_or-eq_default c.before.before.before.args.principals.now 0 c.before.if1.false))
+returns-2 c = c.principal-of2.ensures ∙ ap principal_from (sym (get_or-eq_default c.before.before.before.args.principals.now 0 c.before.if1.false))
 
-pub principal-in-spec : {M : Type 1} → statement M
-principal-in-spec =
+pub principal_in_spec : {M : Type 1} → statement M
+principal_in_spec =
     tie.close
     (tie.spec
     mul-principal-of

@@ -26,6 +26,6 @@ returns c = search rules
 returns-2 : tie.Need-returns-2
 returns-2 c = sym (set_out c.before.args.counts.now _ _ c.if1.false)
 
-pub put-count-spec : {M : Type 1} → statement M
-put-count-spec =
+pub put_count_spec : {M : Type 1} → statement M
+put_count_spec =
     tie.close (tie.spec mul_at add_at mul-counts slice-write-counts same_length returns returns-2)

@@ -24,8 +24,8 @@ returns c = ap (set c.before.before.before.args.principals.now _) c.before.numbe
 returns-2 : tie.Need-returns-2
 returns-2 c = sym (set_out c.before.before.before.args.principals.now _ _ c.if1.false)
 
-pub put-principal-spec : {M : Type 1} → statement M
-put-principal-spec =
+pub put_principal_spec : {M : Type 1} → statement M
+put_principal_spec =
     tie.close
     (tie.spec
     number-of-requires

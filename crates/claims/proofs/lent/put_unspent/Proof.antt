@@ -4,7 +4,7 @@ use lib.ListN.{set}
 use borrow.Author.Rules.{rules}
 use Rattle.claims.specs.declared.Principal.{Principal}
 use Rattle.claims.specs.Claims.{leaving}
-use Rattle.claims.specs.Numbers.{principalCode}
+use Rattle.claims.specs.Numbers.{principal_code}
 use Rattle.claims.proofs.lent.put_unspent.Statement.{statement}
 use Rattle.claims.proofs.lent.put_unspent.Tie as tie
 
@@ -21,7 +21,7 @@ returns : tie.Need-returns
 returns c =
     let a = c.before.before.before.before.before.before.before.args in
     c.before.before.put-principal.ensures
-    ∙ ap (λ (q : Principal). set a.principals.now a.p (principalCode (leaving q a.unspent))) c.before.before.before.before.principal-in.ensures
+    ∙ ap (λ (q : Principal). set a.principals.now a.p (principal_code (leaving q a.unspent))) c.before.before.before.before.principal-in.ensures
 
-pub put-unspent-spec : {M : Type 1} → statement M
-put-unspent-spec = tie.close (tie.spec principal-in-requires put-principal-requires same_length returns)
+pub put_unspent_spec : {M : Type 1} → statement M
+put_unspent_spec = tie.close (tie.spec principal-in-requires put-principal-requires same_length returns)

@@ -1,7 +1,7 @@
 -- `claims::number::number_of` meets its contract.
 use native.Mathlib.Omega.{arith}
-use Rattle.capabilities.proofs.Choice.{pick-most}
-use Rattle.claims.specs.Numbers.{principalCode}
+use Rattle.capabilities.proofs.Choice.{pick_most}
+use Rattle.claims.specs.Numbers.{principal_code}
 use borrow.Author.Rules.{rules}
 use Rattle.claims.proofs.number.number_of.Statement.{statement}
 use Rattle.claims.proofs.number.number_of.Tie as tie
@@ -31,14 +31,14 @@ being-bit-requires : tie.Need-being-bit-requires
 being-bit-requires c κs = search rules
 
 add-result-2 : tie.Need-overflow-add-result-2
-add-result-2 c = omega (arith, c.being-bit.ensures, pick-most c.before.before.before.before.args.q.being 4294967296)
+add-result-2 c = omega (arith, c.being-bit.ensures, pick_most c.before.before.before.before.args.q.being 4294967296)
 
 returns : tie.Need-returns
-unfolding principalCode
+unfolding principal_code
 returns c = rw c.being-bit.ensures
 
-pub number-of-spec : {M : Type 1} → statement M
-number-of-spec =
+pub number_of_spec : {M : Type 1} → statement M
+number_of_spec =
     tie.close
     (tie.spec
     cast-tree

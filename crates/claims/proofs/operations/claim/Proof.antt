@@ -4,8 +4,8 @@ use native.Mathlib.Omega.{arith}
 use mathlib.Core.Path.{sym, ap, ◌∙◌}
 use lib.ListN.{set}
 use Rattle.capabilities.proofs.Choice.{kept}
-use Rattle.claims.specs.Lent.{principalIn, countIn, claimed_in}
-use Rattle.claims.proofs.Reading.{claim-read, claim-room}
+use Rattle.claims.specs.Lent.{principal_in, count_in, claimed_in}
+use Rattle.claims.proofs.Reading.{claim_read, claim_room}
 use borrow.Author.Rules.{rules}
 use Rattle.claims.proofs.operations.claim.Statement.{statement}
 use Rattle.claims.proofs.operations.claim.Tie as tie
@@ -31,8 +31,8 @@ spend-requires c κs = search rules
 add-put-count : tie.Need-overflow-add-put-count
 add-put-count c =
     let a = c.before.before.before.before.before.before.before.before.before.before.before.before.before.args in
-    let read = claim-read a.principals.now a.counts.now a.party a.principal a.page c.before.before.before.before.before.before.before.before.before.before.before.before.before.ranges.page.fits in
-    let room = claim-room a.party (principalIn a.principals.now a.principal) (countIn a.counts.now a.principal a.page) (sym read ∙ sym c.before.before.before.before.before.before.before.before.claim-code.ensures ∙ c.before.before.before.before.before.before.before.if1.false) in
+    let read = claim_read a.principals.now a.counts.now a.party a.principal a.page c.before.before.before.before.before.before.before.before.before.before.before.before.before.ranges.page.fits in
+    let room = claim_room a.party (principal_in a.principals.now a.principal) (count_in a.counts.now a.principal a.page) (sym read ∙ sym c.before.before.before.before.before.before.before.before.claim-code.ensures ∙ c.before.before.before.before.before.before.before.if1.false) in
     omega (arith, room, c.before.before.before.before.before.count-in.ensures)
 
 put-count-requires : tie.Need-put-count-requires
@@ -52,8 +52,8 @@ returns-2 c =
       (c.before.before.before.before.before.before.spend.ensures ∙ ap (claimed_in a.principals.now a.principal) n, c.before.before.put_count.ensures ∙ ap (λ (k : ℕ). set a.counts.now (256 * a.principal + a.page) (k + 1)) n),
     )
 
-pub claim-spec : {M : Type 1} → statement M
-claim-spec =
+pub claim_spec : {M : Type 1} → statement M
+claim_spec =
     tie.close
     (tie.spec
     claim-code-requires

@@ -1,5 +1,5 @@
 -- `claims::operations::claim_code` meets its contract: the reasons in their order.
-use Rattle.claims.proofs.Reading.{claim-read}
+use Rattle.claims.proofs.Reading.{claim_read}
 use borrow.Author.Rules.{rules}
 use Rattle.claims.proofs.operations.claim_code.Statement.{statement}
 use Rattle.claims.proofs.operations.claim_code.Tie as tie
@@ -22,10 +22,10 @@ first-requires-2 c κs = search rules
 returns : tie.Need-returns
 returns c =
     let a = c.before.before.before.before.before.before.before.before.args in
-    rw (claim-read a.principals.now a.counts.now a.party a.principal a.page c.before.before.before.before.before.before.before.before.ranges.page.fits, c.first2.ensures, c.before.first.ensures, c.before.before.before.holds.ensures, c.before.before.before.before.count-in.ensures, c.before.before.before.before.before.principal-in.ensures)
+    rw (claim_read a.principals.now a.counts.now a.party a.principal a.page c.before.before.before.before.before.before.before.before.ranges.page.fits, c.first2.ensures, c.before.first.ensures, c.before.before.before.holds.ensures, c.before.before.before.before.count-in.ensures, c.before.before.before.before.before.principal-in.ensures)
 
-pub claim-code-spec : {M : Type 1} → statement M
-claim-code-spec =
+pub claim_code_spec : {M : Type 1} → statement M
+claim_code_spec =
     tie.close
     (tie.spec
     principal-in-requires

@@ -6,8 +6,8 @@ use lib.ListN.{set}
 use Rattle.capabilities.proofs.Choice.{kept}
 use Rattle.claims.specs.declared.Principal.{Principal}
 use Rattle.claims.specs.Claims.{principal}
-use Rattle.claims.specs.Numbers.{principalCode}
-use Rattle.claims.specs.Lent.{unspentPut}
+use Rattle.claims.specs.Numbers.{principal_code}
+use Rattle.claims.specs.Lent.{unspent_put}
 use mathlib.Core.Bool.{true}
 use borrow.Author.Rules.{rules}
 use Rattle.claims.proofs.operations.create.Statement.{statement}
@@ -42,13 +42,13 @@ returns-2 c =
     let a = c.before.before.before.before.before.before.before.before.before.before.before.before.before.before.before.args in (
       λ counts. sym c.before.before.before.before.before.before.before.before.before.before.before.if1.false ∙ c.before.before.before.before.before.before.before.before.before.before.before.before.create-code.ensures counts,
       c.before.before.put-principal.ensures
-          ∙ ap (λ (l : List ℕ). set l a.child (principalCode (principal true a.holder a.parent a.limit)))
+          ∙ ap (λ (l : List ℕ). set l a.child (principal_code (principal true a.holder a.parent a.limit)))
           (c.before.before.before.before.before.before.put-unspent.ensures
-          ∙ ap (unspentPut a.principals.now a.parent) (c.before.before.before.before.before.before.before.less.ensures ∙ ap (λ (q : Principal). q.unspent - a.limit) c.before.before.before.before.before.before.before.before.before.principal-in.ensures)),
+          ∙ ap (unspent_put a.principals.now a.parent) (c.before.before.before.before.before.before.before.less.ensures ∙ ap (λ (q : Principal). q.unspent - a.limit) c.before.before.before.before.before.before.before.before.before.principal-in.ensures)),
     )
 
-pub create-spec : {M : Type 1} → statement M
-create-spec =
+pub create_spec : {M : Type 1} → statement M
+create_spec =
     tie.close
     (tie.spec
     create-code-requires

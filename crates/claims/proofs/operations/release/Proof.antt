@@ -3,7 +3,7 @@ use Prim.Native.Nat.{ℕ, ◌+◌, ◌-◌, ◌*◌}
 use mathlib.Core.Path.{sym, ap, ◌∙◌}
 use lib.ListN.{set}
 use Rattle.capabilities.proofs.Choice.{kept}
-use Rattle.claims.specs.Lent.{releasedIn}
+use Rattle.claims.specs.Lent.{released_in}
 use borrow.Author.Rules.{rules}
 use Rattle.claims.proofs.operations.release.Statement.{statement}
 use Rattle.claims.proofs.operations.release.Tie as tie
@@ -44,7 +44,7 @@ returns-2 c =
     let n = c.before.before.before.before.before.before.before.before.before.count-in.ensures in (
       sym c.before.before.before.before.before.before.before.before.before.before.before.if1.false ∙ c.before.before.before.before.before.before.before.before.before.before.before.before.release-code.ensures,
       (
-        c.before.before.before.before.before.before.before.restore.ensures ∙ ap (releasedIn a.principals.now a.principal) n,
+        c.before.before.before.before.before.before.before.restore.ensures ∙ ap (released_in a.principals.now a.principal) n,
         c.before.before.put_count.ensures ∙ ap (set a.counts.now (256 * a.principal + a.page)) (c.before.before.before.less.ensures ∙ ap (λ (k : ℕ). k - 1) n),
       ),
     )

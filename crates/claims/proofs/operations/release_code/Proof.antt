@@ -1,5 +1,5 @@
 -- `claims::operations::release_code` meets its contract: the reasons in their order.
-use Rattle.claims.proofs.Reading.{release-read}
+use Rattle.claims.proofs.Reading.{release_read}
 use borrow.Author.Rules.{rules}
 use Rattle.claims.proofs.operations.release_code.Statement.{statement}
 use Rattle.claims.proofs.operations.release_code.Tie as tie
@@ -22,10 +22,10 @@ first-requires-2 c κs = search rules
 returns : tie.Need-returns
 returns c =
     let a = c.before.before.before.before.before.before.before.args in
-    rw (release-read a.principals.now a.counts.now a.party a.principal a.page c.before.before.before.before.before.before.before.ranges.page.fits, c.first2.ensures, c.before.first.ensures, c.before.before.holds.ensures, c.before.before.before.count-in.ensures, c.before.before.before.before.principal-in.ensures)
+    rw (release_read a.principals.now a.counts.now a.party a.principal a.page c.before.before.before.before.before.before.before.ranges.page.fits, c.first2.ensures, c.before.first.ensures, c.before.before.holds.ensures, c.before.before.before.count-in.ensures, c.before.before.before.before.principal-in.ensures)
 
-pub release-code-spec : {M : Type 1} → statement M
-release-code-spec =
+pub release_code_spec : {M : Type 1} → statement M
+release_code_spec =
     tie.close
     (tie.spec
     principal-in-requires

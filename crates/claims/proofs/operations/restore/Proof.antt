@@ -4,7 +4,7 @@ use mathlib.Core.Path.{sym, ap, ◌∙◌}
 use borrow.Author.Tests.{eq-eqb, ne_eqb}
 use Rattle.capabilities.proofs.Choice.{pick_yes, pick_no}
 use Rattle.claims.specs.declared.Principal.{Principal}
-use Rattle.claims.specs.Lent.{unspentPut}
+use Rattle.claims.specs.Lent.{unspent_put}
 use borrow.Author.Rules.{rules}
 use Rattle.claims.proofs.operations.restore.Statement.{statement}
 use Rattle.claims.proofs.operations.restore.Tie as tie
@@ -31,14 +31,14 @@ returns : tie.Need-returns
 returns c =
     let a = c.before.before.before.before.before.before.before.before.before.args in
     c.before.before.put-unspent.ensures
-    ∙ ap (λ (q : Principal). unspentPut a.principals.now a.principal ((q.unspent + 1) % 65536)) c.before.before.before.before.before.principal-in.ensures
+    ∙ ap (λ (q : Principal). unspent_put a.principals.now a.principal ((q.unspent + 1) % 65536)) c.before.before.before.before.before.principal-in.ensures
     ∙ sym (pick_yes _ _ _ (eq-eqb _ 1 c.before.before.before.before.before.before.before.if1.true))
 
 returns-2 : tie.Need-returns-2
 returns-2 c = sym (pick_no _ _ _ (ne_eqb _ 1 c.if1.false))
 
-pub restore-spec : {M : Type 1} → statement M
-restore-spec =
+pub restore_spec : {M : Type 1} → statement M
+restore_spec =
     tie.close
     (tie.spec
     principal-in-requires

@@ -4,7 +4,7 @@ use mathlib.Core.Path.{sym, ap, ◌∙◌}
 use borrow.Author.Tests.{eq-eqb, ne_eqb}
 use Rattle.capabilities.proofs.Choice.{pick_yes, pick_no}
 use Rattle.claims.specs.declared.Principal.{Principal}
-use Rattle.claims.specs.Lent.{unspentPut}
+use Rattle.claims.specs.Lent.{unspent_put}
 use borrow.Author.Rules.{rules}
 use Rattle.claims.proofs.operations.spend.Statement.{statement}
 use Rattle.claims.proofs.operations.spend.Tie as tie
@@ -25,7 +25,7 @@ returns : tie.Need-returns
 returns c =
     let a = c.before.before.before.before.before.before.before.before.before.args in
     c.before.before.put-unspent.ensures
-    ∙ ap (unspentPut a.principals.now a.principal) (c.before.before.before.less.ensures ∙ ap (λ (q : Principal). q.unspent - 1) c.before.before.before.before.before.principal-in.ensures)
+    ∙ ap (unspent_put a.principals.now a.principal) (c.before.before.before.less.ensures ∙ ap (λ (q : Principal). q.unspent - 1) c.before.before.before.before.before.principal-in.ensures)
     ∙ sym (pick_yes _ _ _ (eq-eqb _ 0 c.before.before.before.before.before.before.before.if1.true))
 
 returns-2 : tie.Need-returns-2

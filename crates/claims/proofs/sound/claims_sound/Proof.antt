@@ -9,21 +9,21 @@ use lib.Dec.{eqb}
 use borrow.Author.Rules.{rules}
 use borrow.Author.Tests.{not-false}
 use Rattle.capabilities.specs.Lists.{each}
-use Rattle.claims.specs.Claims.{limitOf, sum}
-use Rattle.claims.specs.Sound.{rootSound}
-use Rattle.claims.specs.Numbers.{claimsIn, sizedIn}
-use Rattle.claims.specs.Lent.{principalIn}
-use Rattle.claims.proofs.Sums.{sum-most}
-use Rattle.claims.proofs.Laid.{window-part}
-use Rattle.claims.proofs.Reading.{of-numbers, of-counts}
-use Rattle.claims.proofs.Looping.{limit-most}
-use Rattle.claims.proofs.Testing.{tested, unsized, sound-tested, sound-turn, total-turn}
+use Rattle.claims.specs.Claims.{limit_of, sum}
+use Rattle.claims.specs.Sound.{root_sound}
+use Rattle.claims.specs.Numbers.{claims_in, sized_in}
+use Rattle.claims.specs.Lent.{principal_in}
+use Rattle.claims.proofs.Sums.{sum_most}
+use Rattle.claims.proofs.Laid.{window_part}
+use Rattle.claims.proofs.Reading.{of_numbers, of_counts}
+use Rattle.claims.proofs.Looping.{limit_most}
+use Rattle.claims.proofs.Testing.{tested, unsized, sound_tested, sound_turn, total_turn}
 use Rattle.claims.proofs.sound.claims_sound.Statement.{statement}
 use Rattle.claims.proofs.sound.claims_sound.Tie as tie
 
 abbrev invariant-loop : tie.invariant-loop
 invariant-loop v principals counts sound₀ total₀ p₀ sound total p =
-    (p ≤ 32) × (sound ≡ (rootSound (principalIn principals 0) && each (tested v principals counts) 0 (take p principals))) × (total ≡ sum p (limitOf (claimsIn principals counts)))
+    (p ≤ 32) × (sound ≡ (root_sound (principal_in principals 0) && each (tested v principals counts) 0 (take p principals))) × (total ≡ sum p (limit_of (claims_in principals counts)))
 
 abbrev decreases-loop : tie.decreases-loop
 decreases-loop v principals counts sound₀ total₀ p₀ sound total p = 32 - p
@@ -39,7 +39,7 @@ is-root-requires c κs = search rules
 
 loop-holds : tie.Need-loop-init invariant-loop decreases-loop
 unfolding each sum
-loop-holds c = let a = c.before.before.before.before.before.args in (omega arith, c.is-root.ensures ∙ ap rootSound c.before.principal-in.ensures ∙ sym (and-true (rootSound (principalIn a.principals.now 0))), refl)
+loop-holds c = let a = c.before.before.before.before.before.args in (omega arith, c.is-root.ensures ∙ ap root_sound c.before.principal-in.ensures ∙ sym (and-true (root_sound (principal_in a.principals.now 0))), refl)
 
 mul-start : tie.Need-overflow-mul-start invariant-loop decreases-loop
 mul-start c = omega arith
@@ -59,7 +59,7 @@ part-spent-of-start c = omega arith
 part-spent-of-end : tie.Need-slice-bounds-spent-of-end invariant-loop decreases-loop
 part-spent-of-end c =
     let a = c.before.before.before.before.before.before.before.args in
-    omega (arith, of-counts a.principals.now a.counts.now (not-false (sizedIn a.principals.now a.counts.now) c.before.before.before.before.if1.false))
+    omega (arith, of_counts a.principals.now a.counts.now (not-false (sized_in a.principals.now a.counts.now) c.before.before.before.before.if1.false))
 
 spent-of-requires : tie.Need-spent-of-requires invariant-loop decreases-loop
 spent-of-requires c κs = let p = c.before.before.loop.p in omega (arith, length-take (256 * p + 256 - 256 * p) (drop (256 * p) c.before.before.before.before.before.before.before.before.args.counts.now))
@@ -70,7 +70,7 @@ mul-number c = omega arith
 shared-slice-read-number : tie.Need-shared-slice-read-number invariant-loop decreases-loop
 shared-slice-read-number c =
     let a = c.before.before.before.before.before.before.before.before.before.before.args in
-    omega (arith, of-numbers a.principals.now a.counts.now (not-false (sizedIn a.principals.now a.counts.now) c.before.before.before.before.before.before.before.if1.false))
+    omega (arith, of_numbers a.principals.now a.counts.now (not-false (sized_in a.principals.now a.counts.now) c.before.before.before.before.before.before.before.if1.false))
 
 entry-sound-requires : tie.Need-entry-sound-requires invariant-loop decreases-loop
 entry-sound-requires c κs = search rules
@@ -82,17 +82,17 @@ limit-of-requires : tie.Need-limit-of-requires invariant-loop decreases-loop
 limit-of-requires c κs = search rules
 
 totals : (c : tie.After-limit-of invariant-loop decreases-loop)
-    → c.before.before.before.before.before.before.before.loop.total + c.limit-of.result ≡ sum (c.before.before.before.before.before.before.before.loop.p + 1) (limitOf (claimsIn c.before.before.before.before.before.before.before.before.before.before.before.before.before.args.principals.now c.before.before.before.before.before.before.before.before.before.before.before.before.before.args.counts.now))
+    → c.before.before.before.before.before.before.before.loop.total + c.limit-of.result ≡ sum (c.before.before.before.before.before.before.before.loop.p + 1) (limit_of (claims_in c.before.before.before.before.before.before.before.before.before.before.before.before.before.args.principals.now c.before.before.before.before.before.before.before.before.before.before.before.before.before.args.counts.now))
 totals c =
     let a = c.before.before.before.before.before.before.before.before.before.before.before.before.before.args in
     let loop = c.before.before.before.before.before.before.before.loop in
-    let sized = not-false (sizedIn a.principals.now a.counts.now) c.before.before.before.before.before.before.before.before.before.before.if1.false in
+    let sized = not-false (sized_in a.principals.now a.counts.now) c.before.before.before.before.before.before.before.before.before.before.if1.false in
     let here = c.before.before.before.before.spent-of in
-    total-turn a.v a.principals.now a.counts.now sized loop.p (get_or a.principals.now loop.p 0) here.result.all _ (omega arith) refl (window-part a.counts.now loop.p) here.ensures.0
+    total_turn a.v a.principals.now a.counts.now sized loop.p (get_or a.principals.now loop.p 0) here.result.all _ (omega arith) refl (window_part a.counts.now loop.p) here.ensures.0
     c.limit-of.result loop.total c.limit-of.ensures loop.invariant.2
 
 add_total : tie.Need-overflow-add-total invariant-loop decreases-loop
-add_total c = omega (arith, totals c, sum-most 65791 _ (limit-most c.before.before.before.before.before.before.before.before.before.before.before.before.before.args.principals.now c.before.before.before.before.before.before.before.before.before.before.before.before.before.args.counts.now) (c.before.before.before.before.before.before.before.loop.p + 1))
+add_total c = omega (arith, totals c, sum_most 65791 _ (limit_most c.before.before.before.before.before.before.before.before.before.before.before.before.before.args.principals.now c.before.before.before.before.before.before.before.before.before.before.before.before.before.args.counts.now) (c.before.before.before.before.before.before.before.loop.p + 1))
 
 add-p : tie.Need-overflow-add-p invariant-loop decreases-loop
 add-p c = omega arith
@@ -104,11 +104,11 @@ loop-again : tie.Need-loop-preserved invariant-loop decreases-loop
 loop-again c =
     let a = c.before.before.before.before.before.before.before.before.before.before.before.before.before.args in
     let loop = c.before.before.before.before.before.before.before.loop in
-    let sized = not-false (sizedIn a.principals.now a.counts.now) c.before.before.before.before.before.before.before.before.before.before.if1.false in
+    let sized = not-false (sized_in a.principals.now a.counts.now) c.before.before.before.before.before.before.before.before.before.before.if1.false in
     let here = c.before.before.before.before.spent-of in (
       omega arith,
-      sound-turn a.v a.principals.now a.counts.now sized loop.p (get_or a.principals.now loop.p 0) here.result.all _ (omega arith) refl (window-part a.counts.now loop.p) here.ensures.0
-          here.result.high loop.sound (rootSound (principalIn a.principals.now 0)) c.before.before.entry-sound.result c.before.principal-sound.result here.ensures.1 c.before.before.entry-sound.ensures (c.before.principal-sound.ensures a.counts.now) loop.invariant.1,
+      sound_turn a.v a.principals.now a.counts.now sized loop.p (get_or a.principals.now loop.p 0) here.result.all _ (omega arith) refl (window_part a.counts.now loop.p) here.ensures.0
+          here.result.high loop.sound (root_sound (principal_in a.principals.now 0)) c.before.before.entry-sound.result c.before.principal-sound.result here.ensures.1 c.before.before.entry-sound.ensures (c.before.principal-sound.ensures a.counts.now) loop.invariant.1,
       totals c,
     )
 
@@ -116,16 +116,16 @@ returns-2 : tie.Need-returns-2 invariant-loop decreases-loop
 returns-2 c =
     let a = c.before.before.before.before.before.before.before.args in
     let loop = c.before.loop in
-    let sized = not-false (sizedIn a.principals.now a.counts.now) c.before.before.before.before.if1.false in
+    let sized = not-false (sized_in a.principals.now a.counts.now) c.before.before.before.before.if1.false in
     let done : loop.p ≡ 32 = omega arith in
-    let root = rootSound (principalIn a.principals.now 0) in
+    let root = root_sound (principal_in a.principals.now 0) in
     ap (λ (b : Bool). b && eqb loop.total 8192)
-    (loop.invariant.1 ∙ ap (λ l. root && each (tested a.v a.principals.now a.counts.now) 0 l) (take_all loop.p a.principals.now (omega (arith, of-numbers a.principals.now a.counts.now sized))))
-    ∙ ap (λ (k : ℕ). (root && each (tested a.v a.principals.now a.counts.now) 0 a.principals.now) && eqb k 8192) (loop.invariant.2 ∙ ap (λ (k : ℕ). sum k (limitOf (claimsIn a.principals.now a.counts.now))) done)
-    ∙ sym (sound-tested a.v a.principals.now a.counts.now sized)
+    (loop.invariant.1 ∙ ap (λ l. root && each (tested a.v a.principals.now a.counts.now) 0 l) (take_all loop.p a.principals.now (omega (arith, of_numbers a.principals.now a.counts.now sized))))
+    ∙ ap (λ (k : ℕ). (root && each (tested a.v a.principals.now a.counts.now) 0 a.principals.now) && eqb k 8192) (loop.invariant.2 ∙ ap (λ (k : ℕ). sum k (limit_of (claims_in a.principals.now a.counts.now))) done)
+    ∙ sym (sound_tested a.v a.principals.now a.counts.now sized)
 
-pub claims-sound-spec : {M : Type 1} → statement M
-claims-sound-spec =
+pub claims_sound_spec : {M : Type 1} → statement M
+claims_sound_spec =
     tie.close
     (tie.spec
     invariant-loop

@@ -21,5 +21,5 @@ returns c =
     ap (λ (b : Bool). b && ((q.result.being || eqb a.spent.all 0) && eqb a.spent.high 0)) (c.before.before.before.is-written.ensures 0)
     ∙ ap (λ (x : Principal). written 0 a.number && ((x.being || eqb a.spent.all 0) && eqb a.spent.high 0)) q.ensures
 
-pub entry-sound-spec : {M : Type 1} → statement M
-entry-sound-spec = tie.close (tie.spec principal-of-requires is-written-requires returns)
+pub entry_sound_spec : {M : Type 1} → statement M
+entry_sound_spec = tie.close (tie.spec principal-of-requires is-written-requires returns)

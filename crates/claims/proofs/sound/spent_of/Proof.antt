@@ -1,9 +1,9 @@
--- `claims::sound::spent_of` meets its contract. The counts in two parts: `above-parts`.
+-- `claims::sound::spent_of` meets its contract. The counts in two parts: `above_parts`.
 use native.Mathlib.Omega.{arith}
 use mathlib.Core.Path.{sym}
 use lib.Seq.{length-take-le}
-use Rattle.claims.proofs.Counting.{above-length}
-use Rattle.claims.proofs.Looping.{spent-parts}
+use Rattle.claims.proofs.Counting.{above_length}
+use Rattle.claims.proofs.Looping.{spent_parts}
 use borrow.Author.Rules.{rules}
 use Rattle.claims.proofs.sound.spent_of.Statement.{statement}
 use Rattle.claims.proofs.sound.spent_of.Tie as tie
@@ -34,14 +34,14 @@ above-requires-2 c κs = search rules
 
 add-t13 : tie.Need-overflow-add-t13
 add-t13 c =
-    let sums = spent-parts c.before.before.before.before.before.before.args.v c.before.before.before.before.before.before.args.window.now c.before.before.before.before.lesser.result c.before.before.above.result c.above2.result c.before.before.before.before.before.before.requires c.before.before.before.before.lesser.ensures c.before.before.above.ensures c.above2.ensures in
-    omega (arith, sums.0, above-length c.before.before.before.before.before.before.args.window.now, c.before.before.before.before.before.before.requires)
+    let sums = spent_parts c.before.before.before.before.before.before.args.v c.before.before.before.before.before.before.args.window.now c.before.before.before.before.lesser.result c.before.before.above.result c.above2.result c.before.before.before.before.before.before.requires c.before.before.before.before.lesser.ensures c.before.before.above.ensures c.above2.ensures in
+    omega (arith, sums.0, above_length c.before.before.before.before.before.before.args.window.now, c.before.before.before.before.before.before.requires)
 
 returns : tie.Need-returns
-returns c = spent-parts c.before.before.before.before.before.before.args.v c.before.before.before.before.before.before.args.window.now c.before.before.before.before.lesser.result c.before.before.above.result c.above2.result c.before.before.before.before.before.before.requires c.before.before.before.before.lesser.ensures c.before.before.above.ensures c.above2.ensures
+returns c = spent_parts c.before.before.before.before.before.before.args.v c.before.before.before.before.before.before.args.window.now c.before.before.before.before.lesser.result c.before.before.above.result c.above2.result c.before.before.before.before.before.before.requires c.before.before.before.before.lesser.ensures c.before.before.above.ensures c.above2.ensures
 
-pub spent-of-spec : {M : Type 1} → statement M
-spent-of-spec =
+pub spent_of_spec : {M : Type 1} → statement M
+spent_of_spec =
     tie.close
     (tie.spec
     lesser-requires

@@ -1,18 +1,18 @@
--- `claims::tree::leads_up` meets its contract. A turn goes one parent up: `leads-on`.
+-- `claims::tree::leads_up` meets its contract. A turn goes one parent up: `leads_on`.
 use native.Mathlib.Omega.{arith}
 use Prim.Native.Nat.{ℕ, ◌-◌}
 use mathlib.Core.List.{List}
 use mathlib.Core.Path.{◌≡◌, refl, sym, ap, ◌∙◌}
 use borrow.Author.Rules.{rules}
-use Rattle.claims.specs.Tree.{leadsUp, leadsWithin}
-use Rattle.claims.specs.Numbers.{claimsIn}
-use Rattle.claims.proofs.Descent.{leads-there, leads-on, leads-nowhere}
-use Rattle.claims.proofs.Reading.{parent-read}
+use Rattle.claims.specs.Tree.{leads_up, leads_within}
+use Rattle.claims.specs.Numbers.{claims_in}
+use Rattle.claims.proofs.Descent.{leads_there, leads_on, leads_nowhere}
+use Rattle.claims.proofs.Reading.{parent_read}
 use Rattle.claims.proofs.tree.leads_up.Statement.{statement}
 use Rattle.claims.proofs.tree.leads_up.Tie as tie
 
 abbrev invariant-loop : tie.invariant-loop
-invariant-loop principals top p at₀ left₀ at left = (counts : List ℕ) → leadsUp (claimsIn principals counts) top p ≡ leadsWithin left (claimsIn principals counts) top at
+invariant-loop principals top p at₀ left₀ at left = (counts : List ℕ) → leads_up (claims_in principals counts) top p ≡ leads_within left (claims_in principals counts) top at
 
 abbrev decreases-loop : tie.decreases-loop
 decreases-loop principals top p at₀ left₀ at left = left
@@ -24,7 +24,7 @@ returns : tie.Need-returns invariant-loop decreases-loop
 returns c =
     let a = c.before.before.before.before.args in
     let loop = c.before.before.loop in
-    λ counts. sym (loop.invariant counts ∙ leads-there (claimsIn a.principals.now counts) a.top loop.left loop.at c.if1.true)
+    λ counts. sym (loop.invariant counts ∙ leads_there (claims_in a.principals.now counts) a.top loop.left loop.at c.if1.true)
 
 principal-in-requires : tie.Need-principal-in-requires invariant-loop decreases-loop
 principal-in-requires c κs = search rules
@@ -38,8 +38,8 @@ returns-2 c =
     let loop = c.before.before.before.before.before.loop in
     let q = c.before.before.principal-in in
     λ counts.
-    let k = claimsIn a.principals.now counts in
-    sym (loop.invariant counts ∙ leads-nowhere k a.top loop.left loop.at c.before.before.before.if1.false (parent-read a.principals.now counts loop.at q.result q.ensures ∙ c.if2.true))
+    let k = claims_in a.principals.now counts in
+    sym (loop.invariant counts ∙ leads_nowhere k a.top loop.left loop.at c.before.before.before.if1.false (parent_read a.principals.now counts loop.at q.result q.ensures ∙ c.if2.true))
 
 sub-left : tie.Need-overflow-sub-left invariant-loop decreases-loop
 sub-left c = omega arith
@@ -53,22 +53,22 @@ loop-again c =
     let loop = c.before.before.before.before.before.loop in
     let q = c.before.before.principal-in in
     λ counts.
-    let k = claimsIn a.principals.now counts in
-    loop.invariant counts ∙ leads-on k a.top loop.left loop.at c.before.before.before.if1.false (omega arith)
-    ∙ ap (leadsWithin (loop.left - 1) k a.top) (parent-read a.principals.now counts loop.at q.result q.ensures)
+    let k = claims_in a.principals.now counts in
+    loop.invariant counts ∙ leads_on k a.top loop.left loop.at c.before.before.before.if1.false (omega arith)
+    ∙ ap (leads_within (loop.left - 1) k a.top) (parent_read a.principals.now counts loop.at q.result q.ensures)
 
 returns-3 : tie.Need-returns-3 invariant-loop decreases-loop
-unfolding leadsWithin
+unfolding leads_within
 returns-3 c =
     let a = c.before.before.before.args in
     let loop = c.before.loop in
     let e : loop.left ≡ 0 = omega arith in
     λ counts.
-    let k = claimsIn a.principals.now counts in
-    sym (loop.invariant counts ∙ ap (λ (n : ℕ). leadsWithin n k a.top loop.at) e)
+    let k = claims_in a.principals.now counts in
+    sym (loop.invariant counts ∙ ap (λ (n : ℕ). leads_within n k a.top loop.at) e)
 
-pub leads-up-spec : {M : Type 1} → statement M
-leads-up-spec =
+pub leads_up_spec : {M : Type 1} → statement M
+leads_up_spec =
     tie.close
     (tie.spec
     invariant-loop

@@ -45,8 +45,8 @@ same-length-2 c = search rules
 returns : tie.Need-returns
 returns c = rw (c.answered.ensures.0, c.answered.ensures.1) c.before.before.before.before.before.before.before.before.before.before.before.before.before.before.before.call-in.ensures
 
-pub call-spec : {M : Type 1} → statement M
-call-spec =
+pub call_spec : {M : Type 1} → statement M
+call_spec =
     tie.close
     (tie.spec
     slice-aggregate-call-in

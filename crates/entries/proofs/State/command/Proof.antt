@@ -49,8 +49,8 @@ same-length-2 c = search rules
 returns : tie.Need-returns
 returns c = rw c.commanded.ensures c.before.before.before.before.before.before.before.before.before.before.before.before.before.before.before.command-in.ensures
 
-pub command-spec : {M : Type 1} → statement M
-command-spec =
+pub command_spec : {M : Type 1} → statement M
+command_spec =
     tie.close
     (tie.spec
     slice-aggregate-command-in

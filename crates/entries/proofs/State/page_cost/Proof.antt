@@ -36,8 +36,8 @@ page-cost-requires c κs = search rules
 returns : tie.Need-returns
 returns c = search rules
 
-pub page-cost-spec : {M : Type 1} → statement M
-page-cost-spec =
+pub page_cost_spec : {M : Type 1} → statement M
+page_cost_spec =
     tie.close
     (tie.spec
     slice-aggregate-page-cost

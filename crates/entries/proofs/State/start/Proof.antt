@@ -1,6 +1,6 @@
 -- `entries::State::start` meets its contract. All numbers are 0 but V, F, the count and the first row.
 use mathlib.Core.Path.{sym, ◌∙◌}
-use Rattle.entries.proofs.Starting.{start-in, start-out}
+use Rattle.entries.proofs.Starting.{start_in, start_out}
 use borrow.Author.Rules.{rules}
 use Rattle.entries.proofs.State.start.Statement.{statement}
 use Rattle.entries.proofs.State.start.Tie as tie
@@ -39,7 +39,7 @@ granted-requires c κs = search rules
 returns : tie.Need-returns
 returns c =
     let a = c.before.before.before.before.before.args in
-    rw (c.granted.ensures, c.before.empty.ensures, c.before.before.bare.ensures) (start-in a.v a.f (sym c.before.before.before.before.in-range.ensures ∙ c.before.before.before.if1.true))
+    rw (c.granted.ensures, c.before.empty.ensures, c.before.before.bare.ensures) (start_in a.v a.f (sym c.before.before.before.before.in-range.ensures ∙ c.before.before.before.if1.true))
 
 bare-requires-2 : tie.Need-bare-requires-2
 bare-requires-2 c κs = search rules
@@ -50,7 +50,7 @@ coded-requires c κs = search rules
 returns-2 : tie.Need-returns-2
 returns-2 c =
     let a = c.before.before.before.before.args in
-    rw (c.coded.ensures, c.before.bare2.ensures) (start-out a.v a.f (sym c.before.before.before.in-range.ensures ∙ c.before.before.if1.false))
+    rw (c.coded.ensures, c.before.bare2.ensures) (start_out a.v a.f (sym c.before.before.before.in-range.ensures ∙ c.before.before.if1.false))
 
 pub start_spec : {M : Type 1} → statement M
 start_spec =

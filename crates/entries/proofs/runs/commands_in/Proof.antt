@@ -5,8 +5,8 @@ use Rattle.words.specs.Words.{empty}
 use Rattle.arrays.specs.Reading.{arrays}
 use Rattle.arrays.specs.Steps.{answer}
 use Rattle.formed.proofs.Tested.{tested}
-use Rattle.step.proofs.Commanding.{command-unformed, command-formed, command-unfit, fitted}
-use Rattle.entries.proofs.Repeating.{run-unready, ready-room, run-refused}
+use Rattle.step.proofs.Commanding.{command_unformed, command_formed, command_unfit, fitted}
+use Rattle.entries.proofs.Repeating.{run_unready, ready_room, run_refused}
 use borrow.Author.Rules.{rules}
 use Rattle.entries.proofs.runs.commands_in.Statement.{statement}
 use Rattle.entries.proofs.runs.commands_in.Tie as tie
@@ -15,7 +15,7 @@ returns : tie.Need-returns
 returns c =
     let a = c.before.before.before.before.before.before.before.before.before.before.before.before.before.before.args in
     let m = arrays a.nums a.words.now a.marks.now a.mail.now a.flags.now a.rows.now a.pages.now a.frames.now a.principals.now a.counts.now in
-    run-unready m a.input.now a.at a.cells.now a.tags.now a.answers.now (not-true _ c.if1.true)
+    run_unready m a.input.now a.at a.cells.now a.tags.now a.answers.now (not-true _ c.if1.true)
 
 formed-requires : tie.Need-formed-requires
 formed-requires c κs = search rules
@@ -24,7 +24,7 @@ refuse-requires : tie.Need-refuse-requires
 refuse-requires c κs =
     let a = c.before.before.before.before.before.before.before.before.before.before.before.before.before.before.before.before.before.before.before.before.before.before.before.before.before.before.args in
     let m = arrays a.nums a.words.now a.marks.now a.mail.now a.flags.now a.rows.now a.pages.now a.frames.now a.principals.now a.counts.now in
-    ready-room m a.input.now a.at a.cells.now a.tags.now a.answers.now (not-false _ c.before.before.before.before.before.before.before.before.before.before.before.before.if1.false)
+    ready_room m a.input.now a.at a.cells.now a.tags.now a.answers.now (not-false _ c.before.before.before.before.before.before.before.before.before.before.before.before.if1.false)
 
 same_length : tie.Need-same-length
 same_length c = search rules
@@ -60,8 +60,8 @@ returns-2 : tie.Need-returns-2
 returns-2 c =
     let a = c.before.before.before.before.before.before.before.before.before.before.before.before.before.before.before.before.before.before.before.before.before.before.before.before.before.before.before.before.before.args in
     let m = arrays a.nums a.words.now a.marks.now a.mail.now a.flags.now a.rows.now a.pages.now a.frames.now a.principals.now a.counts.now in
-    let told = command-unformed m a.cells.now a.tags.now a.input.now a.at (sym c.before.before.before.before.before.formed.ensures ∙ not-true _ c.before.before.before.before.if2.true) in
-    rw c.before.before.refuse.ensures.0 (run-refused m a.input.now a.at a.cells.now a.tags.now a.answers.now (not-false _ c.before.before.before.before.before.before.before.before.before.before.before.before.before.before.before.if1.false) (answer 1 empty) told refl _ c.before.before.refuse.ensures.1)
+    let told = command_unformed m a.cells.now a.tags.now a.input.now a.at (sym c.before.before.before.before.before.formed.ensures ∙ not-true _ c.before.before.before.before.if2.true) in
+    rw c.before.before.refuse.ensures.0 (run_refused m a.input.now a.at a.cells.now a.tags.now a.answers.now (not-false _ c.before.before.before.before.before.before.before.before.before.before.before.before.before.before.before.if1.false) (answer 1 empty) told refl _ c.before.before.refuse.ensures.1)
 
 cast-size : tie.Need-overflow-cast-size
 cast-size c = search rules
@@ -73,7 +73,7 @@ refuse-requires-2 : tie.Need-refuse-requires-2
 refuse-requires-2 c κs =
     let a = c.before.before.before.before.before.before.before.before.before.before.before.before.before.before.before.before.before.before.before.before.before.before.before.before.before.before.before.before.args in
     let m = arrays a.nums a.words.now a.marks.now a.mail.now a.flags.now a.rows.now a.pages.now a.frames.now a.principals.now a.counts.now in
-    ready-room m a.input.now a.at a.cells.now a.tags.now a.answers.now (not-false _ c.before.before.before.before.before.before.before.before.before.before.before.before.before.before.if1.false)
+    ready_room m a.input.now a.at a.cells.now a.tags.now a.answers.now (not-false _ c.before.before.before.before.before.before.before.before.before.before.before.before.before.before.if1.false)
 
 same-length-11 : tie.Need-same-length-11
 same-length-11 c = search rules
@@ -110,8 +110,8 @@ returns-3 c =
     let a = c.before.before.before.before.before.before.before.before.before.before.before.before.before.before.before.before.before.before.before.before.before.before.before.before.before.before.before.before.before.before.before.args in
     let m = arrays a.nums a.words.now a.marks.now a.mail.now a.flags.now a.rows.now a.pages.now a.frames.now a.principals.now a.counts.now in
     let e = sym c.before.before.before.before.before.before.before.formed.ensures ∙ not-false _ c.before.before.before.before.before.before.if2.false in
-    let told = command-formed m a.cells.now a.tags.now a.input.now a.at e _ (command-unfit m (tested m e) a.cells.now a.tags.now (not-true _ c.before.before.before.before.if3.true) a.input.now a.at) in
-    rw c.before.before.refuse2.ensures.0 (run-refused m a.input.now a.at a.cells.now a.tags.now a.answers.now (not-false _ c.before.before.before.before.before.before.before.before.before.before.before.before.before.before.before.before.before.if1.false) (answer 2 empty) told refl _ c.before.before.refuse2.ensures.1)
+    let told = command_formed m a.cells.now a.tags.now a.input.now a.at e _ (command_unfit m (tested m e) a.cells.now a.tags.now (not-true _ c.before.before.before.before.if3.true) a.input.now a.at) in
+    rw c.before.before.refuse2.ensures.0 (run_refused m a.input.now a.at a.cells.now a.tags.now a.answers.now (not-false _ c.before.before.before.before.before.before.before.before.before.before.before.before.before.before.before.before.before.if1.false) (answer 2 empty) told refl _ c.before.before.refuse2.ensures.1)
 
 run-requires : tie.Need-run-requires
 run-requires c κs =
@@ -158,8 +158,8 @@ same-length-32 c = c.before.answers3.given
 returns-4 : tie.Need-returns-4
 returns-4 c = search rules
 
-pub commands-in-spec : {M : Type 1} → statement M
-commands-in-spec =
+pub commands_in_spec : {M : Type 1} → statement M
+commands_in_spec =
     tie.close
     (tie.spec
     returns

@@ -1,8 +1,8 @@
 -- `entries::runs::put_answer` meets its contract. Four stores.
 use native.Mathlib.Omega.{arith}
 use lib.ListN.{length-set}
-use Rattle.capabilities.proofs.Choice.{byte-pick}
-use Rattle.entries.proofs.Repeating.{laid-answer}
+use Rattle.capabilities.proofs.Choice.{byte_pick}
+use Rattle.entries.proofs.Repeating.{laid_answer}
 use borrow.Author.Rules.{rules}
 use Rattle.entries.proofs.runs.put_answer.Statement.{statement}
 use Rattle.entries.proofs.runs.put_answer.Tie as tie
@@ -52,10 +52,10 @@ same_length c = search rules
 returns : tie.Need-returns
 returns c =
     let a = c.before.before.args in
-    laid-answer a.answer a.used a.place _ a.answers.now (byte-pick a.answer.tag) c.before.before.requires
+    laid_answer a.answer a.used a.place _ a.answers.now (byte_pick a.answer.tag) c.before.before.requires
 
-pub put-answer-spec : {M : Type 1} → statement M
-put-answer-spec =
+pub put_answer_spec : {M : Type 1} → statement M
+put_answer_spec =
     tie.close
     (tie.spec
     cast-answers

@@ -16,5 +16,5 @@ same_length c = search rules
 returns : tie.Need-returns
 returns c = (refl, rw c.before.before.before.coded.ensures at c.before.before.put-answer.ensures)
 
-pub refuse-spec : {M : Type 1} → statement M
-refuse-spec = tie.close (tie.spec coded-requires put-answer-requires same_length returns)
+pub refuse_spec : {M : Type 1} → statement M
+refuse_spec = tie.close (tie.spec coded-requires put-answer-requires same_length returns)

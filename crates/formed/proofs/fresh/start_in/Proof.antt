@@ -4,7 +4,7 @@ use native.Mathlib.Omega.{arith}
 use mathlib.Core.Path.{sym, ◌∙◌}
 use borrow.Author.Tests.{not-true, not-false}
 use Rattle.arrays.specs.Reading.{arrays}
-use Rattle.formed.proofs.Starting.{small-v, small-f, of-rows, of-principals, start-unfit, start-refused, start-granted}
+use Rattle.formed.proofs.Starting.{small_v, small_f, of_rows, of_principals, start_unfit, start_refused, start_granted}
 use borrow.Author.Rules.{rules}
 use Rattle.formed.proofs.fresh.start_in.Statement.{statement}
 use Rattle.formed.proofs.fresh.start_in.Tie as tie
@@ -18,7 +18,7 @@ returns : tie.Need-returns
 returns c =
     let a = c.before.before.before.before.before.before.before.before.before.before.args in
     let m = arrays a.nums a.words.now a.marks.now a.mail.now a.flags.now a.rows.now a.pages.now a.frames.now a.principals.now a.counts.now in
-    start-unfit a.v a.f m (not-true _ c.if1.true)
+    start_unfit a.v a.f m (not-true _ c.if1.true)
 
 clear-requires : tie.Need-clear-requires
 clear-requires c κs = search rules
@@ -60,44 +60,44 @@ returns-2 : tie.Need-returns-2
 returns-2 c =
     let a = c.before.before.before.before.before.before.before.before.before.before.before.before.before.before.before.before.before.before.before.before.before.before.before.before.before.before.before.before.before.before.before.before.before.before.before.before.before.before.before.before.before.args in
     let m = arrays a.nums a.words.now a.marks.now a.mail.now a.flags.now a.rows.now a.pages.now a.frames.now a.principals.now a.counts.now in
-    start-refused a.v a.f m (not-false _ c.before.before.before.before.before.before.before.before.before.before.before.before.before.before.before.before.before.before.before.before.before.before.before.before.before.before.before.before.before.before.before.if1.false) (sym c.before.before.in-range.ensures ∙ not-true _ c.before.if2.true) _ c.handed.ensures.0 _ c.handed.ensures.1 _ (c.before.before.before.before.before.before.before.before.before.before.before.before.before.before.before.before.before.before.before.before.before.clear.ensures c.handed.result.nums)
+    start_refused a.v a.f m (not-false _ c.before.before.before.before.before.before.before.before.before.before.before.before.before.before.before.before.before.before.before.before.before.before.before.before.before.before.before.before.before.before.before.if1.false) (sym c.before.before.in-range.ensures ∙ not-true _ c.before.if2.true) _ c.handed.ensures.0 _ c.handed.ensures.1 _ (c.before.before.before.before.before.before.before.before.before.before.before.before.before.before.before.before.before.before.before.before.before.clear.ensures c.handed.result.nums)
 
 mul-rows : tie.Need-overflow-mul-rows
 mul-rows c =
     let a = c.before.before.before.before.before.before.before.before.before.before.before.before.before.before.before.before.before.before.before.before.before.before.before.before.before.before.before.before.before.before.before.before.before.before.before.before.before.before.before.before.args in
-    let s = small-v a.v a.f (sym c.before.in-range.ensures ∙ not-false _ c.if2.false) in
+    let s = small_v a.v a.f (sym c.before.in-range.ensures ∙ not-false _ c.if2.false) in
     omega (arith, s)
 
 add-rows : tie.Need-overflow-add-rows
 add-rows c =
     let a = c.before.before.before.before.before.before.before.before.before.before.before.before.before.before.before.before.before.before.before.before.before.before.before.before.before.before.before.before.before.before.before.before.before.before.before.before.before.before.before.before.args in
-    let s = small-v a.v a.f (sym c.before.in-range.ensures ∙ not-false _ c.if2.false) in
+    let s = small_v a.v a.f (sym c.before.in-range.ensures ∙ not-false _ c.if2.false) in
     omega (arith, s)
 
 slice-write-rows : tie.Need-slice-write-rows
 slice-write-rows c =
     let a = c.before.before.before.before.before.before.before.before.before.before.before.before.before.before.before.before.before.before.before.before.before.before.before.before.before.before.before.before.before.before.before.before.before.before.before.before.before.before.before.before.args in
     let m = arrays a.nums a.words.now a.marks.now a.mail.now a.flags.now a.rows.now a.pages.now a.frames.now a.principals.now a.counts.now in
-    let n = of-rows a.v a.f m (not-false _ c.before.before.before.before.before.before.before.before.before.before.before.before.before.before.before.before.before.before.before.before.before.before.before.before.before.before.before.before.before.before.if1.false) in
+    let n = of_rows a.v a.f m (not-false _ c.before.before.before.before.before.before.before.before.before.before.before.before.before.before.before.before.before.before.before.before.before.before.before.before.before.before.before.before.before.before.if1.false) in
     omega (arith, n, c.before.before.before.before.before.before.before.before.before.before.before.rows.given)
 
 slice-write-principals : tie.Need-slice-write-principals
 slice-write-principals c =
     let a = c.before.before.before.before.before.before.before.before.before.before.before.before.before.before.before.before.before.before.before.before.before.before.before.before.before.before.before.before.before.before.before.before.before.before.before.before.before.before.before.before.args in
     let m = arrays a.nums a.words.now a.marks.now a.mail.now a.flags.now a.rows.now a.pages.now a.frames.now a.principals.now a.counts.now in
-    let n = of-principals a.v a.f m (not-false _ c.before.before.before.before.before.before.before.before.before.before.before.before.before.before.before.before.before.before.before.before.before.before.before.before.before.before.before.before.before.before.if1.false) in
+    let n = of_principals a.v a.f m (not-false _ c.before.before.before.before.before.before.before.before.before.before.before.before.before.before.before.before.before.before.before.before.before.before.before.before.before.before.before.before.before.before.if1.false) in
     omega (arith, n, c.before.before.before.before.before.principals.given)
 
 cast-handed : tie.Need-overflow-cast-handed
 cast-handed c =
     let a = c.before.before.before.before.before.before.before.before.before.before.before.before.before.before.before.before.before.before.before.before.before.before.before.before.before.before.before.before.before.before.before.before.before.before.before.before.before.before.before.before.args in
-    let s = small-v a.v a.f (sym c.before.in-range.ensures ∙ not-false _ c.if2.false) in
+    let s = small_v a.v a.f (sym c.before.in-range.ensures ∙ not-false _ c.if2.false) in
     omega (arith, s)
 
 cast-handed-2 : tie.Need-overflow-cast-handed-2
 cast-handed-2 c =
     let a = c.before.before.before.before.before.before.before.before.before.before.before.before.before.before.before.before.before.before.before.before.before.before.before.before.before.before.before.before.before.before.before.before.before.before.before.before.before.before.before.before.args in
-    let s = small-f a.v a.f (sym c.before.in-range.ensures ∙ not-false _ c.if2.false) in
+    let s = small_f a.v a.f (sym c.before.in-range.ensures ∙ not-false _ c.if2.false) in
     omega (arith, s)
 
 handed-requires-2 : tie.Need-handed-requires-2
@@ -134,10 +134,10 @@ returns-3 : tie.Need-returns-3
 returns-3 c =
     let a = c.before.before.before.before.before.before.before.before.before.before.before.before.before.before.before.before.before.before.before.before.before.before.before.before.before.before.before.before.before.before.before.before.before.before.before.before.before.before.before.before.before.args in
     let m = arrays a.nums a.words.now a.marks.now a.mail.now a.flags.now a.rows.now a.pages.now a.frames.now a.principals.now a.counts.now in
-    start-granted a.v a.f m (not-false _ c.before.before.before.before.before.before.before.before.before.before.before.before.before.before.before.before.before.before.before.before.before.before.before.before.before.before.before.before.before.before.before.if1.false) (sym c.before.before.in-range.ensures ∙ not-false _ c.before.if2.false) _ c.handed2.ensures.0 _ c.handed2.ensures.1 _ (c.before.before.before.before.before.before.before.before.before.before.before.before.before.before.before.before.before.before.before.before.before.clear.ensures c.handed2.result.nums)
+    start_granted a.v a.f m (not-false _ c.before.before.before.before.before.before.before.before.before.before.before.before.before.before.before.before.before.before.before.before.before.before.before.before.before.before.before.before.before.before.before.if1.false) (sym c.before.before.in-range.ensures ∙ not-false _ c.before.if2.false) _ c.handed2.ensures.0 _ c.handed2.ensures.1 _ (c.before.before.before.before.before.before.before.before.before.before.before.before.before.before.before.before.before.before.before.before.before.clear.ensures c.handed2.result.nums)
 
-pub start-in-spec : {M : Type 1} → statement M
-start-in-spec =
+pub start_in_spec : {M : Type 1} → statement M
+start_in_spec =
     tie.close
     (tie.spec
     returns

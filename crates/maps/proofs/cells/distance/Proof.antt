@@ -1,5 +1,5 @@
 -- `maps::cells::distance` meets its contract: by whether the cell lies below, inside or above.
-use Rattle.maps.proofs.Ranges.{distance-below, distance-inside, distance_none, distance-above}
+use Rattle.maps.proofs.Ranges.{distance_below, distance_inside, distance_none, distance_above}
 use borrow.Author.Rules.{rules}
 use Rattle.maps.proofs.cells.distance.Statement.{statement}
 use Rattle.maps.proofs.cells.distance.Tie as tie
@@ -11,10 +11,10 @@ sub-result : tie.Need-overflow-sub-result
 sub-result c = search rules
 
 returns : tie.Need-returns
-returns c = distance-below _ _ _ c.if1.true
+returns c = distance_below _ _ _ c.if1.true
 
 returns-2 : tie.Need-returns-2
-returns-2 c = distance-inside _ _ _ c.before.if1.false c.if2.true
+returns-2 c = distance_inside _ _ _ c.before.if1.false c.if2.true
 
 returns-3 : tie.Need-returns-3
 returns-3 c = distance_none _ _ _ c.if3.true
@@ -26,9 +26,9 @@ sub-result-3 : tie.Need-overflow-sub-result-3
 sub-result-3 c = search rules
 
 returns-4 : tie.Need-returns-4
-returns-4 c = distance-above _ _ _ c.before.if2.false c.if3.false
+returns-4 c = distance_above _ _ _ c.before.if2.false c.if3.false
 
-pub distance-spec : {M : Type 1} → statement M
-distance-spec =
+pub distance_spec : {M : Type 1} → statement M
+distance_spec =
     tie.close
     (tie.spec add-end sub-result returns returns-2 returns-3 sub-result-2 sub-result-3 returns-4)

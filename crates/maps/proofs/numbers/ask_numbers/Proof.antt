@@ -5,8 +5,8 @@ use Prim.Native.Nat.{ℕ}
 use mathlib.Core.List.{map}
 use lib.ListN.{length, length-map}
 use borrow.Author.Rules.{rules}
-use Rattle.table.specs.Numbers.{rowFrom}
-use Rattle.maps.specs.Walks.{judgeWith}
+use Rattle.table.specs.Numbers.{row_from}
+use Rattle.maps.specs.Walks.{judge_with}
 use Rattle.maps.proofs.Asking.{asked}
 use Rattle.maps.proofs.numbers.ask_numbers.Statement.{statement}
 use Rattle.maps.proofs.numbers.ask_numbers.Tie as tie
@@ -32,12 +32,12 @@ returns c =
     let survey = c.before.before.before.before.before.before.survey in
     let judge = c.before.before.before.before.before.judge-with in
     let list = c.before.before.before.list in
-    asked (map rowFrom a.rows.now) a.question a.bases.now survey.result judge.result survey.ensures
-    (judge.ensures ∙ ap (λ (n : ℕ). judgeWith a.question survey.result n (length a.bases.now)) (sym (length-map a.rows.now rowFrom)))
+    asked (map row_from a.rows.now) a.question a.bases.now survey.result judge.result survey.ensures
+    (judge.ensures ∙ ap (λ (n : ℕ). judge_with a.question survey.result n (length a.bases.now)) (sym (length-map a.rows.now row_from)))
     list.result list.new.1.1.1.0 c.answer-with.result list.ensures c.answer-with.ensures
 
-pub ask-numbers-spec : {M : Type 1} → statement M
-ask-numbers-spec =
+pub ask_numbers_spec : {M : Type 1} → statement M
+ask_numbers_spec =
     tie.close
     (tie.spec
     survey-requires

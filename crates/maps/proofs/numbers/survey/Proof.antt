@@ -6,15 +6,15 @@ use native.Mathlib.Omega.{arith}
 use mathlib.Core.List.{map}
 use lib.ListN.{length, drop}
 use borrow.Author.Rules.{rules}
-use Rattle.table.specs.Numbers.{rowFrom}
+use Rattle.table.specs.Numbers.{row_from}
 use Rattle.maps.specs.declared.Seen.{Seen}
-use Rattle.maps.specs.Walks.{seenOver, nothing}
-use Rattle.maps.proofs.Reading.{seen-number, seen-numbers}
+use Rattle.maps.specs.Walks.{seen_over, nothing}
+use Rattle.maps.proofs.Reading.{seen_number, seen_numbers}
 use Rattle.maps.proofs.numbers.survey.Statement.{statement}
 use Rattle.maps.proofs.numbers.survey.Tie as tie
 
 abbrev invariant-loop : tie.invariant-loop
-invariant-loop rows question seen₀ i₀ seen i = seenOver question seen (drop i (map rowFrom rows)) ≡ seenOver question nothing (map rowFrom rows)
+invariant-loop rows question seen₀ i₀ seen i = seen_over question seen (drop i (map row_from rows)) ≡ seen_over question nothing (map row_from rows)
 
 abbrev decreases-loop : tie.decreases-loop
 decreases-loop rows question seen₀ i₀ seen i = length rows - i
@@ -23,7 +23,7 @@ nothing-requires : tie.Need-nothing-requires invariant-loop decreases-loop
 nothing-requires c κs = search rules
 
 loop-holds : tie.Need-loop-init invariant-loop decreases-loop
-loop-holds c = let a = c.before.before.args in ap (λ (s : Seen). seenOver a.question s (map rowFrom a.rows.now)) c.nothing.ensures
+loop-holds c = let a = c.before.before.args in ap (λ (s : Seen). seen_over a.question s (map row_from a.rows.now)) c.nothing.ensures
 
 mul-row-of : tie.Need-overflow-mul-row-of invariant-loop decreases-loop
 mul-row-of c = search rules
@@ -47,17 +47,17 @@ loop-again : tie.Need-loop-preserved invariant-loop decreases-loop
 loop-again c =
     let a = c.before.before.before.before.before.before.before.args in
     let loop = c.before.before.before.before.loop in
-    seen-number a.question a.rows.now loop.seen c.seen-with.result (seenOver a.question nothing (map rowFrom a.rows.now)) loop.i c.before.row_of.result
+    seen_number a.question a.rows.now loop.seen c.seen-with.result (seen_over a.question nothing (map row_from a.rows.now)) loop.i c.before.row_of.result
     c.before.before.before.loop-test.true loop.invariant c.before.row_of.ensures c.seen-with.ensures
 
 returns : tie.Need-returns invariant-loop decreases-loop
 returns c =
     let a = c.before.before.before.before.args in
     let loop = c.before.loop in
-    seen-numbers a.question a.rows.now loop.seen (seenOver a.question nothing (map rowFrom a.rows.now)) loop.i c.loop-test.false loop.invariant
+    seen_numbers a.question a.rows.now loop.seen (seen_over a.question nothing (map row_from a.rows.now)) loop.i c.loop-test.false loop.invariant
 
-pub survey-spec : {M : Type 1} → statement M
-survey-spec =
+pub survey_spec : {M : Type 1} → statement M
+survey_spec =
     tie.close
     (tie.spec
     invariant-loop

@@ -56,10 +56,10 @@ use Rattle.table.specs.Rows.{blank}
 use Rattle.table.specs.contracts.Reservation as R
 use Rattle.table.proofs.Reservation.TheLaws as R'
 use Rattle.maps.specs.declared.Question.{Question}
-use Rattle.maps.specs.Walks.{Listing, listing, listWith, listOver}
+use Rattle.maps.specs.Walks.{Listing, listing, list_with, list_over}
 use Rattle.maps.specs.contracts.Question as Q
 use Rattle.maps.proofs.Question.TheLaws as Q'
-use Rattle.maps.proofs.Turning.{is-there, list-turn, list_all}
+use Rattle.maps.proofs.Turning.{is_there, list_turn, list_all}
 use Rattle.maps.specs.contracts.steps.list_with as list-with
 use Rattle.maps.proofs.steps.list_with.Symbol as list-with-def
 use Rattle.maps.proofs.steps.list_with.Symbol.{name as #list-with}
@@ -80,17 +80,17 @@ slice = slice_ty (ty_ref (named 0) imm (pointee (R.the_row).written))
 abbrev pointer : Ty
 pointer = ty_ref erased mut (ty_int w16)
 
-abbrev room-slice : Ty
-room-slice = slice_ty (ty_ref (named 1) mut (ty_int w16))
+abbrev room_slice : Ty
+room_slice = slice_ty (ty_ref (named 1) mut (ty_int w16))
 
-abbrev again-slice : Ty
-again-slice = slice_ty pointer
+abbrev again_slice : Ty
+again_slice = slice_ty pointer
 
 abbrev stayed : Stays (list.ended).signature.params (list.ended).kept
 stayed = (stay_none_slice (0 ∷ []) tt (plain (λ _. R.the_row)) yes, (stay_none (λ _. usize) yes, (stay_none (λ _. Q.the_row) yes, (stay_slice (1 ∷ []) tt (plain (λ _. u16)), tt))))
 
-abbrev row-val : Reservation → Val
-row-val = LL.val R.the_type R'.the_laws
+abbrev row_val : Reservation → Val
+row_val = LL.val R.the_type R'.the_laws
 
 -- the last values of `list_with`'s parameters: of the slice its list
 abbrev Ends : Type 0
@@ -103,7 +103,7 @@ record Turn (q : Question) (ys : List Reservation) (upto : ℕ) (cs : List ℕ) 
   bs : List ℕ
   fits : c < 2 ^ 64
   same : length bs ≡ length cs
-  goes : listOver q (listing c bs) (after i (take upto ys)) ≡ listOver q (listing 0 cs) (take upto ys)
+  goes : list_over q (listing c bs) (after i (take upto ys)) ≡ list_over q (listing 0 cs) (take upto ys)
 
 module _ {M : Type 1} {𝓤 : Ura M} (𝓛 : Logic 𝓤) (mem : Memory → SProp 𝓤) (run : Routine → Fun 𝓤) where
   -- the contract that the proof cites
@@ -149,7 +149,7 @@ module _ {M : Type 1} {𝓤 : Ura M} (𝓛 : Logic 𝓤) (mem : Memory → SProp
   Bases k δ l = (Owned.MutSlice erased k u16).own_val (y δ l)
 
   abbrev total : Listing
-  total = listOver qn (listing 0 cs) (take upto ys)
+  total = list_over qn (listing 0 cs) (take upto ys)
 
   exits : Is Q.the_row qn (qv ∷ []) → upto < 2 ^ 64 → (c : ℕ) (bs : List ℕ) → c < 2 ^ 64 → (same : length bs ≡ length cs) → listing c bs ≡ total
       → ent 𝓤 (⋆ 𝓛 (‵ (flft κ q) ∷ ‵ Own ∷ ‵ (Bases κ' γ' bs) ∷ ‵ (flft κ' q') ∷ [])) (Post (vint w64 c))
@@ -170,7 +170,7 @@ module _ {M : Type 1} {𝓤 : Ura M} (𝓛 : Logic 𝓤) (mem : Memory → SProp
   abbrev to : List ℕ → ℕ → Reservation → ℕ → GName → (ListWith 𝓛 mem run).Ghost
   to bs c r ν δ = (((ν ∷ [], tt), (full_share, tt), tt, given_to bs c r δ, (v' ∷ [], (vint w64 c ∷ [], (qv ∷ [], (vint w16 r.base ∷ [], (vint w16 r.length ∷ [], tt)))))), tt)
 
-  asked : Is Q.the_row qn (qv ∷ []) → (bs : List ℕ) (c : ℕ) (r : Reservation) (ν : ℕ) (δ : GName) → c < 2 ^ 64 → length bs ≡ length cs → Is R.the_row r (row-val r ∷ [])
+  asked : Is Q.the_row qn (qv ∷ []) → (bs : List ℕ) (c : ℕ) (r : Reservation) (ν : ℕ) (δ : GName) → c < 2 ^ 64 → length bs ≡ length cs → Is R.the_row r (row_val r ∷ [])
       → ent 𝓤 (sep 𝓤 (A.lft (ν ∷ []) full_share) (sem 𝓛 (Bases (ν ∷ []) δ bs))) ((ListWith 𝓛 mem run).pre (to bs c r ν δ))
   asked isq bs c r ν δ gc same isr =
       qed 𝓛 (‵ (flft (ν ∷ []) full_share) ∷ ‵ (Bases (ν ∷ []) δ bs) ∷ []) ∵ nothing ! $ move ! (1 ∷ 0 ∷ []) $ join ! $ move ! (1 ∷ []) $ fsplit ! $
@@ -187,7 +187,7 @@ module _ {M : Type 1} {𝓤 : Ura M} (𝓛 : Logic 𝓤) (mem : Memory → SProp
     Λ = 𝓣.Λ
 
     abbrev En : Env 𝓤 H
-    En = (word, l₀) ∷ (slice, l₁) ∷ (word, l₂) ∷ (Q'.mir, l₃) ∷ (room-slice, l₄) ∷ (word, l₅) ∷ (word, l₆) ∷ (R'.mir, l₇) ∷ (ty_bool, l₈) ∷ (word, l₉) ∷ (ty_bool, m₀) ∷ (ty_bool, m₁) ∷ (ty_ptr, m₂) ∷ (R'.mir, m₃) ∷ (pointer, m₄) ∷ (again-slice, m₅) ∷ []
+    En = (word, l₀) ∷ (slice, l₁) ∷ (word, l₂) ∷ (Q'.mir, l₃) ∷ (room_slice, l₄) ∷ (word, l₅) ∷ (word, l₆) ∷ (R'.mir, l₇) ∷ (ty_bool, l₈) ∷ (word, l₉) ∷ (ty_bool, m₀) ∷ (ty_bool, m₁) ∷ (ty_ptr, m₂) ∷ (R'.mir, m₃) ∷ (pointer, m₄) ∷ (again_slice, m₅) ∷ []
 
     abbrev State : Type 0
     State = Turn qn ys upto cs
@@ -195,15 +195,15 @@ module _ {M : Type 1} {𝓤 : Ura M} (𝓛 : Logic 𝓤) (mem : Memory → SProp
     abbrev Nearer : State → State → Type 0
     Nearer t' t = upto - t'.i < upto - t.i
 
-    nearer-wf : WellFounded Nearer
-    nearer-wf = InvImage.wf (λ (t : State). upto - t.i) lt-wf_rel.wf
+    nearer_wf : WellFounded Nearer
+    nearer_wf = InvImage.wf (λ (t : State). upto - t.i) lt-wf_rel.wf
 
     abbrev At : State → List (Item 𝓤)
     At t = ‵ (fshr_bor κ (λ s. (arr_parts (shares R.the_row) n).part s ys b o)) ∷ ‵ (flft κ q) ∷ ‵ Own ∷ ‵ (Bases κ' γ' t.bs) ∷ ‵ (flft κ' q')
-        ∷ ‵ (froom again-slice m₅ 0) ∷ ‵ (fdies again-slice m₅) ∷ ‵ (froom pointer m₄ 0) ∷ ‵ (fdies pointer m₄) ∷ ‵ (froom R'.mir m₃ 0) ∷ ‵ (fdies R'.mir m₃) ∷ ‵ (froom ty_ptr m₂ 0) ∷ ‵ (fdies ty_ptr m₂)
+        ∷ ‵ (froom again_slice m₅ 0) ∷ ‵ (fdies again_slice m₅) ∷ ‵ (froom pointer m₄ 0) ∷ ‵ (fdies pointer m₄) ∷ ‵ (froom R'.mir m₃ 0) ∷ ‵ (fdies R'.mir m₃) ∷ ‵ (froom ty_ptr m₂ 0) ∷ ‵ (fdies ty_ptr m₂)
         ∷ ‵ (froom ty_bool m₁ 0) ∷ ‵ (fdies ty_bool m₁) ∷ ‵ (froom ty_bool m₀ 0) ∷ ‵ (fdies ty_bool m₀)
         ∷ ‵ (froom word l₉ 0) ∷ ‵ (fdies word l₉) ∷ ‵ (froom ty_bool l₈ 0) ∷ ‵ (fdies ty_bool l₈) ∷ ‵ (froom R'.mir l₇ 0) ∷ ‵ (fdies R'.mir l₇) ∷ ‵ (fat full_share word l₆ 0 (vint w64 t.i)) ∷ ‵ (fdies word l₆)
-        ∷ ‵ (fat full_share word l₅ 0 (vint w64 t.c)) ∷ ‵ (fdies word l₅) ∷ ‵ (fat full_share room-slice l₄ 0 (v')) ∷ ‵ (fdies room-slice l₄) ∷ ‵ (fat full_share Q'.mir l₃ 0 (qv)) ∷ ‵ (fdies Q'.mir l₃) ∷ ‵ (fat full_share word l₂ 0 (vint w64 upto)) ∷ ‵ (fdies word l₂)
+        ∷ ‵ (fat full_share word l₅ 0 (vint w64 t.c)) ∷ ‵ (fdies word l₅) ∷ ‵ (fat full_share room_slice l₄ 0 (v')) ∷ ‵ (fdies room_slice l₄) ∷ ‵ (fat full_share Q'.mir l₃ 0 (qv)) ∷ ‵ (fdies Q'.mir l₃) ∷ ‵ (fat full_share word l₂ 0 (vint w64 upto)) ∷ ‵ (fdies word l₂)
         ∷ ‵ (fat full_share slice l₁ 0 (v)) ∷ ‵ (fdies slice l₁) ∷ ‵ (froom word l₀ 0) ∷ ‵ (fdies word l₀) ∷ []
 
     -- a turn ends nearer to the last record, or the loop is left and the rest of the body runs
@@ -228,7 +228,7 @@ module _ {M : Type 1} {𝓤 : Ura M} (𝓛 : Logic 𝓤) (mem : Memory → SProp
             looks_slice ! tt R.the_row (Is R.the_row) (shows 𝓛 R.the_row) (LL.vals R.the_type R'.the_laws) (LL.tells R.the_type R'.the_laws) (LL.copy R.the_type R'.the_copy 𝓛) ys b o (λ s.
             elem_out ! R.the_row (Is R.the_row) (shows 𝓛 R.the_row) (LL.vals R.the_type R'.the_laws) (LL.tells R.the_type R'.the_laws) s ys t.i blank b o there.1 (λ isr.
             assigns ! (of_opd ! (load ! (from ! (hop ! (look ! 14 refl) (stop !))) (look_raw ! 0 refl))) (from ! (stop !)) (init ! 12 refl ((LL.lawful R.the_type R'.the_laws 𝓛).typed r _ isr).0) $
-            elem_back ! R.the_row s ys t.i blank (row-val r ∷ []) b o there.1 $ shuts_slice ! tt R.the_row s ys b o $
+            elem_back ! R.the_row s ys t.i blank (row_val r ∷ []) b o there.1 $ shuts_slice ! tt R.the_row s ys b o $
             -- [the token; the fractured borrow; what the records own; what the slice for the list owns; its token; _13; …]
             assigns ! (of_opd ! (load ! (from ! (stop !)) (look ! 9 refl))) (from ! (stop !)) (init ! 21 refl ((LL.lawful R.the_type R'.the_laws 𝓛).typed r _ isr).0) $
             assigns ! (addr ! (from ! (fld ! refl (hop ! (look_in ! 27 (sub ! 0 refl (whole !))) (stop !))))) (from ! (stop !)) (init ! 7 refl (tt, tt)) $
@@ -240,8 +240,8 @@ module _ {M : Type 1} {𝓤 : Ura M} (𝓛 : Logic 𝓤) (mem : Memory → SProp
             (and_then ! (load ! (from ! (stop !)) (look ! 5 refl)) (and_then ! (load ! (from ! (stop !)) (look ! 25 refl)) (and_then ! (load ! (from ! (stop !)) (look ! 29 refl))
             (and_then ! (load ! (from ! (fld ! refl (stop !))) (look_in ! 21 (sub ! 0 refl (whole !)))) (and_then ! (load ! (from ! (fld ! refl (stop !))) (look_in ! 21 (sub ! 1 refl (whole !)))) (no_more !)))))) (λ w.
             use1 𝓛 (later (some (λ (c' : ℕ). ((‵ (flft (ν ∷ []) full_share) ⊛ ‵ ftrue) ⊛ ‵ (usize.own_val c' (w ∷ []))) ⊛ raw (ensured 𝓛 list-with.ended (list-with.clauses 𝓛 mem run) (ν ∷ [], tt) (given_to t.bs t.c r δ) tt c')))) (id⊢ 𝓤 _) $ await ! tt $ pick ! (λ c'.
-            split ! $ move ! (1 ∷ []) $ use1 𝓛 (some (λ (zs : Ends). ‵ (lasts list-with.ended (ν ∷ [], tt) (given_to t.bs t.c r δ) zs) ⊛ raw (fact 𝓤 (listing c' zs.0 ≡ listWith qn (listing t.c t.bs) r.base r.length)))) (id⊢ 𝓤 _) $ pick ! (λ zs.
-            split ! $ move ! (1 ∷ []) $ heard ! (listing c' zs.0 ≡ listWith qn (listing t.c t.bs) r.base r.length) (λ e'. fsplit ! $ fsplit ! $ move ! (1 ∷ []) $ feq_l ! (λ same'.
+            split ! $ move ! (1 ∷ []) $ use1 𝓛 (some (λ (zs : Ends). ‵ (lasts list-with.ended (ν ∷ [], tt) (given_to t.bs t.c r δ) zs) ⊛ raw (fact 𝓤 (listing c' zs.0 ≡ list_with qn (listing t.c t.bs) r.base r.length)))) (id⊢ 𝓤 _) $ pick ! (λ zs.
+            split ! $ move ! (1 ∷ []) $ heard ! (listing c' zs.0 ≡ list_with qn (listing t.c t.bs) r.base r.length) (λ e'. fsplit ! $ fsplit ! $ move ! (1 ∷ []) $ feq_l ! (λ same'.
             move ! (2 ∷ []) $ split ! $ move ! (1 ∷ []) $ facts ! usize (Is usize) (shows 𝓛 usize) c' (w ∷ []) (λ is.
             -- [the call's token; the last list; …; what is kept; the token; the fractured borrow; what the records own; _13; …]
             land ! (from ! (stop !)) (store ! 27 refl ((uint_Lawful 𝓛 w64).typed c' _ is).0) $ rewrite ! 27 (λ (u : Val). ‵ (fat full_share word l₅ 0 u)) (ap only is.0) refl $
@@ -251,10 +251,10 @@ module _ {M : Type 1} {𝓤 : Ura M} (𝓛 : Logic 𝓤) (mem : Memory → SProp
             move ! (2 ∷ 3 ∷ []) $ drop ! $ drop ! $ move ! (3 ∷ 2 ∷ 4 ∷ 0 ∷ 1 ∷ []) $
             assigns_last ! (bin ! (load ! (from ! (stop !)) (look ! 23 refl)) (lit ! tt) (record { fits = next_fits })) (from ! (stop !)) (store ! 23 refl (tt, record { fits = next_fits })) $
             forget ! 5 refl $ forget ! 7 refl $ forget ! 9 refl $ forget ! 11 refl $ forget ! 13 refl $ forget ! 15 refl $ forget ! 17 refl $ forget ! 19 refl $ forget ! 21 refl $
-            again ! Nearer At t (record { i = t.i + 1; c = c'; bs = zs.0; fits = is.1; same = same'' ∙ t.same; goes = list-turn qn ys upto (listing t.c t.bs) (listing c' zs.0) total t.i there t.goes e' }) (let less = there.0 in omega (arith, less)))))))))))))
+            again ! Nearer At t (record { i = t.i + 1; c = c'; bs = zs.0; fits = is.1; same = same'' ∙ t.same; goes = list_turn qn ys upto (listing t.c t.bs) (listing c' zs.0) total t.i there t.goes e' }) (let less = there.0 in omega (arith, less)))))))))))))
           where
             there : (t.i < upto) × (t.i < n)
-            there = is-there t.i upto n e
+            there = is_there t.i upto n e
 
             r : Reservation
             r = get_or ys t.i blank
@@ -279,17 +279,17 @@ module _ {M : Type 1} {𝓤 : Ura M} (𝓛 : Logic 𝓤) (mem : Memory → SProp
     -- before the first statement
     abbrev Start : List (Item 𝓤)
     Start = ‵ (fshr_bor κ (λ s. (arr_parts (shares R.the_row) n).part s ys b o)) ∷ ‵ (flft κ q) ∷ ‵ Own ∷ ‵ (Bases κ' γ' cs) ∷ ‵ (flft κ' q')
-        ∷ ‵ (froom again-slice m₅ 0) ∷ ‵ (fdies again-slice m₅) ∷ ‵ (froom pointer m₄ 0) ∷ ‵ (fdies pointer m₄) ∷ ‵ (froom R'.mir m₃ 0) ∷ ‵ (fdies R'.mir m₃) ∷ ‵ (froom ty_ptr m₂ 0) ∷ ‵ (fdies ty_ptr m₂)
+        ∷ ‵ (froom again_slice m₅ 0) ∷ ‵ (fdies again_slice m₅) ∷ ‵ (froom pointer m₄ 0) ∷ ‵ (fdies pointer m₄) ∷ ‵ (froom R'.mir m₃ 0) ∷ ‵ (fdies R'.mir m₃) ∷ ‵ (froom ty_ptr m₂ 0) ∷ ‵ (fdies ty_ptr m₂)
         ∷ ‵ (froom ty_bool m₁ 0) ∷ ‵ (fdies ty_bool m₁) ∷ ‵ (froom ty_bool m₀ 0) ∷ ‵ (fdies ty_bool m₀)
         ∷ ‵ (froom word l₉ 0) ∷ ‵ (fdies word l₉) ∷ ‵ (froom ty_bool l₈ 0) ∷ ‵ (fdies ty_bool l₈) ∷ ‵ (froom R'.mir l₇ 0) ∷ ‵ (fdies R'.mir l₇) ∷ ‵ (froom word l₆ 0) ∷ ‵ (fdies word l₆)
-        ∷ ‵ (froom word l₅ 0) ∷ ‵ (fdies word l₅) ∷ ‵ (fat full_share room-slice l₄ 0 (v')) ∷ ‵ (fdies room-slice l₄) ∷ ‵ (fat full_share Q'.mir l₃ 0 (qv)) ∷ ‵ (fdies Q'.mir l₃) ∷ ‵ (fat full_share word l₂ 0 (vint w64 upto)) ∷ ‵ (fdies word l₂)
+        ∷ ‵ (froom word l₅ 0) ∷ ‵ (fdies word l₅) ∷ ‵ (fat full_share room_slice l₄ 0 (v')) ∷ ‵ (fdies room_slice l₄) ∷ ‵ (fat full_share Q'.mir l₃ 0 (qv)) ∷ ‵ (fdies Q'.mir l₃) ∷ ‵ (fat full_share word l₂ 0 (vint w64 upto)) ∷ ‵ (fdies word l₂)
         ∷ ‵ (fat full_share slice l₁ 0 (v)) ∷ ‵ (fdies slice l₁) ∷ ‵ (froom word l₀ 0) ∷ ‵ (fdies word l₀) ∷ []
 
     starts : Sq 𝓛 Start (runs C Λ En body.t-1 (at_ret En Post))
     starts =
         assigns ! (of_opd ! (lit ! tt)) (from ! (stop !)) (init ! 25 refl (tt, record { fits = lit< tt })) $
         assigns ! (of_opd ! (lit ! tt)) (from ! (stop !)) (init ! 23 refl (tt, record { fits = lit< tt })) $
-        first ! $ blocks ! $ loops ! 𝓣 Nearer nearer-wf At turns (record { i = 0; c = 0; bs = cs; fits = lit< tt; same = refl; goes = refl })
+        first ! $ blocks ! $ loops ! 𝓣 Nearer nearer_wf At turns (record { i = 0; c = 0; bs = cs; fits = lit< tt; same = refl; goes = refl })
 
   module _ (𝓣 : Tables 𝓤 H) (known : Triple 𝓤 (𝓣.C #list-with) (ListWith 𝓛 mem run)) where
     walk : Is (ShrSlice (named 0) κ R.the_row) x (v ∷ []) → upto < 2 ^ 64 → Is Q.the_row qn (qv ∷ []) → Is (MutSlice (named 1) κ' u16) (y γ' cs) (v' ∷ [])
@@ -309,23 +309,23 @@ module _ {M : Type 1} {𝓤 : Ura M} (𝓛 : Logic 𝓤) (mem : Memory → SProp
 module _ {M : Type 1} {𝓤 : Ura M} (𝓛 : Logic 𝓤) (mem : Memory → SProp 𝓤) (run : Routine → Fun 𝓤) where
   open 𝓛 use {H}
 
-  list-walks : (𝓣 : Tables 𝓤 H) → Triple 𝓤 (𝓣.C #list-with) (ListWith 𝓛 mem run) → Walks 𝓛 list.ended stayed (WpFn 𝓤 H 𝓣.C 𝓣.Λ code.function) (list.clauses 𝓛 mem run)
-  list-walks 𝓣 known = walked 𝓛 list.ended stayed (list.clauses 𝓛 mem run) (WpFn 𝓤 H 𝓣.C 𝓣.Λ code.function)
+  list_walks : (𝓣 : Tables 𝓤 H) → Triple 𝓤 (𝓣.C #list-with) (ListWith 𝓛 mem run) → Walks 𝓛 list.ended stayed (WpFn 𝓤 H 𝓣.C 𝓣.Λ code.function) (list.clauses 𝓛 mem run)
+  list_walks 𝓣 known = walked 𝓛 list.ended stayed (list.clauses 𝓛 mem run) (WpFn 𝓤 H 𝓣.C 𝓣.Λ code.function)
       (λ κs. (shr_slice_vals, (uint_vals w64, (EL.vals Q.the_type Q'.the_laws, (shr_slice_vals, tt)))))
       (λ κs. (shr_slice_Tells (named 0) κs.0 R.the_row, (uint_Tells w64, (EL.tells Q.the_type Q'.the_laws, (mut_slice_Tells (named 1) κs.1.0 u16, tt)))))
       (λ κs qs bounds a g are. via 𝓤 _ (fst∗ 𝓤 _ (emp 𝓤))
       (walk 𝓛 mem run κs.0 κs.1.0 qs.0 qs.1.0 a.0.ref_ptr.0 a.0.ref_ptr.1 a.0.ghost_name a.0.now a.1.0 a.1.1.0 a.1.1.1.0.ref_ptr.0 a.1.1.1.0.ref_ptr.1 a.1.1.1.0.ghost_name a.1.1.1.0.now
       𝓣 known are.0 are.1.0.1 are.1.1.0 are.1.1.1.0))
 
-  list-meets : (𝓣 : Tables 𝓤 H) → Triple 𝓤 (𝓣.C #list-with) (ListWith 𝓛 mem run) → Meets 𝓛 list.signature (WpFn 𝓤 H 𝓣.C 𝓣.Λ code.function) (list.spec 𝓛 mem run)
-  list-meets 𝓣 known = walk_Meets 𝓛 list.ended stayed
+  list_meets : (𝓣 : Tables 𝓤 H) → Triple 𝓤 (𝓣.C #list-with) (ListWith 𝓛 mem run) → Meets 𝓛 list.signature (WpFn 𝓤 H 𝓣.C 𝓣.Λ code.function) (list.spec 𝓛 mem run)
+  list_meets 𝓣 known = walk_Meets 𝓛 list.ended stayed
       (Goes-none_slice 𝓛 2 (0 ∷ []) tt (plain (λ _. R.the_row)) yes, (Goes-none 𝓛 2 (λ _. usize) yes (λ κs x f. refl), (Goes-none 𝓛 2 (λ _. Q.the_row) yes (λ κs x f. refl), (Goes-slice 𝓛 2 1 tt (plain (λ _. u16)), tt))))
-      (list.clauses 𝓛 mem run) (WpFn 𝓤 H 𝓣.C 𝓣.Λ code.function) (WpFn-mono 𝓤 H 𝓛.laws 𝓣 code.function) (list-walks 𝓣 known)
+      (list.clauses 𝓛 mem run) (WpFn 𝓤 H 𝓣.C 𝓣.Λ code.function) (WpFn-mono 𝓤 H 𝓛.laws 𝓣 code.function) (list_walks 𝓣 known)
 
-pub list-spec : {M : Type 1} → stated.statement M
+pub list_spec : {M : Type 1} → stated.statement M
 unfolding code.routine tables_of
-list-spec 𝓤 𝓛 𝓜 𝓡 =
+list_spec 𝓤 𝓛 𝓜 𝓡 =
     entered 𝓤 𝓛.H (triple_of 𝓛 list.signature (list.spec 𝓛 𝓜.mem 𝓡.run))
     (tables 𝓤 𝓛.H 𝓜 𝓡 code.env).C (tables 𝓤 𝓛.H 𝓜 𝓡 code.env).Λ #list code.function (code.unfolded 𝓤 𝓛.H 𝓜 𝓡)
-    (list-meets 𝓛 𝓜.mem 𝓡.run (tables_of 𝓤 𝓛.H 𝓜 (tables 𝓤 𝓛.H 𝓜 𝓡 code.env))
+    (list_meets 𝓛 𝓜.mem 𝓡.run (tables_of 𝓤 𝓛.H 𝓜 (tables 𝓤 𝓛.H 𝓜 𝓡 code.env))
     (cited 𝓤 𝓛.H (ListWith 𝓛 𝓜.mem 𝓡.run) 𝓜 𝓡 code.env #list-with list-with-def.routine code.calls-maps::steps::list-with (list-with-thm.met 𝓤 𝓛 𝓜 𝓡)))

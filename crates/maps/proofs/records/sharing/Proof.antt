@@ -19,15 +19,15 @@ use Rattle.maps.specs.contracts.records.sharing.Key.{name as #sharing}
 use Rattle.maps.specs.contracts.records.sharing as sharing
 use Rattle.maps.proofs.records.sharing.Statement as stated
 use Rattle.maps.proofs.records.sharing.Code as code
-use Rattle.maps.proofs.Handing.{Ask, hands-meets}
+use Rattle.maps.proofs.Handing.{Ask, hands_meets}
 
 made : (first cells : ℕ) → first < 2 ^ 64 → cells < 2 ^ 64 → Is Q.the_row (Sharing first cells) (vstruct (vcons (vint w8 0) (vcons (vint w64 first) (vcons (vint w64 cells) vnil))) ∷ [])
 made first cells gf gs = EL.owes Q.the_type Q'.the_laws (Sharing first cells) ((refl, gf), ((refl, gs), tt))
 
-pub sharing-spec : {M : Type 1} → stated.statement M
+pub sharing_spec : {M : Type 1} → stated.statement M
 unfolding code.routine tables_of
-sharing-spec 𝓤 𝓛 𝓜 𝓡 =
+sharing_spec 𝓤 𝓛 𝓜 𝓡 =
     entered 𝓤 𝓛.H (triple_of 𝓛 sharing.signature (sharing.spec 𝓛 𝓜.mem 𝓡.run))
     (tables 𝓤 𝓛.H 𝓜 𝓡 code.env).C (tables 𝓤 𝓛.H 𝓜 𝓡 code.env).Λ #sharing code.function (code.unfolded 𝓤 𝓛.H 𝓜 𝓡)
-    (hands-meets 0 tt Sharing made 𝓛 𝓜.mem 𝓡.run (tables_of 𝓤 𝓛.H 𝓜 (tables 𝓤 𝓛.H 𝓜 𝓡 code.env))
+    (hands_meets 0 tt Sharing made 𝓛 𝓜.mem 𝓡.run (tables_of 𝓤 𝓛.H 𝓜 (tables 𝓤 𝓛.H 𝓜 𝓡 code.env))
     (cited 𝓤 𝓛.H (Ask 0 tt Sharing made 𝓛 𝓜.mem 𝓡.run) 𝓜 𝓡 code.env #ask ask-def.routine code.calls-maps::records::ask (ask-thm.met 𝓤 𝓛 𝓜 𝓡)))

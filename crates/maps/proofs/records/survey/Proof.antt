@@ -57,12 +57,12 @@ use Rattle.table.specs.contracts.ReservationState as S
 use Rattle.table.proofs.ReservationState.TheLaws as S'
 use Rattle.maps.specs.declared.Question.{Question}
 use Rattle.maps.specs.declared.Seen.{Seen}
-use Rattle.maps.specs.Walks.{seenWith, seenOver, nothing as none_seen}
+use Rattle.maps.specs.Walks.{seen_with, seen_over, nothing as none_seen}
 use Rattle.maps.specs.contracts.Question as Q
 use Rattle.maps.proofs.Question.TheLaws as Q'
 use Rattle.maps.specs.contracts.Seen as E
 use Rattle.maps.proofs.Seen.TheLaws as E'
-use Rattle.maps.proofs.Turning.{seen-turn, seen_all}
+use Rattle.maps.proofs.Turning.{seen_turn, seen_all}
 use Rattle.maps.specs.contracts.steps.nothing as none
 use Rattle.maps.proofs.steps.nothing.Symbol as none-def
 use Rattle.maps.proofs.steps.nothing.Symbol.{name as #none}
@@ -87,11 +87,11 @@ abbrev stayed : Stays (survey.ended).signature.params (survey.ended).kept
 stayed = (stay_none_slice (0 ∷ []) tt (plain (λ _. R.the_row)) yes, (stay_none (λ _. Q.the_row) yes, tt))
 
 -- the machine values
-abbrev row-val : Reservation → Val
-row-val = LL.val R.the_type R'.the_laws
+abbrev row_val : Reservation → Val
+row_val = LL.val R.the_type R'.the_laws
 
-abbrev state-val : Reservation → Val
-state-val r = EL.val S.the_type S'.the_laws r.state
+abbrev state_val : Reservation → Val
+state_val r = EL.val S.the_type S'.the_laws r.state
 
 -- what the turns hand on: the place of the next record, what was seen, and its machine value
 record Turn (q : Question) (ys : List Reservation) : Type 0 where
@@ -100,7 +100,7 @@ record Turn (q : Question) (ys : List Reservation) : Type 0 where
   u : Val
   low : i ≤ length ys
   is : Is E.the_row s (u ∷ [])
-  goes : seenOver q s (after i ys) ≡ seenOver q none_seen ys
+  goes : seen_over q s (after i ys) ≡ seen_over q none_seen ys
 
 module _ {M : Type 1} {𝓤 : Ura M} (𝓛 : Logic 𝓤) (mem : Memory → SProp 𝓤) (run : Routine → Fun 𝓤) where
   -- the contracts that the proof cites
@@ -135,7 +135,7 @@ module _ {M : Type 1} {𝓤 : Ura M} (𝓛 : Logic 𝓤) (mem : Memory → SProp
   Own = (ShrSlice (named 0) κ R.the_row).own_val x (v ∷ [])
 
   abbrev total : Seen
-  total = seenOver qn none_seen ys
+  total = seen_over qn none_seen ys
 
   exits : Is Q.the_row qn (qv ∷ []) → (s : Seen) (u : Val) → s ≡ total → Is E.the_row s (u ∷ []) → ent 𝓤 (⋆ 𝓛 (‵ (flft κ q) ∷ ‵ Own ∷ [])) (Post u)
   exits isq s u e is =
@@ -147,12 +147,12 @@ module _ {M : Type 1} {𝓤 : Ura M} (𝓛 : Logic 𝓤) (mem : Memory → SProp
 
   -- the call of `seen_with` on a record's numbers: what it is passed, what it asks, and what is known of its result
   abbrev passed : Seen → Val → Reservation → Vals seen-with.signature tt
-  passed s u r = (qv ∷ [], (u ∷ [], (vint w16 r.base ∷ [], (vint w16 r.length ∷ [], (state-val r ∷ [], tt)))))
+  passed s u r = (qv ∷ [], (u ∷ [], (vint w16 r.base ∷ [], (vint w16 r.length ∷ [], (state_val r ∷ [], tt)))))
 
   abbrev to : Seen → Val → Reservation → (SeenWith 𝓛 mem run).Ghost
   to s u r = ((tt, tt, tt, (qn, (s, (r.base, (r.length, (r.state, tt))))), passed s u r), tt)
 
-  asked : Is Q.the_row qn (qv ∷ []) → (s : Seen) (u : Val) (r : Reservation) → Is E.the_row s (u ∷ []) → Is R.the_row r (row-val r ∷ []) → ent 𝓤 (emp 𝓤) ((SeenWith 𝓛 mem run).pre (to s u r))
+  asked : Is Q.the_row qn (qv ∷ []) → (s : Seen) (u : Val) (r : Reservation) → Is E.the_row s (u ∷ []) → Is R.the_row r (row_val r ∷ []) → ent 𝓤 (emp 𝓤) ((SeenWith 𝓛 mem run).pre (to s u r))
   asked isq s u r is isr =
       qed 𝓛 [] ∵ nothing ! $
       owned ! S.the_row (Is S.the_row) (EL.makes S.the_type S'.the_plain 𝓛) r.state _ (LL.owed R.the_type R'.the_laws r _ isr).1.1.0 $ fjoin ! $
@@ -162,8 +162,8 @@ module _ {M : Type 1} {𝓤 : Ura M} (𝓛 : Logic 𝓤) (mem : Memory → SProp
       owned ! Q.the_row (Is Q.the_row) (EL.makes Q.the_type Q'.the_plain 𝓛) qn _ isq $ fjoin ! $
       nothing ! $ join ! $ frame ! $ done !
 
-  said : (s : Seen) (u : Val) (r : Reservation) (s' : Seen) → ent 𝓤 (ensured 𝓛 seen-with.ended (seen-with.clauses 𝓛 mem run) tt (to s u r).0.3 tt s') (fact 𝓤 (s' ≡ seenWith qn s r.base r.length r.state))
-  said s u r s' = ex_e 𝓤 _ (λ ws. snd∗ 𝓤 (sem 𝓛 (lasts seen-with.ended tt (to s u r).0.3 ws)) (fact 𝓤 (s' ≡ seenWith qn s r.base r.length r.state)))
+  said : (s : Seen) (u : Val) (r : Reservation) (s' : Seen) → ent 𝓤 (ensured 𝓛 seen-with.ended (seen-with.clauses 𝓛 mem run) tt (to s u r).0.3 tt s') (fact 𝓤 (s' ≡ seen_with qn s r.base r.length r.state))
+  said s u r s' = ex_e 𝓤 _ (λ ws. snd∗ 𝓤 (sem 𝓛 (lasts seen-with.ended tt (to s u r).0.3 ws)) (fact 𝓤 (s' ≡ seen_with qn s r.base r.length r.state)))
 
   none_said : (s : Seen) → ent 𝓤 (ensured 𝓛 none.ended (none.clauses 𝓛 mem run) tt tt tt s) (fact 𝓤 (s ≡ none_seen))
   none_said s = ex_e 𝓤 _ (λ ws. snd∗ 𝓤 (sem 𝓛 (lasts none.ended tt tt ws)) (fact 𝓤 (s ≡ none_seen)))
@@ -171,8 +171,8 @@ module _ {M : Type 1} {𝓤 : Ura M} (𝓛 : Logic 𝓤) (mem : Memory → SProp
   abbrev Nearer : Turn qn ys → Turn qn ys → Type 0
   Nearer t' t = n - t'.i < n - t.i
 
-  nearer-wf : WellFounded Nearer
-  nearer-wf = InvImage.wf (λ (t : Turn qn ys). n - t.i) lt-wf_rel.wf
+  nearer_wf : WellFounded Nearer
+  nearer_wf = InvImage.wf (λ (t : Turn qn ys). n - t.i) lt-wf_rel.wf
 
   module _ (𝓣 : Tables 𝓤 H) (isq : Is Q.the_row qn (qv ∷ [])) (room : Room R.the_row n) (known : Triple 𝓤 (𝓣.C #seen-with) (SeenWith 𝓛 mem run)) (l₀ l₁ l₂ l₃ l₄ l₅ l₆ l₇ l₈ l₉ : ℕ) where
     abbrev C : Calls 𝓤 H
@@ -211,7 +211,7 @@ module _ {M : Type 1} {𝓤 : Ura M} (𝓛 : Logic 𝓤) (mem : Memory → SProp
             looks_slice ! tt R.the_row (Is R.the_row) (shows 𝓛 R.the_row) (LL.vals R.the_type R'.the_laws) (LL.tells R.the_type R'.the_laws) (LL.copy R.the_type R'.the_copy 𝓛) ys b o (λ q'.
             elem_out ! R.the_row (Is R.the_row) (shows 𝓛 R.the_row) (LL.vals R.the_type R'.the_laws) (LL.tells R.the_type R'.the_laws) q' ys t.i blank b o less (λ isr.
             assigns ! (of_opd ! (load ! (from ! (hop ! (look ! 8 refl) (stop !))) (look_raw ! 0 refl))) (from ! (stop !)) (init ! 6 refl ((LL.lawful R.the_type R'.the_laws 𝓛).typed r _ isr).0) $
-            elem_back ! R.the_row q' ys t.i blank (row-val r ∷ []) b o less $ shuts_slice ! tt R.the_row q' ys b o $
+            elem_back ! R.the_row q' ys t.i blank (row_val r ∷ []) b o less $ shuts_slice ! tt R.the_row q' ys b o $
             -- [the token; the fractured borrow; what the slice owns; _9; …]
             assigns ! (of_opd ! (load ! (from ! (stop !)) (look ! 3 refl))) (from ! (stop !)) (init ! 11 refl ((LL.lawful R.the_type R'.the_laws 𝓛).typed r _ isr).0) $
             use0 𝓛 (raw ((SeenWith 𝓛 mem run).pre (to t.s t.u r))) (asked isq t.s t.u r t.is isr) $
@@ -219,12 +219,12 @@ module _ {M : Type 1} {𝓤 : Ura M} (𝓛 : Logic 𝓤) (mem : Memory → SProp
             (and_then ! (load ! (from ! (stop !)) (look ! 18 refl)) (and_then ! (load ! (from ! (stop !)) (look ! 16 refl)) (and_then ! (load ! (from ! (fld ! refl (stop !))) (look_in ! 12 (sub ! 0 refl (whole !))))
             (and_then ! (load ! (from ! (fld ! refl (stop !))) (look_in ! 12 (sub ! 1 refl (whole !)))) (and_then ! (load ! (from ! (fld ! refl (stop !))) (look_in ! 12 (sub ! 2 refl (whole !)))) (no_more !)))))) (λ u'.
             use1 𝓛 (later (some (λ (s' : Seen). (‵ ftrue ⊛ ‵ ((E.the_row).own_val s' (u' ∷ []))) ⊛ raw (ensured 𝓛 seen-with.ended (seen-with.clauses 𝓛 mem run) tt (to t.s t.u r).0.3 tt s')))) (id⊢ 𝓤 _) $ await ! tt $ pick ! (λ s'.
-            split ! $ move ! (1 ∷ []) $ use1 𝓛 (raw (fact 𝓤 (s' ≡ seenWith qn t.s r.base r.length r.state))) (said t.s t.u r s') $ heard ! (s' ≡ seenWith qn t.s r.base r.length r.state) (λ e'.
+            split ! $ move ! (1 ∷ []) $ use1 𝓛 (raw (fact 𝓤 (s' ≡ seen_with qn t.s r.base r.length r.state))) (said t.s t.u r s') $ heard ! (s' ≡ seen_with qn t.s r.base r.length r.state) (λ e'.
             split ! $ drop ! $ facts ! E.the_row (Is E.the_row) (shows 𝓛 E.the_row) s' (u' ∷ []) (λ is'.
             land ! (from ! (stop !)) (store ! 15 refl ((LL.lawful E.the_type E'.the_laws 𝓛).typed s' _ is').0) $
             assigns_last ! (bin ! (load ! (from ! (stop !)) (look ! 13 refl)) (lit ! tt) (record { fits = fits })) (from ! (stop !)) (store ! 13 refl (tt, record { fits = fits })) $
             forget ! 3 refl $ forget ! 5 refl $ forget ! 7 refl $ forget ! 9 refl $ forget ! 11 refl $ move ! (1 ∷ 0 ∷ []) $
-            again ! Nearer At t (record { i = t.i + 1; s = s'; u = u'; low = omega (arith, less); is = is'; goes = seen-turn qn ys t.s s' total t.i less t.goes e' }) (omega (arith, less))))))))
+            again ! Nearer At t (record { i = t.i + 1; s = s'; u = u'; low = omega (arith, less); is = is'; goes = seen_turn qn ys t.s s' total t.i less t.goes e' }) (omega (arith, less))))))))
           where
             less : t.i < n
             less = ltb-true t.i n e
@@ -264,7 +264,7 @@ module _ {M : Type 1} {𝓤 : Ura M} (𝓛 : Logic 𝓤) (mem : Memory → SProp
         split ! $ drop ! $ facts ! E.the_row (Is E.the_row) (shows 𝓛 E.the_row) s (u ∷ []) (λ is.
         land ! (from ! (stop !)) (init ! 15 refl ((LL.lawful E.the_type E'.the_laws 𝓛).typed s _ is).0) $
         assigns ! (of_opd ! (lit ! tt)) (from ! (stop !)) (init ! 13 refl (tt, record { fits = lit< tt })) $
-        first ! $ blocks ! $ loops ! 𝓣 Nearer nearer-wf At turns (record { i = 0; s = s; u = u; low = omega arith; is = is; goes = ap (λ (s₀ : Seen). seenOver qn s₀ ys) e })))))
+        first ! $ blocks ! $ loops ! 𝓣 Nearer nearer_wf At turns (record { i = 0; s = s; u = u; low = omega arith; is = is; goes = ap (λ (s₀ : Seen). seen_over qn s₀ ys) e })))))
 
   module _ (𝓣 : Tables 𝓤 H) (known-none : Triple 𝓤 (𝓣.C #none) (None 𝓛 mem run)) (known : Triple 𝓤 (𝓣.C #seen-with) (SeenWith 𝓛 mem run)) where
     walk : Is (ShrSlice (named 0) κ R.the_row) x (v ∷ []) → Is Q.the_row qn (qv ∷ []) → ent 𝓤 (on_entry 𝓛 survey.signature (κ, tt) (q, tt) (x, (qn, tt)) at) (WpFn 𝓤 H 𝓣.C 𝓣.Λ code.function (v ∷ qv ∷ []) Post)
@@ -280,22 +280,22 @@ module _ {M : Type 1} {𝓤 : Ura M} (𝓛 : Logic 𝓤) (mem : Memory → SProp
 module _ {M : Type 1} {𝓤 : Ura M} (𝓛 : Logic 𝓤) (mem : Memory → SProp 𝓤) (run : Routine → Fun 𝓤) where
   open 𝓛 use {H}
 
-  survey-walks : (𝓣 : Tables 𝓤 H) → Triple 𝓤 (𝓣.C #none) (None 𝓛 mem run) → Triple 𝓤 (𝓣.C #seen-with) (SeenWith 𝓛 mem run)
+  survey_walks : (𝓣 : Tables 𝓤 H) → Triple 𝓤 (𝓣.C #none) (None 𝓛 mem run) → Triple 𝓤 (𝓣.C #seen-with) (SeenWith 𝓛 mem run)
       → Walks 𝓛 survey.ended stayed (WpFn 𝓤 H 𝓣.C 𝓣.Λ code.function) (survey.clauses 𝓛 mem run)
-  survey-walks 𝓣 known-none known = walked 𝓛 survey.ended stayed (survey.clauses 𝓛 mem run) (WpFn 𝓤 H 𝓣.C 𝓣.Λ code.function)
+  survey_walks 𝓣 known-none known = walked 𝓛 survey.ended stayed (survey.clauses 𝓛 mem run) (WpFn 𝓤 H 𝓣.C 𝓣.Λ code.function)
       (λ κs. (shr_slice_vals, (EL.vals Q.the_type Q'.the_laws, tt))) (λ κs. (shr_slice_Tells (named 0) κs.0 R.the_row, (EL.tells Q.the_type Q'.the_laws, tt)))
       (λ κs qs bounds a g are. via 𝓤 _ (fst∗ 𝓤 _ (emp 𝓤)) (walk 𝓛 mem run κs.0 qs.0 a.0.ref_ptr.0 a.0.ref_ptr.1 0 a.0.now a.1.0 𝓣 known-none known are.0 are.1.0))
 
-  survey-meets : (𝓣 : Tables 𝓤 H) → Triple 𝓤 (𝓣.C #none) (None 𝓛 mem run) → Triple 𝓤 (𝓣.C #seen-with) (SeenWith 𝓛 mem run)
+  survey_meets : (𝓣 : Tables 𝓤 H) → Triple 𝓤 (𝓣.C #none) (None 𝓛 mem run) → Triple 𝓤 (𝓣.C #seen-with) (SeenWith 𝓛 mem run)
       → Meets 𝓛 survey.signature (WpFn 𝓤 H 𝓣.C 𝓣.Λ code.function) (survey.spec 𝓛 mem run)
-  survey-meets 𝓣 known-none known = walk_Meets 𝓛 survey.ended stayed (Goes-none_slice 𝓛 1 (0 ∷ []) tt (plain (λ _. R.the_row)) yes, (Goes-none 𝓛 1 (λ _. Q.the_row) yes (λ κs x f. refl), tt))
-      (survey.clauses 𝓛 mem run) (WpFn 𝓤 H 𝓣.C 𝓣.Λ code.function) (WpFn-mono 𝓤 H 𝓛.laws 𝓣 code.function) (survey-walks 𝓣 known-none known)
+  survey_meets 𝓣 known-none known = walk_Meets 𝓛 survey.ended stayed (Goes-none_slice 𝓛 1 (0 ∷ []) tt (plain (λ _. R.the_row)) yes, (Goes-none 𝓛 1 (λ _. Q.the_row) yes (λ κs x f. refl), tt))
+      (survey.clauses 𝓛 mem run) (WpFn 𝓤 H 𝓣.C 𝓣.Λ code.function) (WpFn-mono 𝓤 H 𝓛.laws 𝓣 code.function) (survey_walks 𝓣 known-none known)
 
-pub survey-spec : {M : Type 1} → stated.statement M
+pub survey_spec : {M : Type 1} → stated.statement M
 unfolding code.routine tables_of
-survey-spec 𝓤 𝓛 𝓜 𝓡 =
+survey_spec 𝓤 𝓛 𝓜 𝓡 =
     entered 𝓤 𝓛.H (triple_of 𝓛 survey.signature (survey.spec 𝓛 𝓜.mem 𝓡.run))
     (tables 𝓤 𝓛.H 𝓜 𝓡 code.env).C (tables 𝓤 𝓛.H 𝓜 𝓡 code.env).Λ #survey code.function (code.unfolded 𝓤 𝓛.H 𝓜 𝓡)
-    (survey-meets 𝓛 𝓜.mem 𝓡.run (tables_of 𝓤 𝓛.H 𝓜 (tables 𝓤 𝓛.H 𝓜 𝓡 code.env))
+    (survey_meets 𝓛 𝓜.mem 𝓡.run (tables_of 𝓤 𝓛.H 𝓜 (tables 𝓤 𝓛.H 𝓜 𝓡 code.env))
     (cited 𝓤 𝓛.H (None 𝓛 𝓜.mem 𝓡.run) 𝓜 𝓡 code.env #none none-def.routine code.calls-maps::steps::nothing (none-thm.met 𝓤 𝓛 𝓜 𝓡))
     (cited 𝓤 𝓛.H (SeenWith 𝓛 𝓜.mem 𝓡.run) 𝓜 𝓡 code.env #seen-with seen-with-def.routine code.calls-maps::steps::seen-with (seen-with-thm.met 𝓤 𝓛 𝓜 𝓡)))

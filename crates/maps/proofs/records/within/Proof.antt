@@ -19,15 +19,15 @@ use Rattle.maps.specs.contracts.records.within.Key.{name as #within}
 use Rattle.maps.specs.contracts.records.within as within
 use Rattle.maps.proofs.records.within.Statement as stated
 use Rattle.maps.proofs.records.within.Code as code
-use Rattle.maps.proofs.Handing.{Ask, hands-meets}
+use Rattle.maps.proofs.Handing.{Ask, hands_meets}
 
 made : (first cells : ℕ) → first < 2 ^ 64 → cells < 2 ^ 64 → Is Q.the_row (Within first cells) (vstruct (vcons (vint w8 1) (vcons (vint w64 first) (vcons (vint w64 cells) vnil))) ∷ [])
 made first cells gf gs = EL.owes Q.the_type Q'.the_laws (Within first cells) ((refl, gf), ((refl, gs), tt))
 
-pub within-spec : {M : Type 1} → stated.statement M
+pub within_spec : {M : Type 1} → stated.statement M
 unfolding code.routine tables_of
-within-spec 𝓤 𝓛 𝓜 𝓡 =
+within_spec 𝓤 𝓛 𝓜 𝓡 =
     entered 𝓤 𝓛.H (triple_of 𝓛 within.signature (within.spec 𝓛 𝓜.mem 𝓡.run))
     (tables 𝓤 𝓛.H 𝓜 𝓡 code.env).C (tables 𝓤 𝓛.H 𝓜 𝓡 code.env).Λ #within code.function (code.unfolded 𝓤 𝓛.H 𝓜 𝓡)
-    (hands-meets 1 tt Within made 𝓛 𝓜.mem 𝓡.run (tables_of 𝓤 𝓛.H 𝓜 (tables 𝓤 𝓛.H 𝓜 𝓡 code.env))
+    (hands_meets 1 tt Within made 𝓛 𝓜.mem 𝓡.run (tables_of 𝓤 𝓛.H 𝓜 (tables 𝓤 𝓛.H 𝓜 𝓡 code.env))
     (cited 𝓤 𝓛.H (Ask 1 tt Within made 𝓛 𝓜.mem 𝓡.run) 𝓜 𝓡 code.env #ask ask-def.routine code.calls-maps::records::ask (ask-thm.met 𝓤 𝓛 𝓜 𝓡)))

@@ -12,5 +12,5 @@ returns-2 c = one_found _ _ _ c.before.if1.false c.if2.true
 returns-3 : tie.Need-returns-3
 returns-3 c = none_found _ _ _ c.before.if1.false c.if2.false
 
-pub answer-with-spec : {M : Type 1} → statement M
-answer-with-spec = tie.close (tie.spec returns returns-2 returns-3)
+pub answer_with_spec : {M : Type 1} → statement M
+answer_with_spec = tie.close (tie.spec returns returns-2 returns-3)

@@ -10,5 +10,5 @@ beyond-requires c κs = search rules
 returns : tie.Need-returns
 returns c = rw c.beyond.ensures refl
 
-pub bad-list-spec : {M : Type 1} → statement M
-bad-list-spec = tie.close (tie.spec beyond-requires returns)
+pub bad_list_spec : {M : Type 1} → statement M
+bad_list_spec = tie.close (tie.spec beyond-requires returns)

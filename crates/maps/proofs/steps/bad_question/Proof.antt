@@ -1,6 +1,6 @@
 -- `maps::steps::bad_question` meets its contract: by the question.
 use mathlib.Core.Path.{refl}
-use Rattle.maps.specs.Questions.{badQuestion}
+use Rattle.maps.specs.Questions.{bad_question}
 use borrow.Author.Rules.{rules}
 use Rattle.maps.proofs.steps.bad_question.Statement.{statement}
 use Rattle.maps.proofs.steps.bad_question.Tie as tie
@@ -21,19 +21,19 @@ enum-known-question-3 : tie.Need-enum-known-question-3
 enum-known-question-3 c = search rules
 
 returns : tie.Need-returns
-unfolding badQuestion
+unfolding bad_question
 returns c = rw c.before.before.question.given.1 c.bad-list.ensures
 
 returns-2 : tie.Need-returns-2
-unfolding badQuestion
+unfolding bad_question
 returns-2 c = rw c.before.before.question2.given.1 c.bad-list2.ensures
 
 returns-3 : tie.Need-returns-3
-unfolding badQuestion
+unfolding bad_question
 returns-3 c = rw c.before.question3.given.1 refl
 
-pub bad-question-spec : {M : Type 1} → statement M
-bad-question-spec =
+pub bad_question_spec : {M : Type 1} → statement M
+bad_question_spec =
     tie.close
     (tie.spec
     enum-known-question

@@ -1,5 +1,5 @@
 -- `maps::steps::is_listed` meets its contract: by the question.
-use Rattle.maps.specs.Questions.{isListed}
+use Rattle.maps.specs.Questions.{is_listed}
 use mathlib.Core.Path.{refl}
 use borrow.Author.Rules.{rules}
 use Rattle.maps.proofs.steps.is_listed.Statement.{statement}
@@ -21,19 +21,19 @@ enum-known-question-3 : tie.Need-enum-known-question-3
 enum-known-question-3 c = search rules
 
 returns : tie.Need-returns
-unfolding isListed
+unfolding is_listed
 returns c = rw c.before.before.question.given.1 c.shares.ensures
 
 returns-2 : tie.Need-returns-2
-unfolding isListed
+unfolding is_listed
 returns-2 c = rw c.before.before.question2.given.1 c.lies_within.ensures
 
 returns-3 : tie.Need-returns-3
-unfolding isListed
+unfolding is_listed
 returns-3 c = rw c.before.question3.given.1 refl
 
-pub is-listed-spec : {M : Type 1} → statement M
-is-listed-spec =
+pub is_listed_spec : {M : Type 1} → statement M
+is_listed_spec =
     tie.close
     (tie.spec
     enum-known-question

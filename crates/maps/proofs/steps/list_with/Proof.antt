@@ -1,5 +1,5 @@
 -- `maps::steps::list_with` meets its contract: by whether the record is asked for and has room.
-use Rattle.maps.proofs.Walking.{list-more, list_same, has_room}
+use Rattle.maps.proofs.Walking.{list_more, list_same, has_room}
 use borrow.Author.Rules.{rules}
 use Rattle.maps.proofs.steps.list_with.Statement.{statement}
 use Rattle.maps.proofs.steps.list_with.Tie as tie
@@ -20,13 +20,13 @@ same_length : tie.Need-same-length
 same_length c = search rules
 
 returns : tie.Need-returns
-returns c = list-more _ _ _ _ _ _ c.before.is-listed.ensures c.if1.true
+returns c = list_more _ _ _ _ _ _ c.before.is-listed.ensures c.if1.true
 
 returns-2 : tie.Need-returns-2
 returns-2 c = list_same _ _ _ _ _ _ c.before.is-listed.ensures c.if1.false
 
-pub list-with-spec : {M : Type 1} → statement M
-list-with-spec =
+pub list_with_spec : {M : Type 1} → statement M
+list_with_spec =
     tie.close
     (tie.spec
     is-listed-requires

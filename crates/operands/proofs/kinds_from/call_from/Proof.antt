@@ -1,7 +1,7 @@
 -- Made by tools/kinds from the enum of calls: not to be changed here.
 -- In each arm the command is the arm's number; in the last it is none, and the table answers with take.
 use borrow.Author.Rules.{rules}
-use Rattle.operands.proofs.Commands.{made, made-take}
+use Rattle.operands.proofs.Commands.{made, made_take}
 use Rattle.operands.proofs.kinds_from.call_from.Statement.{statement}
 use Rattle.operands.proofs.kinds_from.call_from.Tie as tie
 
@@ -138,10 +138,10 @@ returns-21 : tie.Need-returns-21
 returns-21 c = made c.before.before.before.before.args.numbers.now c.before.before.number_at.ensures c.before.match.keys21 c.destroy-from.ensures
 
 returns-22 : tie.Need-returns-22
-returns-22 c = made-take c.before.before.before.before.args.numbers.now c.before.before.number_at.ensures c.before.match.rest c.take-from2.ensures
+returns-22 c = made_take c.before.before.before.before.args.numbers.now c.before.before.number_at.ensures c.before.match.rest c.take-from2.ensures
 
-pub call-from-spec : {M : Type 1} → statement M
-call-from-spec =
+pub call_from_spec : {M : Type 1} → statement M
+call_from_spec =
     tie.close
     (tie.spec
     number-at-requires

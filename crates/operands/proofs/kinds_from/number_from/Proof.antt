@@ -23,8 +23,8 @@ returns c =
     let fits : get_or x 3 0 < 2 ^ 64 = omega (arith, c.before.before.before.shared-slice-known.given 3) in
     simp (c.number_at.ensures, c.before.byte-at2.ensures, c.before.before.byte_at.ensures, mod-eq_of_lt fits)
 
-pub number-from-spec : {M : Type 1} → statement M
-number-from-spec =
+pub number_from_spec : {M : Type 1} → statement M
+number_from_spec =
     tie.close
     (tie.spec
     byte-at-requires

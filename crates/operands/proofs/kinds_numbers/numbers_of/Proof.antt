@@ -1,8 +1,8 @@
 -- Made by tools/kinds from the enum of calls: not to be changed here.
 -- In each arm the call is of the arm's kind, so that kind's own function answers.
 use borrow.Author.Rules.{rules}
-use Rattle.calls.proofs.Cases.{in-case}
-use Rattle.operands.specs.Numbers.{numbersOf}
+use Rattle.calls.proofs.Cases.{in_case}
+use Rattle.operands.specs.Numbers.{numbers_of}
 use Rattle.operands.proofs.kinds_numbers.numbers_of.Statement.{statement}
 use Rattle.operands.proofs.kinds_numbers.numbers_of.Tie as tie
 
@@ -133,91 +133,91 @@ destroy-numbers-requires : tie.Need-destroy-numbers-requires
 destroy-numbers-requires c κs = search rules
 
 returns : tie.Need-returns
-unfolding numbersOf
-returns c = in-case numbersOf c.before.before.call.given.1 c.take-numbers.ensures
+unfolding numbers_of
+returns c = in_case numbers_of c.before.before.call.given.1 c.take-numbers.ensures
 
 returns-2 : tie.Need-returns-2
-unfolding numbersOf
-returns-2 c = in-case numbersOf c.before.before.call2.given.1 c.split-numbers.ensures
+unfolding numbers_of
+returns-2 c = in_case numbers_of c.before.before.call2.given.1 c.split-numbers.ensures
 
 returns-3 : tie.Need-returns-3
-unfolding numbersOf
-returns-3 c = in-case numbersOf c.before.before.call3.given.1 c.merge-numbers.ensures
+unfolding numbers_of
+returns-3 c = in_case numbers_of c.before.before.call3.given.1 c.merge-numbers.ensures
 
 returns-4 : tie.Need-returns-4
-unfolding numbersOf
-returns-4 c = in-case numbersOf c.before.before.call4.given.1 c.give-numbers.ensures
+unfolding numbers_of
+returns-4 c = in_case numbers_of c.before.before.call4.given.1 c.give-numbers.ensures
 
 returns-5 : tie.Need-returns-5
-unfolding numbersOf
-returns-5 c = in-case numbersOf c.before.before.call5.given.1 c.revoke-numbers.ensures
+unfolding numbers_of
+returns-5 c = in_case numbers_of c.before.before.call5.given.1 c.revoke-numbers.ensures
 
 returns-6 : tie.Need-returns-6
-unfolding numbersOf
-returns-6 c = in-case numbersOf c.before.before.call6.given.1 c.sweep-numbers.ensures
+unfolding numbers_of
+returns-6 c = in_case numbers_of c.before.before.call6.given.1 c.sweep-numbers.ensures
 
 returns-7 : tie.Need-returns-7
-unfolding numbersOf
-returns-7 c = in-case numbersOf c.before.before.call7.given.1 c.collect-numbers.ensures
+unfolding numbers_of
+returns-7 c = in_case numbers_of c.before.before.call7.given.1 c.collect-numbers.ensures
 
 returns-8 : tie.Need-returns-8
-unfolding numbersOf
-returns-8 c = in-case numbersOf c.before.before.call8.given.1 c.map-numbers.ensures
+unfolding numbers_of
+returns-8 c = in_case numbers_of c.before.before.call8.given.1 c.map-numbers.ensures
 
 returns-9 : tie.Need-returns-9
-unfolding numbersOf
-returns-9 c = in-case numbersOf c.before.before.call9.given.1 c.unmap-numbers.ensures
+unfolding numbers_of
+returns-9 c = in_case numbers_of c.before.before.call9.given.1 c.unmap-numbers.ensures
 
 returns-10 : tie.Need-returns-10
-unfolding numbersOf
-returns-10 c = in-case numbersOf c.before.before.call10.given.1 c.zero-numbers.ensures
+unfolding numbers_of
+returns-10 c = in_case numbers_of c.before.before.call10.given.1 c.zero-numbers.ensures
 
 returns-11 : tie.Need-returns-11
-unfolding numbersOf
-returns-11 c = in-case numbersOf c.before.before.call11.given.1 c.load-numbers.ensures
+unfolding numbers_of
+returns-11 c = in_case numbers_of c.before.before.call11.given.1 c.load-numbers.ensures
 
 returns-12 : tie.Need-returns-12
-unfolding numbersOf
-returns-12 c = in-case numbersOf c.before.before.call12.given.1 c.store-numbers.ensures
+unfolding numbers_of
+returns-12 c = in_case numbers_of c.before.before.call12.given.1 c.store-numbers.ensures
 
 returns-13 : tie.Need-returns-13
-unfolding numbersOf
-returns-13 c = in-case numbersOf c.before.before.call13.given.1 c.narrow-numbers.ensures
+unfolding numbers_of
+returns-13 c = in_case numbers_of c.before.before.call13.given.1 c.narrow-numbers.ensures
 
 returns-14 : tie.Need-returns-14
-unfolding numbersOf
-returns-14 c = in-case numbersOf c.before.before.call14.given.1 c.number-numbers.ensures
+unfolding numbers_of
+returns-14 c = in_case numbers_of c.before.before.call14.given.1 c.number-numbers.ensures
 
 returns-15 : tie.Need-returns-15
-unfolding numbersOf
-returns-15 c = in-case numbersOf c.before.before.call15.given.1 c.grant-numbers.ensures
+unfolding numbers_of
+returns-15 c = in_case numbers_of c.before.before.call15.given.1 c.grant-numbers.ensures
 
 returns-16 : tie.Need-returns-16
-unfolding numbersOf
-returns-16 c = in-case numbersOf c.before.before.call16.given.1 c.receive-numbers.ensures
+unfolding numbers_of
+returns-16 c = in_case numbers_of c.before.before.call16.given.1 c.receive-numbers.ensures
 
 returns-17 : tie.Need-returns-17
-unfolding numbersOf
-returns-17 c = in-case numbersOf c.before.before.call17.given.1 c.take-masked-numbers.ensures
+unfolding numbers_of
+returns-17 c = in_case numbers_of c.before.before.call17.given.1 c.take-masked-numbers.ensures
 
 returns-18 : tie.Need-returns-18
-unfolding numbersOf
-returns-18 c = in-case numbersOf c.before.before.call18.given.1 c.create-numbers.ensures
+unfolding numbers_of
+returns-18 c = in_case numbers_of c.before.before.call18.given.1 c.create-numbers.ensures
 
 returns-19 : tie.Need-returns-19
-unfolding numbersOf
-returns-19 c = in-case numbersOf c.before.before.call19.given.1 c.claim-numbers.ensures
+unfolding numbers_of
+returns-19 c = in_case numbers_of c.before.before.call19.given.1 c.claim-numbers.ensures
 
 returns-20 : tie.Need-returns-20
-unfolding numbersOf
-returns-20 c = in-case numbersOf c.before.before.call20.given.1 c.release-numbers.ensures
+unfolding numbers_of
+returns-20 c = in_case numbers_of c.before.before.call20.given.1 c.release-numbers.ensures
 
 returns-21 : tie.Need-returns-21
-unfolding numbersOf
-returns-21 c = in-case numbersOf c.before.before.call21.given.1 c.destroy-numbers.ensures
+unfolding numbers_of
+returns-21 c = in_case numbers_of c.before.before.call21.given.1 c.destroy-numbers.ensures
 
-pub numbers-of-spec : {M : Type 1} → statement M
-numbers-of-spec =
+pub numbers_of_spec : {M : Type 1} → statement M
+numbers_of_spec =
     tie.close
     (tie.spec
     enum-known-call

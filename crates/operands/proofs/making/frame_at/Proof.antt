@@ -11,5 +11,5 @@ byte-at-requires c κs = search rules
 returns : tie.Need-returns
 returns c = ap frame c.byte_at.ensures
 
-pub frame-at-spec : {M : Type 1} → statement M
-frame-at-spec = tie.close (tie.spec byte-at-requires returns)
+pub frame_at_spec : {M : Type 1} → statement M
+frame_at_spec = tie.close (tie.spec byte-at-requires returns)

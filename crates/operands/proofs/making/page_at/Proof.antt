@@ -11,5 +11,5 @@ byte-at-requires c κs = search rules
 returns : tie.Need-returns
 returns c = ap page c.byte_at.ensures
 
-pub page-at-spec : {M : Type 1} → statement M
-page-at-spec = tie.close (tie.spec byte-at-requires returns)
+pub page_at_spec : {M : Type 1} → statement M
+page_at_spec = tie.close (tie.spec byte-at-requires returns)

@@ -6,7 +6,7 @@ use lib.ListN.{length, take}
 use Rattle.capabilities.specs.Lists.{each}
 use Rattle.capabilities.proofs.Lists.{each_more}
 use Rattle.operands.specs.Numbers.{agrees}
-use Rattle.operands.proofs.Lists.{other_length, all-looked-at}
+use Rattle.operands.proofs.Lists.{other_length, all_looked_at}
 use Rattle.operands.proofs.slices.same.Statement.{statement}
 use Rattle.operands.proofs.slices.same.Tie as tie
 
@@ -51,7 +51,7 @@ returns-2 : tie.Need-returns-2 invariant-loop decreases-loop
 returns-2 c =
     let a = c.before.before.before.args in
     let loop = c.before.loop in
-    loop.invariant.1 ∙ all-looked-at a.a.now a.b.now loop.i c.before.before.if1.false (omega arith)
+    loop.invariant.1 ∙ all_looked_at a.a.now a.b.now loop.i c.before.before.if1.false (omega arith)
 
 pub same_spec : {M : Type 1} → statement M
 same_spec =

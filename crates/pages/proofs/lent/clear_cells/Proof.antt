@@ -46,8 +46,8 @@ returns c =
     let e : loop.i ≡ length a.cells.now = omega arith in
     loop.invariant.2 ∙ rw (drop_of_length-le a.cells.now {i = loop.i} (omega arith), append-nil, e)
 
-pub clear-cells-spec : {M : Type 1} → statement M
-clear-cells-spec =
+pub clear_cells_spec : {M : Type 1} → statement M
+clear_cells_spec =
     tie.close
     (tie.spec
     invariant-loop

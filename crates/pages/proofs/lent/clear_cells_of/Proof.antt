@@ -1,6 +1,6 @@
--- `pages::lent::clear_cells_of` meets its contract. The part comes back all 0 between what stood around it: `put-cleared`.
+-- `pages::lent::clear_cells_of` meets its contract. The part comes back all 0 between what stood around it: `put_cleared`.
 use borrow.Author.Rules.{rules}
-use Rattle.pages.proofs.Memory.{put-cleared}
+use Rattle.pages.proofs.Memory.{put_cleared}
 use Rattle.pages.proofs.lent.clear_cells_of.Statement.{statement}
 use Rattle.pages.proofs.lent.clear_cells_of.Tie as tie
 
@@ -36,10 +36,10 @@ returns c =
     let clear-cells = c.before.before.clear-cells in
     let a = c.before.before.before.before.before.before.args in
     let pre = c.before.before.before.before.before.before.requires in
-    put-cleared a.frame a.cells.now _ (pre) clear-cells.ensures
+    put_cleared a.frame a.cells.now _ (pre) clear-cells.ensures
 
-pub clear-cells-of-spec : {M : Type 1} → statement M
-clear-cells-of-spec =
+pub clear_cells_of_spec : {M : Type 1} → statement M
+clear_cells_of_spec =
     tie.close
     (tie.spec
     cast-start

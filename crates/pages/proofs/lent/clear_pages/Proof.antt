@@ -46,8 +46,8 @@ returns c =
     let e : loop.i ≡ length a.pages.now = omega arith in
     loop.invariant.2 ∙ rw (drop_of_length-le a.pages.now {i = loop.i} (omega arith), append-nil, e)
 
-pub clear-pages-spec : {M : Type 1} → statement M
-clear-pages-spec =
+pub clear_pages_spec : {M : Type 1} → statement M
+clear_pages_spec =
     tie.close
     (tie.spec
     invariant-loop

@@ -43,8 +43,8 @@ returns c =
     let e : loop.i ≡ length a.tags.now = omega arith in
     loop.invariant.2 ∙ rw (drop_of_length-le a.tags.now {i = loop.i} (omega arith), append-nil, e)
 
-pub clear-tags-spec : {M : Type 1} → statement M
-clear-tags-spec =
+pub clear_tags_spec : {M : Type 1} → statement M
+clear_tags_spec =
     tie.close
     (tie.spec
     invariant-loop

@@ -1,6 +1,6 @@
--- `pages::lent::clear_tags_of` meets its contract. The part comes back all 0 between what stood around it: `put-cleared`.
+-- `pages::lent::clear_tags_of` meets its contract. The part comes back all 0 between what stood around it: `put_cleared`.
 use borrow.Author.Rules.{rules}
-use Rattle.pages.proofs.Memory.{put-cleared}
+use Rattle.pages.proofs.Memory.{put_cleared}
 use Rattle.pages.proofs.lent.clear_tags_of.Statement.{statement}
 use Rattle.pages.proofs.lent.clear_tags_of.Tie as tie
 
@@ -33,10 +33,10 @@ returns c =
     let clear-tags = c.before.before.clear-tags in
     let a = c.before.before.before.before.before.before.args in
     let pre = c.before.before.before.before.before.before.requires in
-    put-cleared a.frame a.tags.now _ (pre) clear-tags.ensures
+    put_cleared a.frame a.tags.now _ (pre) clear-tags.ensures
 
-pub clear-tags-of-spec : {M : Type 1} → statement M
-clear-tags-of-spec =
+pub clear_tags_of_spec : {M : Type 1} → statement M
+clear_tags_of_spec =
     tie.close
     (tie.spec
     cast-start

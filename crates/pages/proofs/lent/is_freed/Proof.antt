@@ -1,10 +1,10 @@
 -- `pages::lent::is_freed` meets its contract: 1 alone is Freed.
-use Rattle.pages.proofs.Reading.{freed-code}
+use Rattle.pages.proofs.Reading.{freed_code_lem}
 use Rattle.pages.proofs.lent.is_freed.Statement.{statement}
 use Rattle.pages.proofs.lent.is_freed.Tie as tie
 
 returns : tie.Need-returns
-returns c = freed-code _
+returns c = freed_code_lem _
 
-pub is-freed-spec : {M : Type 1} → statement M
-is-freed-spec = tie.close (tie.spec returns)
+pub is_freed_spec : {M : Type 1} → statement M
+is_freed_spec = tie.close (tie.spec returns)

@@ -1,7 +1,7 @@
 -- `pages::lent::map` meets its contract. Refused, the numbers are as given; granted, one of each is put.
 use mathlib.Core.Path.{◌≡◌, refl, sym, ap, ◌∙◌}
 use Rattle.capabilities.proofs.Choice.{kept}
-use Rattle.pages.specs.Numbers.{pageCode, frameCode}
+use Rattle.pages.specs.Numbers.{page_code, frame_code}
 use borrow.Author.Rules.{rules}
 use Rattle.pages.proofs.lent.map.Statement.{statement}
 use Rattle.pages.proofs.lent.map.Tie as tie
@@ -43,11 +43,11 @@ same-length-4 : tie.Need-same-length-4
 same-length-4 c = search rules
 
 returns-2 : tie.Need-returns-2
-unfolding pageCode frameCode
+unfolding page_code frame_code
 returns-2 c = (sym c.before.before.before.before.before.before.before.before.before.before.before.if1.false ∙ c.before.before.before.before.before.before.before.before.before.before.before.before.map-code.ensures, (c.before.before.before.before.before.before.before.put-page.ensures, c.before.before.put-frame.ensures))
 
-pub map-spec : {M : Type 1} → statement M
-map-spec =
+pub map_spec : {M : Type 1} → statement M
+map_spec =
     tie.close
     (tie.spec
     map-code-requires

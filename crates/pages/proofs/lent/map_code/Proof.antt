@@ -43,8 +43,8 @@ returns c =
     let a = c.before.before.before.before.before.before.before.before.before.before.before.before.before.args in
     rw (map_read a.v a.f a.pages.now a.frames.now a.page a.frame, c.first3.ensures, c.before.first2.ensures, c.before.before.first.ensures, c.before.before.before.is_free.ensures, c.before.before.before.before.frame-in.ensures, c.before.before.before.before.before.before.is-unmapped.ensures, c.before.before.before.before.before.before.before.page-in.ensures)
 
-pub map-code-spec : {M : Type 1} → statement M
-map-code-spec =
+pub map_code_spec : {M : Type 1} → statement M
+map_code_spec =
     tie.close
     (tie.spec
     cast-outside

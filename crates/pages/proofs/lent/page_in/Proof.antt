@@ -1,6 +1,6 @@
 use mathlib.Core.Path.{◌≡◌, refl, sym, ap, ◌∙◌}
 use lib.ListN.{get_or-eq_default}
-use Rattle.pages.specs.Numbers.{pageFrom}
+use Rattle.pages.specs.Numbers.{page_from}
 use borrow.Author.Rules.{rules}
 use Rattle.pages.proofs.lent.page_in.Statement.{statement}
 use Rattle.pages.proofs.lent.page_in.Tie as tie
@@ -24,10 +24,10 @@ page-from-requires-2 : tie.Need-page-from-requires-2
 page-from-requires-2 c κs = search rules
 
 returns-2 : tie.Need-returns-2
-returns-2 c = c.page-from2.ensures ∙ ap pageFrom (sym (get_or-eq_default c.before.before.before.args.pages.now 0 c.before.if1.false))
+returns-2 c = c.page-from2.ensures ∙ ap page_from (sym (get_or-eq_default c.before.before.before.args.pages.now 0 c.before.if1.false))
 
-pub page-in-spec : {M : Type 1} → statement M
-page-in-spec =
+pub page_in_spec : {M : Type 1} → statement M
+page_in_spec =
     tie.close
     (tie.spec
     mul-page-from

@@ -18,5 +18,5 @@ returns c = search rules
 returns-2 : tie.Need-returns-2
 returns-2 c = sym (set_out c.before.args.frames.now _ _ c.if1.false)
 
-pub put-frame-spec : {M : Type 1} → statement M
-put-frame-spec = tie.close (tie.spec slice-write-frames same_length returns returns-2)
+pub put_frame_spec : {M : Type 1} → statement M
+put_frame_spec = tie.close (tie.spec slice-write-frames same_length returns returns-2)

@@ -21,5 +21,5 @@ returns c = search rules
 returns-2 : tie.Need-returns-2
 returns-2 c = sym (set_out c.before.args.pages.now _ _ c.if1.false)
 
-pub put-page-spec : {M : Type 1} → statement M
-put-page-spec = tie.close (tie.spec mul-pages slice-write-pages same_length returns returns-2)
+pub put_page_spec : {M : Type 1} → statement M
+put_page_spec = tie.close (tie.spec mul-pages slice-write-pages same_length returns returns-2)

@@ -4,7 +4,7 @@ use native.Mathlib.Omega.{arith}
 use mathlib.Core.Path.{◌≡◌, refl, ap, ◌∙◌}
 use Prim.Native.Nat.{ℕ, ◌≤◌, ◌-◌}
 use lib.ListN.{length}
-use Rattle.pages.proofs.RangeNumbers.{walked, walk_start, walk-length, walk_more, walk_end, released-made, released-reads}
+use Rattle.pages.proofs.RangeNumbers.{walked, walk_start, walk_length, walk_more, walk_end, released_made, released_reads}
 use Rattle.pages.proofs.lent.release.Statement.{statement}
 use Rattle.pages.proofs.lent.release.Tie as tie
 
@@ -30,13 +30,13 @@ mul-pages : tie.Need-overflow-mul-pages invariant-loop decreases-loop
 mul-pages c =
     let a = c.before.before.before.before.before.args in
     let loop = c.before.loop in
-    omega (arith, c.before.before.before.end-page.ensures, ap length loop.invariant.2 ∙ walk-length zeroed c.before.before.first-page.result a.pages.now loop.p)
+    omega (arith, c.before.before.before.end-page.ensures, ap length loop.invariant.2 ∙ walk_length zeroed c.before.before.first-page.result a.pages.now loop.p)
 
 slice-write-pages : tie.Need-slice-write-pages invariant-loop decreases-loop
 slice-write-pages c =
     let a = c.before.before.before.before.before.args in
     let loop = c.before.loop in
-    omega (arith, c.before.before.before.end-page.ensures, ap length loop.invariant.2 ∙ walk-length zeroed c.before.before.first-page.result a.pages.now loop.p)
+    omega (arith, c.before.before.before.end-page.ensures, ap length loop.invariant.2 ∙ walk_length zeroed c.before.before.first-page.result a.pages.now loop.p)
 
 add-p : tie.Need-overflow-add-p invariant-loop decreases-loop
 add-p c = omega arith
@@ -55,7 +55,7 @@ same_length : tie.Need-same-length invariant-loop decreases-loop
 same_length c =
     let a = c.before.before.before.before.before.args in
     let loop = c.before.loop in
-    ap length loop.invariant.2 ∙ walk-length zeroed c.before.before.first-page.result a.pages.now loop.p
+    ap length loop.invariant.2 ∙ walk_length zeroed c.before.before.first-page.result a.pages.now loop.p
 
 returns : tie.Need-returns invariant-loop decreases-loop
 returns c =
@@ -63,8 +63,8 @@ returns c =
     let loop = c.before.loop in
     let from = c.before.before.first-page in
     let e = c.before.before.before.end-page.ensures in
-    let d = loop.invariant.2 ∙ walk_end zeroed from.result a.pages.now a.range from.ensures loop.p (omega arith) (omega arith) ∙ released-made a.range a.pages.now in
-    (d, λ v f frames. rw d (released-reads a.range a.pages.now v f frames))
+    let d = loop.invariant.2 ∙ walk_end zeroed from.result a.pages.now a.range from.ensures loop.p (omega arith) (omega arith) ∙ released_made a.range a.pages.now in
+    (d, λ v f frames. rw d (released_reads a.range a.pages.now v f frames))
 
 pub release_spec : {M : Type 1} → statement M
 release_spec =

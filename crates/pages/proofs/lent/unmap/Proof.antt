@@ -3,8 +3,8 @@ use mathlib.Core.Path.{◌≡◌, refl, sym, ap, ◌∙◌}
 use Rattle.capabilities.proofs.Choice.{kept}
 use Prim.Native.Nat.{ℕ}
 use lib.ListN.{set}
-use Rattle.pages.specs.Entries.{frameNumber}
-use Rattle.pages.specs.Numbers.{pageCode, frameCode}
+use Rattle.pages.specs.Entries.{frame_number}
+use Rattle.pages.specs.Numbers.{page_code, frame_code}
 use borrow.Author.Rules.{rules}
 use Rattle.pages.proofs.lent.unmap.Statement.{statement}
 use Rattle.pages.proofs.lent.unmap.Tie as tie
@@ -43,18 +43,18 @@ same-length-3 : tie.Need-same-length-3
 same-length-3 c = search rules
 
 returns-2 : tie.Need-returns-2
-unfolding pageCode frameCode
+unfolding page_code frame_code
 returns-2 c =
     let a = c.before.before.before.before.before.before.before.before.before.before.before.before.before.before.before.before.before.before.args in (
       λ f. sym c.before.before.before.before.before.before.before.before.before.before.before.before.before.if1.false ∙ c.before.before.before.before.before.before.before.before.before.before.before.before.before.before.unmap-code.ensures f a.frames.now,
       (
         c.before.before.before.before.before.before.put-page.ensures,
-        c.before.before.put-frame.ensures ∙ ap (λ (n : ℕ). set a.frames.now n 0) (c.before.before.before.before.before.before.before.before.before.frame-number.ensures ∙ ap frameNumber c.before.before.before.before.before.before.before.before.before.before.page-in.ensures),
+        c.before.before.put-frame.ensures ∙ ap (λ (n : ℕ). set a.frames.now n 0) (c.before.before.before.before.before.before.before.before.before.frame-number.ensures ∙ ap frame_number c.before.before.before.before.before.before.before.before.before.before.page-in.ensures),
       ),
     )
 
-pub unmap-spec : {M : Type 1} → statement M
-unmap-spec =
+pub unmap_spec : {M : Type 1} → statement M
+unmap_spec =
     tie.close
     (tie.spec
     unmap-code-requires

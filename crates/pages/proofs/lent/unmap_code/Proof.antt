@@ -1,6 +1,6 @@
 -- `pages::lent::unmap_code` meets its contract: the reasons in their order.
 use mathlib.Core.Path.{◌≡◌, refl, sym, ap, ◌∙◌}
-use Rattle.pages.proofs.OnNumbers.{unmap-read}
+use Rattle.pages.proofs.OnNumbers.{unmap_read}
 use borrow.Author.Rules.{rules}
 use Rattle.pages.proofs.lent.unmap_code.Statement.{statement}
 use Rattle.pages.proofs.lent.unmap_code.Tie as tie
@@ -29,10 +29,10 @@ first-requires-3 c κs = search rules
 returns : tie.Need-returns
 returns c =
     let a = c.before.before.before.before.before.before.before.before.args in
-    λ f frames. rw (unmap-read a.v f a.pages.now frames a.page a.claimed, c.first3.ensures, c.before.first2.ensures, c.before.before.first.ensures, c.before.before.before.before.is_mapped.ensures, c.before.before.before.before.before.page-in.ensures)
+    λ f frames. rw (unmap_read a.v f a.pages.now frames a.page a.claimed, c.first3.ensures, c.before.first2.ensures, c.before.before.first.ensures, c.before.before.before.before.is_mapped.ensures, c.before.before.before.before.before.page-in.ensures)
 
-pub unmap-code-spec : {M : Type 1} → statement M
-unmap-code-spec =
+pub unmap_code_spec : {M : Type 1} → statement M
+unmap_code_spec =
     tie.close
     (tie.spec
     cast-page-in

@@ -1,6 +1,6 @@
 -- `pages::lent::zero_code` meets its contract: the reasons in their order.
 use mathlib.Core.Path.{◌≡◌, refl, sym, ap, ◌∙◌}
-use Rattle.pages.proofs.OnNumbers.{zero-read}
+use Rattle.pages.proofs.OnNumbers.{zero_read}
 use borrow.Author.Rules.{rules}
 use Rattle.pages.proofs.lent.zero_code.Statement.{statement}
 use Rattle.pages.proofs.lent.zero_code.Tie as tie
@@ -32,10 +32,10 @@ first-requires-3 c κs = search rules
 returns : tie.Need-returns
 returns c =
     let a = c.before.before.before.before.before.before.before.before.args in
-    λ v pages. rw (zero-read v a.f pages a.frames.now a.frame a.cells a.tags, c.first3.ensures, c.before.first2.ensures, c.before.before.first.ensures, c.before.before.before.before.is-dirty.ensures, c.before.before.before.before.before.frame-in.ensures)
+    λ v pages. rw (zero_read v a.f pages a.frames.now a.frame a.cells a.tags, c.first3.ensures, c.before.first2.ensures, c.before.before.first.ensures, c.before.before.before.before.is-dirty.ensures, c.before.before.before.before.before.frame-in.ensures)
 
-pub zero-code-spec : {M : Type 1} → statement M
-zero-code-spec =
+pub zero_code_spec : {M : Type 1} → statement M
+zero_code_spec =
     tie.close
     (tie.spec
     mul-size

@@ -13,15 +13,15 @@ use borrow.Author.Tests.{lt-ltb, le-ltb}
 use Rattle.capabilities.specs.Lists.{each}
 use Rattle.capabilities.proofs.Lists.{each_more}
 use Rattle.pages.specs.Layer.{Tally, mappings}
-use Rattle.pages.specs.Numbers.{pageIn}
-use Rattle.pages.specs.Sound.{showsBelow}
-use Rattle.pages.proofs.Testing.{each-fails, count-hit, count-miss, count_most}
+use Rattle.pages.specs.Numbers.{page_in}
+use Rattle.pages.specs.Sound.{shows_below}
+use Rattle.pages.proofs.Testing.{each_fails, count_hit, count_miss, count_most}
 use mathlib.Core.Path.{subst}
 use Rattle.pages.proofs.sound.counts.Statement.{statement}
 use Rattle.pages.proofs.sound.counts.Tie as tie
 
 abbrev invariant-loop : tie.invariant-loop
-invariant-loop f pages tally₀ limit p₀ tally p = (p ≤ length pages) × (length tally ≡ 128) × (each (showsBelow f) 0 (take p pages) ≡ true) × Tally tally (take p (map pageIn pages))
+invariant-loop f pages tally₀ limit p₀ tally p = (p ≤ length pages) × (length tally ≡ 128) × (each (shows_below f) 0 (take p pages) ≡ true) × Tally tally (take p (map page_in pages))
 
 abbrev decreases-loop : tie.decreases-loop
 decreases-loop f pages tally₀ limit p₀ tally p = length pages - p
@@ -40,8 +40,8 @@ shared-slice-read-code : tie.Need-shared-slice-read-code invariant-loop decrease
 shared-slice-read-code c = omega arith
 
 returns : tie.Need-returns invariant-loop decreases-loop
-unfolding showsBelow
-returns c = (each-fails (showsBelow c.before.before.before.before.args.f) c.before.before.before.before.args.pages.now c.before.before.before.loop.p (omega arith) (le-ltb _ _ c.if1.true), λ e. absurd (false≢true e))
+unfolding shows_below
+returns c = (each_fails (shows_below c.before.before.before.before.args.f) c.before.before.before.before.args.pages.now c.before.before.before.loop.p (omega arith) (le-ltb _ _ c.if1.true), λ e. absurd (false≢true e))
 
 sub-k : tie.Need-overflow-sub-k invariant-loop decreases-loop
 sub-k c = omega arith
@@ -74,17 +74,17 @@ loop-less : tie.Need-loop-smaller invariant-loop decreases-loop
 loop-less c = omega arith
 
 loop-again : tie.Need-loop-preserved invariant-loop decreases-loop
-unfolding showsBelow
+unfolding shows_below
 loop-again c =
     let a = c.before.before.before.before.before.args in
     let loop = c.before.before.before.before.loop in
-    let l = map pageIn a.pages.now in (
+    let l = map page_in a.pages.now in (
       omega arith,
       ⊎_elim (λ w. rw (w.2, length-set) loop.invariant.1) (λ w. rw w.1 loop.invariant.1) c.if2.branch,
-      rw (each_more (showsBelow a.f) a.pages.now loop.p 0 (omega arith)) (rw loop.invariant.2 (lt-ltb _ _ c.before.if1.false)),
+      rw (each_more (shows_below a.f) a.pages.now loop.p 0 (omega arith)) (rw loop.invariant.2 (lt-ltb _ _ c.before.if1.false)),
       ⊎_elim
-          (λ w. subst (λ t. Tally t (take (loop.p + 1) l)) (sym w.2) (count-hit loop.tally a.pages.now loop.p (omega arith) loop.invariant.3 (get_or a.pages.now loop.p 0 - 2) w.0.taken (omega (arith, c.before.before.before.before.before.requires)) refl loop.invariant.1))
-          (λ w. subst (λ t. Tally t (take (loop.p + 1) l)) (sym w.1) (count-miss loop.tally a.pages.now loop.p (omega arith) loop.invariant.3 w.0.left))
+          (λ w. subst (λ t. Tally t (take (loop.p + 1) l)) (sym w.2) (count_hit loop.tally a.pages.now loop.p (omega arith) loop.invariant.3 (get_or a.pages.now loop.p 0 - 2) w.0.taken (omega (arith, c.before.before.before.before.before.requires)) refl loop.invariant.1))
+          (λ w. subst (λ t. Tally t (take (loop.p + 1) l)) (sym w.1) (count_miss loop.tally a.pages.now loop.p (omega arith) loop.invariant.3 w.0.left))
           c.if2.branch,
     )
 
@@ -92,12 +92,12 @@ returns-2 : tie.Need-returns-2 invariant-loop decreases-loop
 returns-2 c =
     let a = c.before.before.args in
     let loop = c.before.loop in (
-      sym loop.invariant.2 ∙ ap (each (showsBelow a.f) 0) (take_all loop.p a.pages.now (omega arith)),
-      λ e. subst (Tally loop.tally) (take_all loop.p (map pageIn a.pages.now) (omega (arith, length-map a.pages.now pageIn))) loop.invariant.3,
+      sym loop.invariant.2 ∙ ap (each (shows_below a.f) 0) (take_all loop.p a.pages.now (omega arith)),
+      λ e. subst (Tally loop.tally) (take_all loop.p (map page_in a.pages.now) (omega (arith, length-map a.pages.now page_in))) loop.invariant.3,
     )
 
-pub counts-spec : {M : Type 1} → statement M
-counts-spec =
+pub counts_spec : {M : Type 1} → statement M
+counts_spec =
     tie.close
     (tie.spec
     invariant-loop

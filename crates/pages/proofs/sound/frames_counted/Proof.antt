@@ -7,12 +7,12 @@ use lib.ListN.{length, take}
 use lib.Seq.{take_all}
 use Rattle.capabilities.specs.Lists.{each}
 use Rattle.capabilities.proofs.Lists.{each_more}
-use Rattle.pages.specs.Sound.{isCounted}
+use Rattle.pages.specs.Sound.{is_counted}
 use Rattle.pages.proofs.sound.frames_counted.Statement.{statement}
 use Rattle.pages.proofs.sound.frames_counted.Tie as tie
 
 abbrev invariant-loop : tie.invariant-loop
-invariant-loop frames tally sound₀ k₀ sound k = (k ≤ length frames) × (sound ≡ each (isCounted tally) 0 (take k frames))
+invariant-loop frames tally sound₀ k₀ sound k = (k ≤ length frames) × (sound ≡ each (is_counted tally) 0 (take k frames))
 
 abbrev decreases-loop : tie.decreases-loop
 decreases-loop frames tally sound₀ k₀ sound k = length frames - k
@@ -40,14 +40,14 @@ loop-less : tie.Need-loop-smaller invariant-loop decreases-loop
 loop-less c = omega arith
 
 loop-again : tie.Need-loop-preserved invariant-loop decreases-loop
-unfolding isCounted
-loop-again c = let loop = c.before.before.before.before.loop in (omega arith, rw (each_more (isCounted c.before.before.before.before.before.before.args.tally.now) c.before.before.before.before.before.before.args.frames.now loop.k 0 (omega arith)) (rw (c.frame-counted.ensures, loop.invariant.1)))
+unfolding is_counted
+loop-again c = let loop = c.before.before.before.before.loop in (omega arith, rw (each_more (is_counted c.before.before.before.before.before.before.args.tally.now) c.before.before.before.before.before.before.args.frames.now loop.k 0 (omega arith)) (rw (c.frame-counted.ensures, loop.invariant.1)))
 
 returns : tie.Need-returns invariant-loop decreases-loop
-returns c = let loop = c.before.loop in loop.invariant.1 ∙ ap (each (isCounted c.before.before.before.args.tally.now) 0) (take_all loop.k c.before.before.before.args.frames.now (omega arith))
+returns c = let loop = c.before.loop in loop.invariant.1 ∙ ap (each (is_counted c.before.before.before.args.tally.now) 0) (take_all loop.k c.before.before.before.args.frames.now (omega arith))
 
-pub frames-counted-spec : {M : Type 1} → statement M
-frames-counted-spec =
+pub frames_counted_spec : {M : Type 1} → statement M
+frames_counted_spec =
     tie.close
     (tie.spec
     invariant-loop

@@ -5,7 +5,7 @@ use native.Mathlib.Omega.{arith}
 use mathlib.Core.Path.{◌≡◌, sym}
 use lib.ListN.{length, take}
 use lib.Seq.{length-take-le}
-use Rattle.session_rules.proofs.Sessions.{take_within, lines-counted}
+use Rattle.session_rules.proofs.Sessions.{take_within, lines_counted}
 use Rattle.printing.proofs.session.lines.Statement.{statement}
 use Rattle.printing.proofs.session.lines.Tie as tie
 
@@ -36,10 +36,10 @@ same_length c = search rules
 returns : tie.Need-returns
 returns c =
     let n = c.before.before.before.before.before.looked-at in
-    lines-counted c.before.before.before.before.before.before.before.before.args.input.now n.result n.ensures.0 c.before.before.read-lines.ensures
+    lines_counted c.before.before.before.before.before.before.before.before.args.input.now n.result n.ensures.0 c.before.before.read-lines.ensures
 
-pub lines-spec : {M : Type 1} → statement M
-lines-spec =
+pub lines_spec : {M : Type 1} → statement M
+lines_spec =
     tie.close
     (tie.spec
     looked-at-requires

@@ -12,5 +12,5 @@ returns c = (sym (ap length (take_all 32768 c.before.args.input.now c.if1.true))
 returns-2 : tie.Need-returns-2
 returns-2 c = (sym (length-take-le 32768 c.before.args.input.now (omega arith)), omega arith)
 
-pub looked-at-spec : {M : Type 1} → statement M
-looked-at-spec = tie.close (tie.spec returns returns-2)
+pub looked_at_spec : {M : Type 1} → statement M
+looked_at_spec = tie.close (tie.spec returns returns-2)

@@ -6,8 +6,8 @@ use mathlib.Core.Bool.{false}
 use mathlib.Core.Path.{sym, ◌∙◌}
 use borrow.Author.Tests.{not-true, not-false}
 use Rattle.lines.specs.Lines.{line_of}
-use Rattle.lines.proofs.Laying.{laid_in}
-use Rattle.session_rules.proofs.Sessions.{read_short, read_out, read-in}
+use Rattle.lines.proofs.Laying.{laid_in_lem}
+use Rattle.session_rules.proofs.Sessions.{read_short, read_out, read_in}
 use Rattle.printing.proofs.session.read_lines.Statement.{statement}
 use Rattle.printing.proofs.session.read_lines.Tie as tie
 
@@ -21,7 +21,7 @@ returns : tie.Need-returns
 returns c =
     let put = c.before.before.put-line in
     let a = c.before.before.before.before.before.before.before.args in
-    read_short a.input.now a.out.now put.result _ c.before.before.before.before.if1.true (laid_in (line_of 1 0 false) 0 put.result a.out.now put.ensures.0 put.ensures.1.0)
+    read_short a.input.now a.out.now put.result _ c.before.before.before.before.if1.true (laid_in_lem (line_of 1 0 false) 0 put.result a.out.now put.ensures.0 put.ensures.1.0)
 
 shared-slice-read-wide : tie.Need-shared-slice-read-wide
 shared-slice-read-wide c = search rules
@@ -66,7 +66,7 @@ returns-2 c =
     let wide = c.before.before.before.before.before.before.before.before.before.before.wide in
     let if1 = c.before.before.before.before.before.before.before.before.before.before.before.before.if1 in
     let a = c.before.before.before.before.before.before.before.before.before.before.before.before.before.before.before.args in
-    read_out a.input.now (256 * wide.result + wide2.result) wide3.result (let e = wide.ensures.0 in let e₂ = wide2.ensures.0 in omega (arith, e, e₂)) wide3.ensures.0 if1.false a.out.now put.result _ (sym range.ensures ∙ not-true _ test.true) (laid_in (line_of 1 0 false) 0 put.result a.out.now put.ensures.0 put.ensures.1.0)
+    read_out a.input.now (256 * wide.result + wide2.result) wide3.result (let e = wide.ensures.0 in let e₂ = wide2.ensures.0 in omega (arith, e, e₂)) wide3.ensures.0 if1.false a.out.now put.result _ (sym range.ensures ∙ not-true _ test.true) (laid_in_lem (line_of 1 0 false) 0 put.result a.out.now put.ensures.0 put.ensures.1.0)
 
 put-line-requires-3 : tie.Need-put-line-requires-3
 put-line-requires-3 c κs = search rules
@@ -98,10 +98,10 @@ returns-3 c =
     let wide = c.before.before.before.before.before.before.before.before.before.before.before.before.before.before.wide in
     let if1 = c.before.before.before.before.before.before.before.before.before.before.before.before.before.before.before.before.if1 in
     let a = c.before.before.before.before.before.before.before.before.before.before.before.before.before.before.before.before.before.before.before.args in
-    read-in a.input.now (256 * wide.result + wide2.result) wide3.result (let e = wide.ensures.0 in let e₂ = wide2.ensures.0 in omega (arith, e, e₂)) wide3.ensures.0 if1.false a.out.now put.result _ (sym range.ensures ∙ not-false _ test.false) (laid_in (line_of 0 0 false) 0 put.result a.out.now put.ensures.0 put.ensures.1.0) started.result _ started.ensures.0 started.ensures.1
+    read_in a.input.now (256 * wide.result + wide2.result) wide3.result (let e = wide.ensures.0 in let e₂ = wide2.ensures.0 in omega (arith, e, e₂)) wide3.ensures.0 if1.false a.out.now put.result _ (sym range.ensures ∙ not-false _ test.false) (laid_in_lem (line_of 0 0 false) 0 put.result a.out.now put.ensures.0 put.ensures.1.0) started.result _ started.ensures.0 started.ensures.1
 
-pub read-lines-spec : {M : Type 1} → statement M
-read-lines-spec =
+pub read_lines_spec : {M : Type 1} → statement M
+read_lines_spec =
     tie.close
     (tie.spec
     put-line-requires

@@ -5,7 +5,7 @@ use native.Mathlib.Omega.{arith}
 use mathlib.Core.Path.{sym, ap, ◌∙◌}
 use lib.ListN.{length, length-replicate}
 use Rattle.arrays.specs.declared.Numbers.{Numbers}
-use Rattle.printing.proofs.Arriving.{begun-formed, frames-most, lent-zeroed, begun_lines}
+use Rattle.printing.proofs.Arriving.{begun_formed, frames_most, lent_zeroed, begun_lines}
 use Rattle.printing.proofs.session.started.Statement.{statement}
 use Rattle.printing.proofs.session.started.Tie as tie
 
@@ -57,32 +57,32 @@ slice-aggregate-commands-9 c = search rules
 array-borrow-prefix-cells : tie.Need-array-borrow-prefix-cells
 array-borrow-prefix-cells c =
     let a = c.before.before.before.before.before.before.before.before.before.before.before.before.args in
-    let m = frames-most a.v a.f c.before.before.before.before.before.before.before.before.before.before.before.before.requires.0 in
+    let m = frames_most a.v a.f c.before.before.before.before.before.before.before.before.before.before.before.before.requires.0 in
     omega (arith, m)
 
 slice-aggregate-commands-10 : tie.Need-slice-aggregate-commands-10
 slice-aggregate-commands-10 c =
     let a = c.before.before.before.before.before.before.before.before.before.before.before.before.before.args in
-    sym (ap length (lent-zeroed a.v a.f c.before.before.before.before.before.before.before.before.before.before.before.before.before.requires.0) ∙ length-replicate (16 * a.f) 0)
+    sym (ap length (lent_zeroed a.v a.f c.before.before.before.before.before.before.before.before.before.before.before.before.before.requires.0) ∙ length-replicate (16 * a.f) 0)
 
 array-borrow-prefix-tags : tie.Need-array-borrow-prefix-tags
 array-borrow-prefix-tags c =
     let a = c.before.before.before.before.before.before.before.before.before.before.before.before.before.args in
-    let m = frames-most a.v a.f c.before.before.before.before.before.before.before.before.before.before.before.before.before.requires.0 in
+    let m = frames_most a.v a.f c.before.before.before.before.before.before.before.before.before.before.before.before.before.requires.0 in
     omega (arith, m)
 
 slice-aggregate-commands-11 : tie.Need-slice-aggregate-commands-11
 slice-aggregate-commands-11 c =
     let a = c.before.before.before.before.before.before.before.before.before.before.before.before.before.before.args in
-    sym (ap length (lent-zeroed a.v a.f c.before.before.before.before.before.before.before.before.before.before.before.before.before.before.requires.0) ∙ length-replicate (16 * a.f) 0)
+    sym (ap length (lent_zeroed a.v a.f c.before.before.before.before.before.before.before.before.before.before.before.before.before.before.requires.0) ∙ length-replicate (16 * a.f) 0)
 
 commands-requires : tie.Need-commands-requires
 commands-requires c κs =
     let a = c.before.before.before.before.before.before.before.before.before.before.before.before.before.before.before.args in
     let p = c.before.before.before.before.before.before.before.before.before.before.before.before.before.before.before.requires in
     let own = c.before.before.before.before.before.before.before.before.before.before.before.before.fresh-numbers in
-    let n = ap length (lent-zeroed a.v a.f p.0) ∙ length-replicate (16 * a.f) 0 ∙ ap (λ (x : Numbers). 16 * x.f) (sym own.ensures) in
-    (begun-formed a.v a.f p.0 own.result own.ensures, ((n, n), p.1))
+    let n = ap length (lent_zeroed a.v a.f p.0) ∙ length-replicate (16 * a.f) 0 ∙ ap (λ (x : Numbers). 16 * x.f) (sym own.ensures) in
+    (begun_formed a.v a.f p.0 own.result own.ensures, ((n, n), p.1))
 
 same_length : tie.Need-same-length
 same_length c = search rules
@@ -94,8 +94,8 @@ returns c =
     let own = c.before.before.before.before.before.before.before.before.before.before.before.before.before.before.before.before.before.before.before.before.before.before.before.before.before.before.fresh-numbers in
     (begun_lines a.v a.f c.before.before.before.before.before.before.before.before.before.before.before.before.before.before.before.before.before.before.before.before.before.before.before.before.before.before.before.before.before.requires.0 own.result own.ensures a.input.now a.begin a.out.now commands.result _ commands.ensures.0, commands.ensures.1)
 
-pub started-spec : {M : Type 1} → statement M
-started-spec =
+pub started_spec : {M : Type 1} → statement M
+started_spec =
     tie.close
     (tie.spec
     mul-rows

@@ -41,8 +41,8 @@ returns : tie.Need-returns
 unfolding first
 returns c = λ v f frames. rw (c.first5.ensures, c.before.first4.ensures, c.before.before.is-revoking.ensures, c.before.before.before.missing.ensures, c.before.before.before.before.first3.ensures, c.before.before.before.before.before.first2.ensures, c.before.before.before.before.before.before.first.ensures, c.before.before.before.before.before.before.before.any-mapped.ensures v f frames, c.before.before.before.before.before.before.before.before.range-of.ensures, c.before.before.before.before.before.before.before.before.before.whole-pages.ensures, c.before.before.before.before.before.before.before.before.before.before.row_in.ensures)
 
-pub revoke-code-spec : {M : Type 1} → statement M
-revoke-code-spec =
+pub revoke_code_spec : {M : Type 1} → statement M
+revoke_code_spec =
     tie.close
     (tie.spec
     row-in-requires

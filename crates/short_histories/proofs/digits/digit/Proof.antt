@@ -18,5 +18,5 @@ returns c = unfold digit in rw (lt-ltb c.before.args.n 10 c.if1.true) (omega ari
 returns-2 : tie.Need-returns-2
 returns-2 c = unfold digit in rw (le-ltb c.before.args.n 10 c.if1.false) (omega arith)
 
-pub digit-spec : {M : Type 1} → statement M
-digit-spec = tie.close (tie.spec add-result add-result-2 returns returns-2)
+pub digit_spec : {M : Type 1} → statement M
+digit_spec = tie.close (tie.spec add-result add-result-2 returns returns-2)

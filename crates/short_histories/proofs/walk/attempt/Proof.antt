@@ -1,6 +1,6 @@
 -- `short_histories::walk::attempt` meets its contract: it hands on what the call leaves.
 use mathlib.Core.Path.{ap}
-use Rattle.short_histories.specs.Walk.{ledBy}
+use Rattle.short_histories.specs.Walk.{led_by}
 use borrow.Author.Rules.{rules}
 use Rattle.short_histories.proofs.walk.attempt.Statement.{statement}
 use Rattle.short_histories.proofs.walk.attempt.Tie as tie
@@ -15,8 +15,8 @@ call-requires : tie.Need-call-requires
 call-requires c κs = search rules
 
 returns : tie.Need-returns
-returns c = unfold ledBy in ap ledBy c.before.before.before.before.before.call.ensures
+returns c = unfold led_by in ap led_by c.before.before.before.before.before.call.ensures
 
-pub attempt-spec : {M : Type 1} → statement M
-attempt-spec =
+pub attempt_spec : {M : Type 1} → statement M
+attempt_spec =
     tie.close (tie.spec slice-aggregate-call slice-aggregate-call-2 call-requires returns)

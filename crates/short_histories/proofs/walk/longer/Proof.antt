@@ -4,8 +4,8 @@ use native.Mathlib.Omega.{arith}
 use mathlib.Core.Path.{◌≡◌, ap}
 use lib.ListN.{length}
 use borrow.Author.Rules.{rules}
-use Rattle.short_histories.proofs.Putting.{length-under}
-use Rattle.short_histories.proofs.Writing.{wrote-length, wrote-longer, not_short}
+use Rattle.short_histories.proofs.Putting.{length_under}
+use Rattle.short_histories.proofs.Writing.{wrote_length, wrote_longer, not_short}
 use Rattle.short_histories.proofs.walk.longer.Statement.{statement}
 use Rattle.short_histories.proofs.walk.longer.Tie as tie
 
@@ -19,7 +19,7 @@ part-bytes-end : tie.Need-slice-bounds-bytes-end
 part-bytes-end c =
     let a = c.before.args in
     let g = c.before.well-formed.0 in
-    let e : length a.history.bytes ≡ 18 = search (length-under, g) in
+    let e : length a.history.bytes ≡ 18 = search (length_under, g) in
     omega (arith, e)
 
 write-call-requires : tie.Need-write-call-requires
@@ -35,7 +35,7 @@ add-t14 c =
     let pre = c.before.before.before.before.before.before.before.requires in
     let wrote = c.before.before.before.before.write-call in
     let len = c.before.len.given in
-    let n = wrote-length a.history.bytes a.history.len a.call wrote.new.1.0 wrote.result (search (length-under, g)) pre wrote.ensures len.0.0 len.1 in
+    let n = wrote_length a.history.bytes a.history.len a.call wrote.new.1.0 wrote.result (search (length_under, g)) pre wrote.ensures len.0.0 len.1 in
     omega (arith, n, pre)
 
 enum_told : tie.Need-enum-told
@@ -48,7 +48,7 @@ returns c =
     let pre = c.before.before.before.before.before.before.before.requires in
     let wrote = c.before.before.before.before.write-call in
     let len = c.before.len.given in
-    (wrote-longer a.history.bytes a.history.len a.call wrote.new.1.0 wrote.result (search (length-under, g)) pre wrote.ensures len.0.0 len.1, ap (λ n. a.history.len + n) (wrote-length a.history.bytes a.history.len a.call wrote.new.1.0 wrote.result (search (length-under, g)) pre wrote.ensures len.0.0 len.1))
+    (wrote_longer a.history.bytes a.history.len a.call wrote.new.1.0 wrote.result (search (length_under, g)) pre wrote.ensures len.0.0 len.1, ap (λ n. a.history.len + n) (wrote_length a.history.bytes a.history.len a.call wrote.new.1.0 wrote.result (search (length_under, g)) pre wrote.ensures len.0.0 len.1))
 
 returns-2 : tie.Need-returns-2
 returns-2 c =
@@ -56,10 +56,10 @@ returns-2 c =
     let g = c.before.before.before.before.before.before.well-formed.0 in
     let pre = c.before.before.before.before.before.before.requires in
     let wrote = c.before.before.before.write-call in
-    absurd (not_short a.history.bytes a.history.len a.call wrote.new.1.0 wrote.result (search (length-under, g)) pre wrote.ensures c.enum_told.given.1)
+    absurd (not_short a.history.bytes a.history.len a.call wrote.new.1.0 wrote.result (search (length_under, g)) pre wrote.ensures c.enum_told.given.1)
 
-pub longer-spec : {M : Type 1} → statement M
-longer-spec =
+pub longer_spec : {M : Type 1} → statement M
+longer_spec =
     tie.close
     (tie.spec
     sub-write-call

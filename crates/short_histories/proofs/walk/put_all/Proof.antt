@@ -6,13 +6,13 @@ use mathlib.Core.Path.{sym, subst}
 use lib.ListN.{length}
 use Rattle.lines.specs.Laid.{Laid}
 use Rattle.short_histories.specs.Histories.{counts}
-use Rattle.short_histories.proofs.Walking.{fromStart, text-walked, starts-so}
-use Rattle.short_histories.proofs.Putting.{Parts, parts_none, parts_next, parts-room, parts_all}
+use Rattle.short_histories.proofs.Walking.{from_start, text_walked, starts_so}
+use Rattle.short_histories.proofs.Putting.{Parts, parts_none, parts_next, parts_room, parts_all}
 use Rattle.short_histories.proofs.walk.put_all.Statement.{statement}
 use Rattle.short_histories.proofs.walk.put_all.Tie as tie
 
 abbrev invariant-loop : tie.invariant-loop
-invariant-loop out₀ machine history end₀ count₀ out end count = Parts fromStart counts 0 out₀ count end out
+invariant-loop out₀ machine history end₀ count₀ out end count = Parts from_start counts 0 out₀ count end out
 
 abbrev decreases-loop : tie.decreases-loop
 decreases-loop out₀ machine history end₀ count₀ out end count = 4 - count
@@ -21,7 +21,7 @@ start-requires : tie.Need-start-requires invariant-loop decreases-loop
 start-requires c κs = tt
 
 loop-holds : tie.Need-loop-init invariant-loop decreases-loop
-loop-holds c = parts_none fromStart counts 0 0 c.before.before.before.args.out.now
+loop-holds c = parts_none from_start counts 0 0 c.before.before.before.args.out.now
 
 extend-requires : tie.Need-extend-requires invariant-loop decreases-loop
 extend-requires c κs =
@@ -30,8 +30,8 @@ extend-requires c κs =
     let loop = c.before.before.loop in
     let few = c.before.loop-test.true in (
       omega (arith, few),
-      subst (λ (l : List ℕ). loop.end + length l ≤ length loop.out) (sym (starts-so start.result.answer start.result.state.arrays start.ensures loop.count (omega (arith, few))))
-          (parts-room fromStart counts 0 0 a.out.now loop.count loop.end loop.out loop.invariant (omega (arith, few)) (subst (λ (l : List ℕ). 0 + length l ≤ length a.out.now) text-walked (omega (arith, c.before.before.before.before.before.before.requires)))),
+      subst (λ (l : List ℕ). loop.end + length l ≤ length loop.out) (sym (starts_so start.result.answer start.result.state.arrays start.ensures loop.count (omega (arith, few))))
+          (parts_room from_start counts 0 0 a.out.now loop.count loop.end loop.out loop.invariant (omega (arith, few)) (subst (λ (l : List ℕ). 0 + length l ≤ length a.out.now) text_walked (omega (arith, c.before.before.before.before.before.before.requires)))),
     )
 
 add-count : tie.Need-overflow-add-count invariant-loop decreases-loop
@@ -47,8 +47,8 @@ loop-again c =
     let loop = c.before.before.before.before.before.loop in
     let few = c.before.before.before.before.loop-test.true in
     let put = c.before.before.extend in
-    parts_next fromStart counts 0 0 a.out.now loop.count loop.end loop.out loop.invariant (omega (arith, few)) put.result put.new.1.1.1.1.0
-    (subst (λ (l : List ℕ). Laid l loop.end loop.out put.result put.new.1.1.1.1.0) (starts-so start.result.answer start.result.state.arrays start.ensures loop.count (omega (arith, few))) put.ensures)
+    parts_next from_start counts 0 0 a.out.now loop.count loop.end loop.out loop.invariant (omega (arith, few)) put.result put.new.1.1.1.1.0
+    (subst (λ (l : List ℕ). Laid l loop.end loop.out put.result put.new.1.1.1.1.0) (starts_so start.result.answer start.result.state.arrays start.ensures loop.count (omega (arith, few))) put.ensures)
 
 same_length : tie.Need-same-length invariant-loop decreases-loop
 same_length c = c.before.loop.invariant.laid.size
@@ -57,10 +57,10 @@ returns : tie.Need-returns invariant-loop decreases-loop
 returns c =
     let a = c.before.before.before.before.before.args in
     let loop = c.before.loop in
-    subst (λ (l : List ℕ). Laid l 0 a.out.now loop.end loop.out) (sym text-walked) (parts_all fromStart counts 0 0 a.out.now loop.count loop.end loop.out loop.invariant (omega (arith, c.loop-test.false)))
+    subst (λ (l : List ℕ). Laid l 0 a.out.now loop.end loop.out) (sym text_walked) (parts_all from_start counts 0 0 a.out.now loop.count loop.end loop.out loop.invariant (omega (arith, c.loop-test.false)))
 
-pub put-all-spec : {M : Type 1} → statement M
-put-all-spec =
+pub put_all_spec : {M : Type 1} → statement M
+put_all_spec =
     tie.close
     (tie.spec
     invariant-loop

@@ -4,7 +4,7 @@ use native.Mathlib.Omega.{arith}
 use borrow.Author.Rules.{rules}
 use mathlib.Core.Path.{◌∙◌}
 use lib.ListN.{length, length-set}
-use Rattle.short_histories.proofs.Putting.{Spelt, spelt-none, spelt-two, spelt-room, line-room, spelt-line}
+use Rattle.short_histories.proofs.Putting.{Spelt, spelt_none, spelt_two, spelt_room, line_room, spelt_line}
 use Rattle.short_histories.proofs.walk.put_line.Statement.{statement}
 use Rattle.short_histories.proofs.walk.put_line.Tie as tie
 
@@ -17,7 +17,7 @@ decreases-loop bytes at out₀ end₀ i₀ out end i = length bytes - i
 loop-holds : tie.Need-loop-init invariant-loop decreases-loop
 loop-holds c =
     let a = c.before.before.args in
-    spelt-none a.bytes.now a.at a.out.now
+    spelt_none a.bytes.now a.at a.out.now
 
 shared-slice-read-byte : tie.Need-shared-slice-read-byte invariant-loop decreases-loop
 shared-slice-read-byte c = c.before.loop-test.true
@@ -30,7 +30,7 @@ slice-write-out c =
     let a = c.before.before.before.before.before.before.args in
     let pre = c.before.before.before.before.before.before.requires in
     let loop = c.before.before.before.loop in
-    let room = spelt-room a.bytes.now a.at a.out.now pre loop.i loop.end loop.out loop.invariant c.before.before.loop-test.true in
+    let room = spelt_room a.bytes.now a.at a.out.now pre loop.i loop.end loop.out loop.invariant c.before.before.loop-test.true in
     omega (arith, room)
 
 low-requires : tie.Need-low-requires invariant-loop decreases-loop
@@ -41,7 +41,7 @@ add-out c =
     let a = c.before.before.before.before.before.before.before.args in
     let pre = c.before.before.before.before.before.before.before.requires in
     let loop = c.before.before.before.before.loop in
-    let room = spelt-room a.bytes.now a.at a.out.now pre loop.i loop.end loop.out loop.invariant c.before.before.before.loop-test.true in
+    let room = spelt_room a.bytes.now a.at a.out.now pre loop.i loop.end loop.out loop.invariant c.before.before.before.loop-test.true in
     omega (arith, room)
 
 slice-write-out-2 : tie.Need-slice-write-out-2 invariant-loop decreases-loop
@@ -49,7 +49,7 @@ slice-write-out-2 c =
     let a = c.before.before.before.before.before.before.before.args in
     let pre = c.before.before.before.before.before.before.before.requires in
     let loop = c.before.before.before.before.loop in
-    let room = spelt-room a.bytes.now a.at a.out.now pre loop.i loop.end loop.out loop.invariant c.before.before.before.loop-test.true in
+    let room = spelt_room a.bytes.now a.at a.out.now pre loop.i loop.end loop.out loop.invariant c.before.before.before.loop-test.true in
     rw length-set (omega (arith, room))
 
 add-end : tie.Need-overflow-add-end invariant-loop decreases-loop
@@ -57,7 +57,7 @@ add-end c =
     let a = c.before.before.before.before.before.before.before.args in
     let pre = c.before.before.before.before.before.before.before.requires in
     let loop = c.before.before.before.before.loop in
-    let room = spelt-room a.bytes.now a.at a.out.now pre loop.i loop.end loop.out loop.invariant c.before.before.before.loop-test.true in
+    let room = spelt_room a.bytes.now a.at a.out.now pre loop.i loop.end loop.out loop.invariant c.before.before.before.loop-test.true in
     omega (arith, room)
 
 add-i : tie.Need-overflow-add-i invariant-loop decreases-loop
@@ -71,14 +71,14 @@ loop-again c =
     let a = c.before.before.before.before.before.before.before.args in
     let pre = c.before.before.before.before.before.before.before.requires in
     let loop = c.before.before.before.before.loop in
-    spelt-two a.bytes.now a.at a.out.now pre loop.i loop.end loop.out loop.invariant c.before.high.result c.low.result c.before.before.before.loop-test.true c.before.high.ensures c.low.ensures
+    spelt_two a.bytes.now a.at a.out.now pre loop.i loop.end loop.out loop.invariant c.before.high.result c.low.result c.before.before.before.loop-test.true c.before.high.ensures c.low.ensures
 
 slice-write-out-3 : tie.Need-slice-write-out-3 invariant-loop decreases-loop
 slice-write-out-3 c =
     let a = c.before.before.before.before.args in
     let pre = c.before.before.before.before.requires in
     let loop = c.before.loop in
-    let room = line-room a.bytes.now a.at a.out.now pre loop.i loop.end loop.out loop.invariant in
+    let room = line_room a.bytes.now a.at a.out.now pre loop.i loop.end loop.out loop.invariant in
     omega (arith, room)
 
 add-result : tie.Need-overflow-add-result invariant-loop decreases-loop
@@ -86,7 +86,7 @@ add-result c =
     let a = c.before.before.before.before.args in
     let pre = c.before.before.before.before.requires in
     let loop = c.before.loop in
-    let room = line-room a.bytes.now a.at a.out.now pre loop.i loop.end loop.out loop.invariant in
+    let room = line_room a.bytes.now a.at a.out.now pre loop.i loop.end loop.out loop.invariant in
     omega (arith, room)
 
 same_length : tie.Need-same-length invariant-loop decreases-loop
@@ -99,10 +99,10 @@ returns c =
     let a = c.before.before.before.before.args in
     let pre = c.before.before.before.before.requires in
     let loop = c.before.loop in
-    spelt-line a.bytes.now a.at a.out.now pre loop.i loop.end loop.out loop.invariant c.loop-test.false
+    spelt_line a.bytes.now a.at a.out.now pre loop.i loop.end loop.out loop.invariant c.loop-test.false
 
-pub put-line-spec : {M : Type 1} → statement M
-put-line-spec =
+pub put_line_spec : {M : Type 1} → statement M
+put_line_spec =
     tie.close
     (tie.spec
     invariant-loop

@@ -1,10 +1,10 @@
--- `sweep::frames::bases_from` meets its contract: one base a turn (`bases-turn`).
+-- `sweep::frames::bases_from` meets its contract: one base a turn (`bases_turn`).
 use borrow.Author.Rules.{rules}
 use native.Mathlib.Omega.{arith}
 use mathlib.Core.Path.{◌≡◌, refl, sym, ap, ◌∙◌}
 use Prim.Native.Nat.{◌≤◌, ◌-◌}
 use Rattle.sweep.specs.Frames.{Bases}
-use Rattle.sweep.proofs.ByFrames.{bases-turn}
+use Rattle.sweep.proofs.ByFrames.{bases_turn}
 use Rattle.sweep.proofs.frames.bases_from.Statement.{statement}
 use Rattle.sweep.proofs.frames.bases_from.Tie as tie
 use Rattle.sweep.proofs.frames.bases_from.Reads as reads
@@ -45,13 +45,13 @@ loop-less : tie.Need-loop-smaller invariant-loop decreases-loop
 loop-less c = omega arith
 
 loop-again : tie.Need-loop-preserved invariant-loop decreases-loop
-loop-again c = (omega arith, bases-turn c.before.before.before.before.before.args.from c.before.before.before.before.before.args.cells.now c.before.before.before.loop.bases c.before.before.before.loop.j _ c.before.before.loop-test.true c.before.before.before.loop.invariant.1 c.base-of.ensures)
+loop-again c = (omega arith, bases_turn c.before.before.before.before.before.args.from c.before.before.before.before.before.args.cells.now c.before.before.before.loop.bases c.before.before.before.loop.j _ c.before.before.loop-test.true c.before.before.before.loop.invariant.1 c.base-of.ensures)
 
 returns : tie.Need-returns invariant-loop decreases-loop
 returns c = (c.before.loop.invariant.1.0, λ j h. c.before.loop.invariant.1.1 j (omega arith))
 
-pub bases-from-spec : {M : Type 1} → statement M
-bases-from-spec =
+pub bases_from_spec : {M : Type 1} → statement M
+bases_from_spec =
     tie.close
     (tie.spec
     invariant-loop

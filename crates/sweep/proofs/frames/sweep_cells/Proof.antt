@@ -33,8 +33,8 @@ same-length-2 c = search rules
 returns-2 : tie.Need-returns-2
 returns-2 c = search rules
 
-pub sweep-cells-spec : {M : Type 1} → statement M
-sweep-cells-spec =
+pub sweep_cells_spec : {M : Type 1} → statement M
+sweep_cells_spec =
     tie.close
     (tie.spec
     sub-if1

@@ -5,16 +5,16 @@ use mathlib.Core.Path.{◌≡◌, sym, ◌∙◌}
 use Prim.Native.Nat.{◌<◌, ◌-◌}
 use lib.ListN.{length}
 use Rattle.table.specs.Rows.{live}
-use Rattle.table.specs.Find.{begins, findOf}
-use Rattle.table.specs.Searching.{seekFrom}
-use Rattle.table.proofs.Finding.{seek-end}
+use Rattle.table.specs.Find.{begins, find_of}
+use Rattle.table.specs.Searching.{seek_from}
+use Rattle.table.proofs.Finding.{seek_end}
 use Rattle.table.specs.Numbers.{table_of}
-use Rattle.table.proofs.Reading.{used-length, read_more, read_here}
+use Rattle.table.proofs.Reading.{used_length, read_more, read_here}
 use Rattle.table.proofs.find.find.Statement.{statement}
 use Rattle.table.proofs.find.find.Tie as tie
 
 abbrev invariant-loop : tie.invariant-loop
-invariant-loop rows count party base n i₀ i = findOf (table_of rows count) party base ≡ seekFrom (begins party base) (table_of rows count) i
+invariant-loop rows count party base n i₀ i = find_of (table_of rows count) party base ≡ seek_from (begins party base) (table_of rows count) i
 
 abbrev decreases-loop : tie.decreases-loop
 decreases-loop rows count party base n i₀ i = n - i
@@ -30,7 +30,7 @@ loop-holds c = c.skip.ensures
 
 -- A row in use is one of the slice.
 within : (c : tie.In-loop invariant-loop decreases-loop) → c.before.loop.i < length c.before.before.before.before.before.args.rows.now
-within c = omega (arith, used-length c.before.before.before.before.before.args.rows.now c.before.before.before.before.before.args.count, c.before.before.before.used.ensures)
+within c = omega (arith, used_length c.before.before.before.before.before.args.rows.now c.before.before.before.before.before.args.count, c.before.before.before.used.ensures)
 
 mul-begins-at : tie.Need-overflow-mul-begins-at invariant-loop decreases-loop
 mul-begins-at c = omega (arith, within c)
@@ -62,7 +62,7 @@ loop-again c =
     c.before.before.before.before.loop.invariant ∙ read_more (begins a.party a.base) a.rows.now a.count i h (sym c.before.begins-at.ensures ∙ c.if1.false)
 
 returns-2 : tie.Need-returns-2 invariant-loop decreases-loop
-returns-2 c = sym (c.before.loop.invariant ∙ seek-end _ _ _ (omega (arith, c.before.before.before.used.ensures)))
+returns-2 c = sym (c.before.loop.invariant ∙ seek_end _ _ _ (omega (arith, c.before.before.before.used.ensures)))
 
 pub find_spec : {M : Type 1} → statement M
 find_spec =

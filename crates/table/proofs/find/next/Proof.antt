@@ -57,8 +57,8 @@ returns-4 c =
     let a = c.before.before.before.before.args in
     sym (ap (next_of (table_of a.rows.now a.count)) c.enum_told.given.1)
 
-pub next-spec : {M : Type 1} → statement M
-next-spec =
+pub next_spec : {M : Type 1} → statement M
+next_spec =
     tie.close
     (tie.spec
     used-requires

@@ -2,7 +2,7 @@
 use mathlib.Core.Path.{sym, ap, ◌∙◌}
 use lib.ListN.{set}
 use lib.Seq.{set_out}
-use Rattle.table.specs.Numbers.{rowCode}
+use Rattle.table.specs.Numbers.{row_code}
 use Rattle.table.specs.Lent.{put_at}
 use borrow.Author.Rules.{rules}
 use Rattle.table.proofs.find.put_row.Statement.{statement}
@@ -30,22 +30,22 @@ returns : tie.Need-returns
 unfolding put_at
 returns c =
     let a = c.before.before.before.before.before.before.args in
-    ap (set a.rows.now _) c.before.before.before.before.number_of_lem.ensures ∙ sym (ap (λ f. put_at a.rows.now f (rowCode a.row)) c.before.before.found.given.1)
+    ap (set a.rows.now _) c.before.before.before.before.number_of_lem.ensures ∙ sym (ap (λ f. put_at a.rows.now f (row_code a.row)) c.before.before.found.given.1)
 
 returns-2 : tie.Need-returns-2
 unfolding put_at
 returns-2 c =
     let a = c.before.before.before.before.before.before.args in
-    sym (ap (λ f. put_at a.rows.now f (rowCode a.row)) c.before.before.found.given.1 ∙ set_out a.rows.now _ _ c.if1.false)
+    sym (ap (λ f. put_at a.rows.now f (row_code a.row)) c.before.before.found.given.1 ∙ set_out a.rows.now _ _ c.if1.false)
 
 returns-3 : tie.Need-returns-3
 unfolding put_at
 returns-3 c =
     let a = c.before.before.before.before.args in
-    sym (ap (λ f. put_at a.rows.now f (rowCode a.row)) c.enum_told.given.1)
+    sym (ap (λ f. put_at a.rows.now f (row_code a.row)) c.enum_told.given.1)
 
-pub put-row-spec : {M : Type 1} → statement M
-put-row-spec =
+pub put_row_spec : {M : Type 1} → statement M
+put_row_spec =
     tie.close
     (tie.spec
     number-of-requires

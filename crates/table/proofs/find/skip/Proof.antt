@@ -5,15 +5,15 @@ use mathlib.Core.Path.{◌≡◌, refl, sym, ◌∙◌}
 use Prim.Native.Nat.{◌+◌, ◌-◌, ◌≤◌}
 use lib.ListN.{length}
 use Rattle.table.specs.Rows.{live}
-use Rattle.table.specs.Find.{begins, findOf}
-use Rattle.table.specs.Searching.{seekFrom}
+use Rattle.table.specs.Find.{begins, find_of}
+use Rattle.table.specs.Searching.{seek_from}
 use Rattle.table.specs.Numbers.{table_of}
-use Rattle.table.proofs.Reading.{used-length, read-four}
+use Rattle.table.proofs.Reading.{used_length, read_four}
 use Rattle.table.proofs.find.skip.Statement.{statement}
 use Rattle.table.proofs.find.skip.Tie as tie
 
 abbrev invariant-loop : tie.invariant-loop
-invariant-loop rows count party base n i₀ i = (findOf (table_of rows count) party base ≡ seekFrom (begins party base) (table_of rows count) i) × (i ≤ n)
+invariant-loop rows count party base n i₀ i = (find_of (table_of rows count) party base ≡ seek_from (begins party base) (table_of rows count) i) × (i ≤ n)
 
 abbrev decreases-loop : tie.decreases-loop
 decreases-loop rows count party base n i₀ i = n - i
@@ -22,15 +22,15 @@ used-requires : tie.Need-used-requires invariant-loop decreases-loop
 used-requires c κs = search rules
 
 loop-holds : tie.Need-loop-init invariant-loop decreases-loop
-unfolding findOf
+unfolding find_of
 loop-holds c = (refl, omega arith)
 
 add-loop : tie.Need-overflow-add-loop invariant-loop decreases-loop
-add-loop c = omega (arith, c.loop.invariant.1, used-length c.before.before.before.args.rows.now c.before.before.before.args.count, c.before.used.ensures)
+add-loop c = omega (arith, c.loop.invariant.1, used_length c.before.before.before.args.rows.now c.before.before.before.args.count, c.before.used.ensures)
 
 -- Four rows in use are four of the slice.
 within : (c : tie.In-loop invariant-loop decreases-loop) → c.before.loop.i + 4 ≤ length c.before.before.before.before.args.rows.now
-within c = omega (arith, used-length c.before.before.before.before.args.rows.now c.before.before.before.before.args.count, c.before.before.used.ensures)
+within c = omega (arith, used_length c.before.before.before.before.args.rows.now c.before.before.before.before.args.count, c.before.before.used.ensures)
 
 mul-any-begins : tie.Need-overflow-mul-any-begins invariant-loop decreases-loop
 mul-any-begins c = omega (arith, within c)
@@ -82,13 +82,13 @@ loop-again c =
     let a = c.before.before.before.before.before.before.before.before.before.before.args in
     let i = c.before.before.before.before.before.before.before.loop.i in
     let h : i + 4 ≤ length (live (table_of a.rows.now a.count)) = omega (arith, c.before.before.before.before.before.before.before.before.used.ensures) in
-    (c.before.before.before.before.before.before.before.loop.invariant.0 ∙ read-four (begins a.party a.base) a.rows.now a.count i h (sym c.before.any-begins.ensures ∙ c.if1.false), omega arith)
+    (c.before.before.before.before.before.before.before.loop.invariant.0 ∙ read_four (begins a.party a.base) a.rows.now a.count i h (sym c.before.any-begins.ensures ∙ c.if1.false), omega arith)
 
 returns-2 : tie.Need-returns-2 invariant-loop decreases-loop
 returns-2 c = c.before.loop.invariant.0
 
-pub skip-spec : {M : Type 1} → statement M
-skip-spec =
+pub skip_spec : {M : Type 1} → statement M
+skip_spec =
     tie.close
     (tie.spec
     invariant-loop

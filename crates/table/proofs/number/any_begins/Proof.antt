@@ -23,8 +23,8 @@ returns c =
     let begins-at = c.before.before.before.begins-at in
     rw (begins-at4.ensures, begins-at3.ensures, begins-at2.ensures, begins-at.ensures)
 
-pub any-begins-spec : {M : Type 1} → statement M
-any-begins-spec =
+pub any_begins_spec : {M : Type 1} → statement M
+any_begins_spec =
     tie.close
     (tie.spec
     begins-at-requires

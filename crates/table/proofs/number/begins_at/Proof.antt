@@ -1,6 +1,6 @@
 -- `table::number::begins_at` meets its contract.
-use Rattle.table.specs.Numbers.{rowFrom}
-use Rattle.table.proofs.Numbers.{begins-test}
+use Rattle.table.specs.Numbers.{row_from}
+use Rattle.table.proofs.Numbers.{begins_test}
 use borrow.Author.Rules.{rules}
 use Rattle.table.proofs.number.begins_at.Statement.{statement}
 use Rattle.table.proofs.number.begins_at.Tie as tie
@@ -12,8 +12,8 @@ add-result : tie.Need-overflow-add-result
 add-result c = search rules
 
 returns : tie.Need-returns
-unfolding rowFrom
-returns c = begins-test c.args.number c.args.party c.args.base c.ranges.party.fits c.ranges.base.fits
+unfolding row_from
+returns c = begins_test c.args.number c.args.party c.args.base c.ranges.party.fits c.ranges.base.fits
 
-pub begins-at-spec : {M : Type 1} → statement M
-begins-at-spec = tie.close (tie.spec mul-result add-result returns)
+pub begins_at_spec : {M : Type 1} → statement M
+begins_at_spec = tie.close (tie.spec mul-result add-result returns)

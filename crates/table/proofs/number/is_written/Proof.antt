@@ -8,5 +8,5 @@ returns : tie.Need-returns
 unfolding written
 returns c = refl
 
-pub is-written-spec : {M : Type 1} → statement M
-is-written-spec = tie.close (tie.spec returns)
+pub is_written_spec : {M : Type 1} → statement M
+is_written_spec = tie.close (tie.spec returns)

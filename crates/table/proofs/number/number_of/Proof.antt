@@ -1,8 +1,8 @@
 -- `table::number::number_of` meets its contract.
 use borrow.Author.Rules.{rules}
 use native.Mathlib.Omega.{arith}
-use Rattle.table.specs.Numbers.{rowCode}
-use Rattle.table.proofs.Numbers.{state-small}
+use Rattle.table.specs.Numbers.{row_code}
+use Rattle.table.proofs.Numbers.{state_small}
 use Rattle.table.proofs.number.number_of.Statement.{statement}
 use Rattle.table.proofs.number.number_of.Tie as tie
 
@@ -22,10 +22,10 @@ state-number-requires : tie.Need-state-number-requires
 state-number-requires c κs = search rules
 
 mul-held : tie.Need-overflow-mul-held
-mul-held c = omega (arith, c.state-number.ensures, state-small c.before.before.before.args.row.state)
+mul-held c = omega (arith, c.state-number.ensures, state_small c.before.before.before.args.row.state)
 
 add-held : tie.Need-overflow-add-held
-add-held c = omega (arith, c.state-number.ensures, state-small c.before.before.before.args.row.state)
+add-held c = omega (arith, c.state-number.ensures, state_small c.before.before.before.args.row.state)
 
 cast-held : tie.Need-overflow-cast-held
 cast-held c = search rules
@@ -34,7 +34,7 @@ mul-held-2 : tie.Need-overflow-mul-held-2
 mul-held-2 c = search rules
 
 add-held-2 : tie.Need-overflow-add-held-2
-add-held-2 c = omega (arith, c.before.state-number.ensures, state-small c.before.before.before.before.args.row.state)
+add-held-2 c = omega (arith, c.before.state-number.ensures, state_small c.before.before.before.before.args.row.state)
 
 cast-result : tie.Need-overflow-cast-result
 cast-result c = search rules
@@ -43,14 +43,14 @@ mul-result : tie.Need-overflow-mul-result
 mul-result c = search rules
 
 add-result : tie.Need-overflow-add-result
-add-result c = omega (arith, c.before.before.state-number.ensures, state-small c.before.before.before.before.before.args.row.state)
+add-result c = omega (arith, c.before.before.state-number.ensures, state_small c.before.before.before.before.before.args.row.state)
 
 returns : tie.Need-returns
-unfolding rowCode
+unfolding row_code
 returns c = rw c.before.before.state-number.ensures
 
-pub number-of-spec : {M : Type 1} → statement M
-number-of-spec =
+pub number_of_spec : {M : Type 1} → statement M
+number_of_spec =
     tie.close
     (tie.spec
     cast-range

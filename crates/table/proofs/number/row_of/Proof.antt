@@ -1,5 +1,5 @@
 -- `table::number::row_of` meets its contract.
-use Rattle.table.specs.Numbers.{rowFrom}
+use Rattle.table.specs.Numbers.{row_from}
 use borrow.Author.Rules.{rules}
 use Rattle.table.proofs.number.row_of.Statement.{statement}
 use Rattle.table.proofs.number.row_of.Tie as tie
@@ -20,8 +20,8 @@ cast-t13 : tie.Need-overflow-cast-t13
 cast-t13 c = search rules
 
 returns : tie.Need-returns
-unfolding rowFrom
+unfolding row_from
 returns c = rw c.state-of.ensures
 
-pub row-of-spec : {M : Type 1} → statement M
-row-of-spec = tie.close (tie.spec state-of-requires cast-t5 cast-t7 cast-t10 cast-t13 returns)
+pub row_of_spec : {M : Type 1} → statement M
+row_of_spec = tie.close (tie.spec state-of-requires cast-t5 cast-t7 cast-t10 cast-t13 returns)

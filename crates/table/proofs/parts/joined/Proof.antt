@@ -21,5 +21,5 @@ joined-taker-requires c κs = search rules
 returns : tie.Need-returns
 returns c = rw c.joined-taker.ensures
 
-pub joined-spec : {M : Type 1} → statement M
-joined-spec = tie.close (tie.spec cast-length cast-length-2 add-length cast-t8 joined-taker-requires returns)
+pub joined_spec : {M : Type 1} → statement M
+joined_spec = tie.close (tie.spec cast-length cast-length-2 add-length cast-t8 joined-taker-requires returns)

@@ -15,5 +15,5 @@ returns c =
 returns-2 : tie.Need-returns-2
 returns-2 c = sym (pick_no _ _ _ (ne_eqb c.before.args.taker c.before.args.above c.if1.false))
 
-pub joined-taker-spec : {M : Type 1} → statement M
-joined-taker-spec = tie.close (tie.spec returns returns-2)
+pub joined_taker_spec : {M : Type 1} → statement M
+joined_taker_spec = tie.close (tie.spec returns returns-2)

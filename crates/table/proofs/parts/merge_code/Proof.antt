@@ -1,7 +1,7 @@
 -- `table::parts::merge_code` meets its contract.
 use mathlib.Core.Path.{ap, ◌∙◌}
 use mathlib.Core.Bool.{not, ◌&&◌}
-use Rattle.table.proofs.Answers.{judged, judged-last}
+use Rattle.table.proofs.Answers.{judged, judged_last}
 use Rattle.table.specs.Rows.{held}
 use Rattle.table.specs.Find.{missing}
 use borrow.Author.Rules.{rules}
@@ -30,13 +30,13 @@ returns : tie.Need-returns
 returns c =
     let a = c.before.before.before.before.before.before.args in
     judged 6 _ _ _ _ _ c.first2.ensures c.before.before.missing2.ensures
-    (judged-last 7 _ _ _ c.before.first.ensures
+    (judged_last 7 _ _ _ c.before.first.ensures
     (ap (λ b. not (not b && (c.before.before.before.before.held.result && c.before.before.before.alike.result))) c.before.before.before.before.before.missing.ensures
     ∙ ap (λ b. not (not (missing a.next) && (b && c.before.before.before.alike.result))) c.before.before.before.before.held.ensures
     ∙ ap (λ b. not (not (missing a.next) && (held a.above a.party && b))) c.before.before.before.alike.ensures))
 
-pub merge-code-spec : {M : Type 1} → statement M
-merge-code-spec =
+pub merge_code_spec : {M : Type 1} → statement M
+merge_code_spec =
     tie.close
     (tie.spec
     missing-requires

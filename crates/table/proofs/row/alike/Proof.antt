@@ -18,10 +18,10 @@ is-taken-requires-2 c κs = search rules
 returns : tie.Need-returns
 returns c =
     let is-taken2 = c.is-taken2 in
-    let is-taken = c.before.is-taken in
+    let is_taken = c.before.is-taken in
     let is-open2 = c.before.before.is-open2 in
     let is_open = c.before.before.before.is_open in
-    rw (is-taken2.ensures, is-taken.ensures, is-open2.ensures, is_open.ensures)
+    rw (is-taken2.ensures, is_taken.ensures, is-open2.ensures, is_open.ensures)
 
 pub alike_spec : {M : Type 1} → statement M
 alike_spec =

@@ -1,7 +1,7 @@
 -- `table::rows::gather` meets its contract.
 use native.Mathlib.Omega.{arith}
 use borrow.Author.Rules.{rules}
-use Rattle.table.proofs.Shifting.{gather-end}
+use Rattle.table.proofs.Shifting.{gather_end}
 use Rattle.table.proofs.rows.gather.Statement.{statement}
 use Rattle.table.proofs.rows.gather.Tie as tie
 
@@ -29,12 +29,12 @@ returns c =
     let moved = c.before.before.before.before.before.before.before.before.before.before.move_down.ensures in
     let wrote = c.before.before.before.before.before.before.write-row.ensures in
     let ended = c.before.before.write-row2.ensures in (
-      gather-end a.rows.now _ _ _ _ _ _ a.i a.n _ _ moved.0 wrote.0 ended.0 (omega arith) (omega arith) (omega arith) (omega arith) (omega arith) (omega arith),
+      gather_end a.rows.now _ _ _ _ _ _ a.i a.n _ _ moved.0 wrote.0 ended.0 (omega arith) (omega arith) (omega arith) (omega arith) (omega arith) (omega arith),
       omega (arith, moved.1, wrote.1, ended.1),
     )
 
-pub gather-spec : {M : Type 1} → statement M
-gather-spec =
+pub gather_spec : {M : Type 1} → statement M
+gather_spec =
     tie.close
     (tie.spec
     sub-last

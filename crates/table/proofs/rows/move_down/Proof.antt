@@ -5,7 +5,7 @@ use mathlib.Core.Path.{◌≡◌, refl, ap, ◌∙◌}
 use Prim.Native.Nat.{◌+◌, ◌-◌, ◌≤◌}
 use lib.ListN.{length, length-set}
 use Rattle.table.specs.Lent.{lowered}
-use Rattle.table.proofs.Moving.{lower-start, lower-more}
+use Rattle.table.proofs.Moving.{lower_start, lower_more}
 use Rattle.table.proofs.rows.move_down.Statement.{statement}
 use Rattle.table.proofs.rows.move_down.Tie as tie
 
@@ -16,7 +16,7 @@ abbrev decreases-loop : tie.decreases-loop
 decreases-loop rows₀ from last writes₀ j₀ rows writes j = last - j
 
 loop-holds : tie.Need-loop-init invariant-loop decreases-loop
-loop-holds c = (lower-start c.before.args.rows.now c.before.args.from (omega arith), (refl, omega arith))
+loop-holds c = (lower_start c.before.args.rows.now c.before.args.from (omega arith), (refl, omega arith))
 
 add-above : tie.Need-overflow-add-above invariant-loop decreases-loop
 add-above c = search rules
@@ -42,7 +42,7 @@ loop-again c =
     let m = c.before.before.before.before.before.before.loop in
     let j = m.j in
     let wrote = c.before.before.write-row.ensures in (
-      lower-more a.rows.now _ _ a.from j _ (j + 1) 0 m.invariant.0 wrote.0 (omega arith) (omega arith) (omega arith) (omega arith),
+      lower_more a.rows.now _ _ a.from j _ (j + 1) 0 m.invariant.0 wrote.0 (omega arith) (omega arith) (omega arith) (omega arith),
       (ap length wrote.0 ∙ length-set m.rows j _ ∙ m.invariant.1.0, omega (arith, wrote.1)),
     )
 

@@ -5,7 +5,7 @@ use mathlib.Core.Path.{◌≡◌, refl, ap, ◌∙◌}
 use Prim.Native.Nat.{◌+◌, ◌-◌, ◌≤◌}
 use lib.ListN.{length, length-set}
 use Rattle.table.specs.Lent.{raised}
-use Rattle.table.proofs.Moving.{raise-start, raise-more}
+use Rattle.table.proofs.Moving.{raise_start, raise_more}
 use Rattle.table.proofs.rows.move_up.Statement.{statement}
 use Rattle.table.proofs.rows.move_up.Tie as tie
 
@@ -16,7 +16,7 @@ abbrev decreases-loop : tie.decreases-loop
 decreases-loop rows₀ from n writes₀ j₀ rows writes j = j
 
 loop-holds : tie.Need-loop-init invariant-loop decreases-loop
-loop-holds c = (raise-start c.before.args.rows.now c.before.args.n (omega arith), (refl, omega arith))
+loop-holds c = (raise_start c.before.args.rows.now c.before.args.n (omega arith), (refl, omega arith))
 
 sub-below : tie.Need-overflow-sub-below invariant-loop decreases-loop
 sub-below c = search rules
@@ -42,7 +42,7 @@ loop-again c =
     let m = c.before.before.before.before.before.before.loop in
     let j = m.j in
     let wrote = c.before.before.write-row.ensures in (
-      raise-more a.rows.now _ _ j _ (j - 1) a.n 0 m.invariant.0 wrote.0 (omega arith) (omega arith) (omega arith) (omega arith),
+      raise_more a.rows.now _ _ j _ (j - 1) a.n 0 m.invariant.0 wrote.0 (omega arith) (omega arith) (omega arith) (omega arith),
       (ap length wrote.0 ∙ length-set m.rows j _ ∙ m.invariant.1.0, omega (arith, wrote.1)),
     )
 

@@ -33,8 +33,8 @@ returns c =
       omega (arith, moved.1, wrote.1, ended.1),
     )
 
-pub spread-spec : {M : Type 1} → statement M
-spread-spec =
+pub spread_spec : {M : Type 1} → statement M
+spread_spec =
     tie.close
     (tie.spec
     add-move-up

@@ -17,5 +17,5 @@ returns c =
     let from = c.before.args.from in
     ap (λ z. (eqb (n % 65536) from && ltb 0 (n / 65536 % 65536)) && z) c.top_sound.ensures ∙ follows_test n from
 
-pub follows-at-spec : {M : Type 1} → statement M
-follows-at-spec = tie.close (tie.spec top-sound-requires returns)
+pub follows_at_spec : {M : Type 1} → statement M
+follows_at_spec = tie.close (tie.spec top-sound-requires returns)

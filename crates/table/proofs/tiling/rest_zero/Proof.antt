@@ -6,13 +6,13 @@ use Prim.Native.Nat.{◌+◌, ◌-◌}
 use mathlib.Core.Bool.{◌&&◌, and_assoc, and-true}
 use lib.ListN.{length, get_or, drop}
 use lib.Dec.{eqb}
-use Rattle.table.specs.Sound.{allZero}
-use Rattle.table.proofs.Testing.{zero_more, zero-end}
+use Rattle.table.specs.Sound.{all_zero}
+use Rattle.table.proofs.Testing.{zero_more, zero_end}
 use Rattle.table.proofs.tiling.rest_zero.Statement.{statement}
 use Rattle.table.proofs.tiling.rest_zero.Tie as tie
 
 abbrev invariant-loop : tie.invariant-loop
-invariant-loop rows count zero₀ i₀ zero i = allZero (drop count rows) ≡ (zero && allZero (drop i rows))
+invariant-loop rows count zero₀ i₀ zero i = all_zero (drop count rows) ≡ (zero && all_zero (drop i rows))
 
 abbrev decreases-loop : tie.decreases-loop
 decreases-loop rows count zero₀ i₀ zero i = length rows - i
@@ -37,16 +37,16 @@ loop-again c =
     let l = c.before.before.before.args.rows.now in
     let i = c.before.before.loop.i in
     let z = c.before.before.loop.zero in
-    c.before.before.loop.invariant ∙ ap (λ b. z && b) (zero_more l i (omega arith)) ∙ sym (and_assoc z (eqb (get_or l i 0) 0) (allZero (drop (i + 1) l)))
+    c.before.before.loop.invariant ∙ ap (λ b. z && b) (zero_more l i (omega arith)) ∙ sym (and_assoc z (eqb (get_or l i 0) 0) (all_zero (drop (i + 1) l)))
 
 returns : tie.Need-returns invariant-loop decreases-loop
 returns c =
     let l = c.before.before.args.rows.now in
     let z = c.before.loop.zero in
-    sym (c.before.loop.invariant ∙ ap (λ b. z && b) (zero-end l c.before.loop.i (omega arith)) ∙ and-true z)
+    sym (c.before.loop.invariant ∙ ap (λ b. z && b) (zero_end l c.before.loop.i (omega arith)) ∙ and-true z)
 
-pub rest-zero-spec : {M : Type 1} → statement M
-rest-zero-spec =
+pub rest_zero_spec : {M : Type 1} → statement M
+rest_zero_spec =
     tie.close
     (tie.spec
     invariant-loop

@@ -7,12 +7,12 @@ use lib.ListN.{length, drop}
 use native.Mathlib.Nat.{zero-add}
 use mir.Val.{bool_byte}
 use Rattle.capabilities.specs.Lists.{pick}
-use Rattle.capabilities.proofs.Choice.{byte-pick, at_most}
-use Rattle.table.proofs.Walking.{revokings-more, revokings-end}
-use Rattle.table.specs.Rows.{live, blank, isRevoking}
+use Rattle.capabilities.proofs.Choice.{byte_pick, at_most}
+use Rattle.table.proofs.Walking.{revokings_more, revokings_end}
+use Rattle.table.specs.Rows.{live, blank, is_revoking}
 use Rattle.table.specs.Tiling.{revokings}
 use Rattle.table.specs.Numbers.{table_of}
-use Rattle.table.proofs.Reading.{used-length, live-read}
+use Rattle.table.proofs.Reading.{used_length, live_read}
 use Rattle.table.proofs.tiling.revokings.Statement.{statement}
 use Rattle.table.proofs.tiling.revokings.Tie as tie
 
@@ -30,7 +30,7 @@ loop-holds c = (omega arith, sym (zero-add _))
 
 -- A row in use is one of the slice.
 within : (c : tie.In-loop invariant-loop decreases-loop) → c.before.loop.i < length c.before.before.before.before.args.rows.now
-within c = omega (arith, used-length c.before.before.before.before.args.rows.now c.before.before.before.before.args.count, c.before.before.used.ensures)
+within c = omega (arith, used_length c.before.before.before.before.args.rows.now c.before.before.before.before.args.count, c.before.before.used.ensures)
 
 mul-revoking-at : tie.Need-overflow-mul-revoking-at invariant-loop decreases-loop
 mul-revoking-at c = omega (arith, within c)
@@ -45,7 +45,7 @@ cast-many : tie.Need-overflow-cast-many invariant-loop decreases-loop
 cast-many c = search rules
 
 add-many : tie.Need-overflow-add-many invariant-loop decreases-loop
-add-many c = omega (arith, within c.before.before, byte-pick c.revoking-at.result, at_most c.revoking-at.result)
+add-many c = omega (arith, within c.before.before, byte_pick c.revoking-at.result, at_most c.revoking-at.result)
 
 add-i : tie.Need-overflow-add-i invariant-loop decreases-loop
 add-i c = omega (arith, within c.before.before)
@@ -61,8 +61,8 @@ loop-again c =
     let i = c.before.before.before.loop.i in
     let h : i < length (live t) = omega (arith, c.before.before.before.before.used.ensures) in
     let b = c.revoking-at.result in
-    let one : bool_byte b ≡ pick b 1 0 = byte-pick b in
-    let more = revokings-more (live t) i blank h ∙ ap (λ r. pick (isRevoking r.state) 1 0 + revokings (drop (i + 1) (live t))) (live-read l a.count i h)
+    let one : bool_byte b ≡ pick b 1 0 = byte_pick b in
+    let more = revokings_more (live t) i blank h ∙ ap (λ r. pick (is_revoking r.state) 1 0 + revokings (drop (i + 1) (live t))) (live_read l a.count i h)
     ∙ ap (λ b. pick b 1 0 + revokings (drop (i + 1) (live t))) (sym c.revoking-at.ensures) in
     (omega (arith, one, at_most b), omega (arith, c.before.before.before.loop.invariant.1, one, more))
 
@@ -70,10 +70,10 @@ returns : tie.Need-returns invariant-loop decreases-loop
 returns c =
     let a = c.before.before.before.before.args in
     let t = table_of a.rows.now a.count in
-    omega (arith, c.before.loop.invariant.1, revokings-end (live t) c.before.loop.i (omega (arith, c.before.before.used.ensures)))
+    omega (arith, c.before.loop.invariant.1, revokings_end (live t) c.before.loop.i (omega (arith, c.before.before.used.ensures)))
 
-pub revokings-spec : {M : Type 1} → statement M
-revokings-spec =
+pub revokings_spec : {M : Type 1} → statement M
+revokings_spec =
     tie.close
     (tie.spec
     invariant-loop

@@ -8,16 +8,16 @@ use lib.ListN.{length, get_or, take, drop}
 use borrow.Author.Tests.{not-true, not-false}
 use Rattle.capabilities.proofs.Choice.{and_left}
 use Rattle.table.proofs.Truth.{and_yes, and_no}
-use Rattle.table.proofs.Testing.{tile-more, tile-end, end_of}
+use Rattle.table.proofs.Testing.{tile_more, tile_end, end_of}
 use Rattle.table.specs.Rows.{live}
-use Rattle.table.specs.Tiling.{follows, tiles, takerSound, takersSound}
-use Rattle.table.specs.Numbers.{rowFrom, table_of, written, allWritten}
-use Rattle.table.proofs.Reading.{used-length}
+use Rattle.table.specs.Tiling.{follows, tiles, taker_sound, takers_sound}
+use Rattle.table.specs.Numbers.{row_from, table_of, written, all_written}
+use Rattle.table.proofs.Reading.{used_length}
 use Rattle.table.proofs.tiling.tiled.Statement.{statement}
 use Rattle.table.proofs.tiling.tiled.Tie as tie
 
 abbrev invariant-loop : tie.invariant-loop
-invariant-loop rows count end n from₀ i₀ from i = ((tiles 0 end (live (table_of rows count)) && takersSound (live (table_of rows count))) && allWritten (take count rows)) ≡ ((tiles from end (drop i (live (table_of rows count))) && takersSound (drop i (live (table_of rows count)))) && allWritten (drop i (take count rows)))
+invariant-loop rows count end n from₀ i₀ from i = ((tiles 0 end (live (table_of rows count)) && takers_sound (live (table_of rows count))) && all_written (take count rows)) ≡ ((tiles from end (drop i (live (table_of rows count))) && takers_sound (drop i (live (table_of rows count)))) && all_written (drop i (take count rows)))
 
 abbrev decreases-loop : tie.decreases-loop
 decreases-loop rows count end n from₀ i₀ from i = n - i
@@ -30,7 +30,7 @@ loop-holds c = refl
 
 -- A row in use is one of the slice.
 within : (c : tie.In-loop invariant-loop decreases-loop) → c.before.loop.i < length c.before.before.before.before.args.rows.now
-within c = omega (arith, used-length c.before.before.before.before.args.rows.now c.before.before.before.before.args.count, c.before.before.used.ensures)
+within c = omega (arith, used_length c.before.before.before.before.args.rows.now c.before.before.before.before.args.count, c.before.before.used.ensures)
 
 mul-number : tie.Need-overflow-mul-number invariant-loop decreases-loop
 mul-number c = omega (arith, within c)
@@ -48,7 +48,7 @@ returns c =
     let t = table_of l a.count in
     let i = c.before.before.before.before.loop.i in
     let h : i < length (live t) = omega (arith, c.before.before.before.before.before.used.ensures) in
-    sym (c.before.before.before.before.loop.invariant ∙ tile-more l a.count a.end i c.before.before.before.before.loop.from h ∙ and_no _ _ (sym c.before.follows-at.ensures ∙ not-true _ c.if1.true))
+    sym (c.before.before.before.before.loop.invariant ∙ tile_more l a.count a.end i c.before.before.before.before.loop.from h ∙ and_no _ _ (sym c.before.follows-at.ensures ∙ not-true _ c.if1.true))
 
 cast-from : tie.Need-overflow-cast-from invariant-loop decreases-loop
 cast-from c = search rules
@@ -75,18 +75,18 @@ loop-again c =
     let from = c.before.before.before.before.loop.from in
     let x = get_or l i 0 in
     let yes = sym c.before.follows-at.ensures ∙ not-false _ c.if1.false in
-    let front = and_left (follows from (rowFrom x) && takerSound (rowFrom x)) (written x) yes in
-    let there = end_of x from (and_left (follows from (rowFrom x)) (takerSound (rowFrom x)) front) in
-    c.before.before.before.before.loop.invariant ∙ tile-more l a.count a.end i from h ∙ and_yes _ _ yes
-    ∙ ap (λ k. (tiles k a.end (drop (i + 1) (live t)) && takersSound (drop (i + 1) (live t))) && allWritten (drop (i + 1) (take a.count l))) there
+    let front = and_left (follows from (row_from x) && taker_sound (row_from x)) (written x) yes in
+    let there = end_of x from (and_left (follows from (row_from x)) (taker_sound (row_from x)) front) in
+    c.before.before.before.before.loop.invariant ∙ tile_more l a.count a.end i from h ∙ and_yes _ _ yes
+    ∙ ap (λ k. (tiles k a.end (drop (i + 1) (live t)) && takers_sound (drop (i + 1) (live t))) && all_written (drop (i + 1) (take a.count l))) there
 
 returns-2 : tie.Need-returns-2 invariant-loop decreases-loop
 returns-2 c =
     let a = c.before.before.before.before.args in
-    sym (c.before.loop.invariant ∙ tile-end a.rows.now a.count a.end c.before.loop.i c.before.loop.from (omega (arith, c.before.before.used.ensures)))
+    sym (c.before.loop.invariant ∙ tile_end a.rows.now a.count a.end c.before.loop.i c.before.loop.from (omega (arith, c.before.before.used.ensures)))
 
-pub tiled-spec : {M : Type 1} → statement M
-tiled-spec =
+pub tiled_spec : {M : Type 1} → statement M
+tiled_spec =
     tie.close
     (tie.spec
     invariant-loop

@@ -5,9 +5,9 @@ use mathlib.Core.Bool.{Bool, ◌&&◌}
 use lib.Dec.{eqb, ltb, leb}
 use lib.ListN.{length, take, drop, length-map}
 use Rattle.table.specs.Rows.{live}
-use Rattle.table.specs.Tiling.{tiles, takersSound, revokings, sized}
-use Rattle.table.specs.Numbers.{rowFrom, table_of, allWritten}
-use Rattle.table.specs.Sound.{allZero}
+use Rattle.table.specs.Tiling.{tiles, takers_sound, revokings, sized}
+use Rattle.table.specs.Numbers.{row_from, table_of, all_written}
+use Rattle.table.specs.Sound.{all_zero}
 use Rattle.table.proofs.Testing.{test_parts}
 use borrow.Author.Rules.{rules}
 use Rattle.table.proofs.tiling.well_formed.Statement.{statement}
@@ -29,14 +29,14 @@ returns c =
     let l = a.rows.now in
     let n = a.count in
     let t = table_of l n in
-    let tiling = (tiles 0 a.cells (live t) && takersSound (live t)) && allWritten (take n l) in
+    let tiling = (tiles 0 a.cells (live t) && takers_sound (live t)) && all_written (take n l) in
     let fits : ℕ → Bool = λ k. eqb k 64 && (ltb 0 n && leb n 64) in
     ap (λ b. (fits (length l) && b) && (c.before.rest-zero.result && leb c.revokings.result 1)) c.before.before.tiled.ensures
     ∙ ap (λ b. (fits (length l) && tiling) && (b && leb c.revokings.result 1)) c.before.rest-zero.ensures
-    ∙ ap (λ k. (fits (length l) && tiling) && (allZero (drop n l) && leb k 1)) c.revokings.ensures
-    ∙ ap (λ k. (fits k && tiling) && (allZero (drop n l) && leb (revokings (live t)) 1)) (sym (length-map l rowFrom))
+    ∙ ap (λ k. (fits (length l) && tiling) && (all_zero (drop n l) && leb k 1)) c.revokings.ensures
+    ∙ ap (λ k. (fits k && tiling) && (all_zero (drop n l) && leb (revokings (live t)) 1)) (sym (length-map l row_from))
     ∙ test_parts a.cells l n
 
-pub well-formed-spec : {M : Type 1} → statement M
-well-formed-spec =
+pub well_formed_spec : {M : Type 1} → statement M
+well_formed_spec =
     tie.close (tie.spec tiled-requires rest-zero-requires revokings-requires returns)

@@ -24,7 +24,7 @@ cast-result c = search rules
 returns : tie.Need-returns
 returns c = rw (c.base-of.ensures, c.before.length-of.ensures)
 
-pub bad-narrow-spec : {M : Type 1} → statement M
-bad-narrow-spec =
+pub bad_narrow_spec : {M : Type 1} → statement M
+bad_narrow_spec =
     tie.close
     (tie.spec length-of-requires base-of-requires add-end cast-start add_start cast-result returns)

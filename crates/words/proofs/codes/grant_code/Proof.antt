@@ -25,6 +25,6 @@ returns c =
     let first = c.before.before.before.first in
     rw (first3.ensures, unnamed.ensures, first2.ensures, first.ensures)
 
-pub grant-code-spec : {M : Type 1} → statement M
-grant-code-spec =
+pub grant_code_spec : {M : Type 1} → statement M
+grant_code_spec =
     tie.close (tie.spec first-requires first-requires-2 unnamed-requires first-requires-3 returns)

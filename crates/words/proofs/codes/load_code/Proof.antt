@@ -46,8 +46,8 @@ returns c =
     rw
     (first5.ensures, unnamed.ensures, first4.ensures, first3.ensures, may_load.ensures, first2.ensures, first.ensures, nowhere.ensures, length-of.ensures)
 
-pub load-code-spec : {M : Type 1} → statement M
-load-code-spec =
+pub load_code_spec : {M : Type 1} → statement M
+load_code_spec =
     tie.close
     (tie.spec
     length-of-requires

@@ -12,5 +12,5 @@ first-requires-2 c κs = search rules
 returns : tie.Need-returns
 returns c = rw (c.first2.ensures, c.before.first.ensures)
 
-pub manager-code-spec : {M : Type 1} → statement M
-manager-code-spec = tie.close (tie.spec first-requires first-requires-2 returns)
+pub manager_code_spec : {M : Type 1} → statement M
+manager_code_spec = tie.close (tie.spec first-requires first-requires-2 returns)

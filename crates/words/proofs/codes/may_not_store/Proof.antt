@@ -12,5 +12,5 @@ may-store-capability-requires c κs = search rules
 returns : tie.Need-returns
 returns c = rw (c.before.may-store-capability.ensures, c.before.before.may-store.ensures)
 
-pub may-not-store-spec : {M : Type 1} → statement M
-may-not-store-spec = tie.close (tie.spec may-store-requires may-store-capability-requires returns)
+pub may_not_store_spec : {M : Type 1} → statement M
+may_not_store_spec = tie.close (tie.spec may-store-requires may-store-capability-requires returns)

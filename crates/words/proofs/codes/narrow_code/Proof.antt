@@ -33,8 +33,8 @@ returns c =
     let length-of = c.before.before.before.before.before.before.length-of in
     rw (first3.ensures, first2.ensures, unnamed.ensures, first.ensures, bad-narrow.ensures, length-of.ensures)
 
-pub narrow-code-spec : {M : Type 1} → statement M
-narrow-code-spec =
+pub narrow_code_spec : {M : Type 1} → statement M
+narrow_code_spec =
     tie.close
     (tie.spec
     length-of-requires

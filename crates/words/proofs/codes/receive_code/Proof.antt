@@ -17,5 +17,5 @@ returns c =
     let first = c.before.first in
     rw (first2.ensures, first.ensures)
 
-pub receive-code-spec : {M : Type 1} → statement M
-receive-code-spec = tie.close (tie.spec first-requires first-requires-2 returns)
+pub receive_code_spec : {M : Type 1} → statement M
+receive_code_spec = tie.close (tie.spec first-requires first-requires-2 returns)

@@ -46,8 +46,8 @@ returns c =
     rw
     (first5.ensures, unnamed.ensures, first4.ensures, first3.ensures, may-not-store.ensures, first2.ensures, first.ensures, nowhere.ensures, length-of.ensures)
 
-pub store-code-spec : {M : Type 1} → statement M
-store-code-spec =
+pub store_code_spec : {M : Type 1} → statement M
+store_code_spec =
     tie.close
     (tie.spec
     length-of-requires

@@ -5,7 +5,7 @@ use mathlib.Core.Path.{◌∙◌}
 use mathlib.Core.Bool.{not, ◌&&◌}
 use lib.Dec.{eqb}
 use Rattle.capabilities.proofs.Choice.{times}
-use Rattle.words.proofs.Lent.{times-most}
+use Rattle.words.proofs.Lent.{times_most}
 use Rattle.words.proofs.collecting.collected_cell.Statement.{statement}
 use Rattle.words.proofs.collecting.collected_cell.Tie as tie
 
@@ -16,10 +16,10 @@ cast-result : tie.Need-overflow-cast-result
 cast-result c = search rules
 
 mul-result : tie.Need-overflow-mul-result
-mul-result c = omega (arith, times-most ((not (eqb c.before.args.flag 0) && c.dies.result)) c.before.args.cell)
+mul-result c = omega (arith, times_most ((not (eqb c.before.args.flag 0) && c.dies.result)) c.before.args.cell)
 
 returns : tie.Need-returns
 returns c = times ((not (eqb c.before.args.flag 0) && c.dies.result)) c.before.args.cell ∙ rw c.dies.ensures
 
-pub collected-cell-spec : {M : Type 1} → statement M
-collected-cell-spec = tie.close (tie.spec dies-requires cast-result mul-result returns)
+pub collected_cell_spec : {M : Type 1} → statement M
+collected_cell_spec = tie.close (tie.spec dies-requires cast-result mul-result returns)

@@ -20,5 +20,5 @@ returns c = search rules
 returns-2 : tie.Need-returns-2
 returns-2 c = sym (set_out c.before.args.cells.now _ _ c.if1.false)
 
-pub put-cell-spec : {M : Type 1} → statement M
-put-cell-spec = tie.close (tie.spec mul-cells slice-write-cells same_length returns returns-2)
+pub put_cell_spec : {M : Type 1} → statement M
+put_cell_spec = tie.close (tie.spec mul-cells slice-write-cells same_length returns returns-2)

@@ -14,5 +14,5 @@ returns : tie.Need-returns
 unfolding word_at
 returns c = rw (c.Cell-at.ensures, c.before.tag_at.ensures)
 
-pub word-at-spec : {M : Type 1} → statement M
-word-at-spec = tie.close (tie.spec tag-at-requires cell-at-requires returns)
+pub word_at_spec : {M : Type 1} → statement M
+word_at_spec = tie.close (tie.spec tag-at-requires cell-at-requires returns)

@@ -38,5 +38,5 @@ loop-again c =
 returns : tie.Need-returns invariant-loop decreases-loop
 returns c = c.before.loop.invariant.1 ∙ ap (each bit 0) (take_all c.before.loop.i c.before.before.args.tags.now (omega arith))
 
-pub bits-spec : {M : Type 1} → statement M
-bits-spec = tie.close (tie.spec invariant-loop decreases-loop loop-holds shared-slice-read-here add-i loop-less loop-again returns)
+pub bits_spec : {M : Type 1} → statement M
+bits_spec = tie.close (tie.spec invariant-loop decreases-loop loop-holds shared-slice-read-here add-i loop-less loop-again returns)

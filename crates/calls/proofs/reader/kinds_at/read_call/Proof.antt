@@ -18,7 +18,7 @@ length-of-requires c κs = search rules
 
 returns : tie.Need-returns
 returns c =
-    inputs.no-command _ _ _ c.before.before.byte_at.ensures c.before.length-of.ensures c.if1.true
+    inputs.no_command _ _ _ c.before.before.byte_at.ensures c.before.length-of.ensures c.if1.true
 
 returns-2 : tie.Need-returns-2
 returns-2 c =
@@ -33,10 +33,10 @@ call-at-requires c κs = (
 
 returns-3 : tie.Need-returns-3
 returns-3 c =
-    inputs.call-read _ _ _ c.before.before.before.before.byte_at.ensures c.before.before.before.length-of.ensures c.call_at.ensures
+    inputs.call_read _ _ _ c.before.before.before.before.byte_at.ensures c.before.before.before.length-of.ensures c.call_at.ensures
     c.before.before.if1.false c.before.if2.false
 
-pub read-call-spec : {M : Type 1} → statement M
-read-call-spec =
+pub read_call_spec : {M : Type 1} → statement M
+read_call_spec =
     tie.close
     (tie.spec byte-at-requires length-of-requires returns returns-2 call-at-requires returns-3)
