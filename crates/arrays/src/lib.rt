@@ -1,7 +1,7 @@
 // The state as arrays of numbers: what a call is lent.
 
 // The small numbers of the state, which go by value; with the range that is being revoked (0 and 0 if none is).
-#[derive(Drop)]
+#[derive(Clone, Copy)]
 pub struct Numbers {
     pub v: u16,
     pub f: u16,
@@ -13,7 +13,7 @@ pub struct Numbers {
 
 // The whole state: registers and mailboxes as cells and tag bytes; rows, pages, frames and principals as numbers; and the counts of claims,
 // 256 a principal.
-#[derive(Drop)]
+#[derive(Clone, Copy)]
 pub struct Arrays {
     pub nums: Numbers,
     pub words: [u64; 64],
@@ -28,7 +28,7 @@ pub struct Arrays {
 }
 
 // A call's answer; code 0 means granted.
-#[derive(Drop)]
+#[derive(Clone, Copy)]
 pub struct Answer {
     pub code: u8,
     pub number: u64,

@@ -11,7 +11,7 @@ pub use writer::write_call;
 
 // A call: its kind and its operands, in the order of their bytes. Page and frame numbers are the page layer's own types, so that
 // the one never stands for the other.
-#[derive(Drop)]
+#[derive(Clone, Copy)]
 pub enum Call {
     Take {
         party: u8,
@@ -120,14 +120,14 @@ pub enum Call {
 }
 
 // What reading finds: a call and how many bytes it used, or refusal 3.
-#[derive(Drop)]
+#[derive(Clone, Copy)]
 pub enum Reading {
     Read { call: Call, used: usize },
     Refused,
 }
 
 // What writing answers: how many bytes were written, or refusal 3 for too short a buffer.
-#[derive(Drop)]
+#[derive(Clone, Copy)]
 pub enum Written {
     Wrote { len: usize },
     TooShort,

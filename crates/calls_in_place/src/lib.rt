@@ -11,7 +11,7 @@ pub mod table_calls;
 pub mod word_calls;
 
 // What a call in place hands back: its answer, and the small numbers. The arrays are changed where they lie.
-#[derive(Drop)]
+#[derive(Clone, Copy)]
 pub struct Stepped {
     pub answer: Answer,
     pub nums: Numbers,

@@ -5,7 +5,7 @@ pub mod ranges;
 pub mod refusal;
 
 // A range of virtual cells: `length` of them from `base` on.
-#[derive(Drop)]
+#[derive(Clone, Copy)]
 pub struct Range {
     pub base: u16,
     pub length: u16,

@@ -7,7 +7,7 @@ pub mod sound;
 pub mod tree;
 
 // One principal. One that is not in being is all 0; principal 0 has no parent, and 0 stands there.
-#[derive(Drop)]
+#[derive(Clone, Copy)]
 pub struct Principal {
     pub being: bool,
     pub holder: u8,

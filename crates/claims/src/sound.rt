@@ -11,7 +11,7 @@ use crate::number::{is_written, principal_of};
 use crate::tree::leads_up;
 
 // How many counts of a principal are above 0, and how many of them are for pages at V and above.
-#[derive(Drop)]
+#[derive(Clone, Copy)]
 struct Spent {
     all: u16,
     high: u16,

@@ -10,7 +10,7 @@ const INPUT: usize = 32768;
 const OUTPUT: usize = 425984;
 
 // How many bytes were read, and whether no read failed.
-#[derive(Drop)]
+#[derive(Clone, Copy)]
 pub struct Taken {
     pub len: usize,
     pub whole: bool,

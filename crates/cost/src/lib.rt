@@ -13,7 +13,7 @@ use claims::lent::count_in;
 use formed::formed;
 
 // What is answered: a code, 0 if granted; what each of those who claim the page pays, and what is left over. Refused, both are 0.
-#[derive(Drop)]
+#[derive(Clone, Copy)]
 pub struct Costed {
     pub code: u8,
     pub share: u8,

@@ -16,20 +16,20 @@ mod by_value;
 pub mod runs;
 
 // The whole state by value.
-#[derive(Drop)]
+#[derive(Clone, Copy)]
 pub struct State {
     pub arrays: Arrays,
 }
 
 // An answer, and the whole state, changed or as given.
-#[derive(Drop)]
+#[derive(Clone, Copy)]
 pub struct Answered {
     pub answer: Answer,
     pub state: State,
 }
 
 // The same of a command, with how many bytes it used.
-#[derive(Drop)]
+#[derive(Clone, Copy)]
 pub struct Commanded {
     pub answer: Answer,
     pub used: usize,

@@ -14,7 +14,7 @@ use step::command;
 
 // What a run hands back: the small numbers, how many commands it did, and the place in the input that it reached. The arrays are
 // changed where they lie.
-#[derive(Drop)]
+#[derive(Clone, Copy)]
 pub struct Ran {
     pub nums: Numbers,
     pub done: usize,

@@ -9,7 +9,7 @@ use arrays::Numbers;
 use pages::lent::{clear_cells, clear_pages, clear_tags};
 
 // What a start hands back: code 0, or 1 if it is refused, and the small numbers. The arrays are written where they lie.
-#[derive(Drop)]
+#[derive(Clone, Copy)]
 pub struct Begun {
     pub code: u8,
     pub nums: Numbers,

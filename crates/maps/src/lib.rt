@@ -7,7 +7,7 @@ mod steps;
 
 // Which reservations share a cell with `cells` cells from `first` on; which lie within them; which Open one of at least `cells` cells is
 // nearest to a cell.
-#[derive(Drop)]
+#[derive(Clone, Copy)]
 pub enum Question {
     Sharing { first: u64, cells: u64 },
     Within { first: u64, cells: u64 },
@@ -15,7 +15,7 @@ pub enum Question {
 }
 
 // What is answered: 0 or the refusal's number; how many reservations were found; and the base of the nearest one, else 0.
-#[derive(Drop)]
+#[derive(Clone, Copy)]
 pub struct Answer {
     pub code: u8,
     pub count: usize,
@@ -24,7 +24,7 @@ pub struct Answer {
 
 // What a walk has seen of the records so far: whether they tile from cell 0 on and end at 4,096 at most, and where the last one ends; and
 // of the Open ones that are asked for whether there is one, the base of the nearest and its distance.
-#[derive(Drop)]
+#[derive(Clone, Copy)]
 pub struct Seen {
     pub tiled: bool,
     pub end: u32,
@@ -34,7 +34,7 @@ pub struct Seen {
 }
 
 // What is made of a question before anything is written: 0 or the refusal's number, and how many records to list from.
-#[derive(Drop)]
+#[derive(Clone, Copy)]
 pub struct Judged {
     pub code: u8,
     pub upto: usize,

@@ -6,15 +6,15 @@ pub mod numbers;
 pub mod sound;
 
 // The number of a virtual page. V is at most 256, so a byte holds every one.
-#[derive(Drop)]
+#[derive(Clone, Copy)]
 pub struct VirtualPage(pub u8);
 
 // The number of a frame. It is a counter of its own and never stands for a page's.
-#[derive(Drop)]
+#[derive(Clone, Copy)]
 pub struct Frame(pub u8);
 
 // A virtual page shows nothing, must not show anything yet, or shows a frame.
-#[derive(Drop)]
+#[derive(Clone, Copy)]
 pub enum PageState {
     Unmapped,
     Freed,
@@ -22,7 +22,7 @@ pub enum PageState {
 }
 
 // A frame holds what someone left, holds zeros, or is shown by a page.
-#[derive(Drop)]
+#[derive(Clone, Copy)]
 pub enum FrameState {
     Dirty,
     Free,
@@ -30,7 +30,7 @@ pub enum FrameState {
 }
 
 // The place of a virtual cell in lent memory.
-#[derive(Drop)]
+#[derive(Clone, Copy)]
 pub enum Place {
     At(usize),
     Nowhere,

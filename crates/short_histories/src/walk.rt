@@ -22,7 +22,7 @@ const MOST: u8 = 3;
 const LONGEST: usize = 18;
 
 // A state and the memory that it is lent.
-#[derive(Drop)]
+#[derive(Clone, Copy)]
 struct Machine {
     state: State,
     cells: [u64; 16],
@@ -30,14 +30,14 @@ struct Machine {
 }
 
 // Whether a call was granted, and where it led.
-#[derive(Drop)]
+#[derive(Clone, Copy)]
 struct Led {
     granted: bool,
     machine: Machine,
 }
 
 // The bytes of the commands so far.
-#[derive(Drop)]
+#[derive(Clone, Copy)]
 struct History {
     bytes: [u8; LONGEST],
     len: usize,

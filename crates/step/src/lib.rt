@@ -17,7 +17,7 @@ use calls_in_place::table_calls::{PLAIN, give, merge, split, take};
 use calls_in_place::word_calls::{coded, grant, load, narrow, number, receive, store};
 
 // What a command hands back: its answer, the small numbers, and how many bytes it used. The arrays are changed where they lie.
-#[derive(Drop)]
+#[derive(Clone, Copy)]
 pub struct Ended {
     pub answer: Answer,
     pub nums: Numbers,

@@ -4,7 +4,7 @@ pub mod frames;
 ghost use Rattle.std.specs.Prelude.{◌≡◌, ◌-◌, min};
 
 // What a sweep answers: 0 or the refusal's number, the cells left and the place reached.
-#[derive(Drop)]
+#[derive(Clone, Copy)]
 pub struct Swept {
     pub code: u8,
     pub left: u32,

@@ -8,7 +8,7 @@ pub mod rows;
 pub mod tiling;
 
 // A reservation is nobody's yet, lent out as a capability, or being taken back.
-#[derive(Drop)]
+#[derive(Clone, Copy)]
 pub enum ReservationState {
     Open,
     Taken,
@@ -16,7 +16,7 @@ pub enum ReservationState {
 }
 
 // `length` virtual cells from `base` on, the party that holds them, and who took them: a party, 8 for several, 9 for nobody.
-#[derive(Drop)]
+#[derive(Clone, Copy)]
 pub struct Reservation {
     pub base: u16,
     pub length: u16,
@@ -26,21 +26,21 @@ pub struct Reservation {
 }
 
 // The row of a reservation, if there is one.
-#[derive(Drop)]
+#[derive(Clone, Copy)]
 pub enum Found {
     At(usize),
     Nowhere,
 }
 
 // What take answers: 0 or the refusal's number, and the length of what was taken.
-#[derive(Drop)]
+#[derive(Clone, Copy)]
 pub struct TakeAnswer {
     pub code: u8,
     pub length: u16,
 }
 
 // What split and merge answer: 0 or the refusal's number, how many rows are in use then, and how many were written.
-#[derive(Drop)]
+#[derive(Clone, Copy)]
 pub struct Moved {
     pub code: u8,
     pub count: usize,

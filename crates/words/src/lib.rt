@@ -11,7 +11,7 @@ pub mod memory;
 pub mod registers;
 
 // A word: a cell and its tag. Tagged, it is a capability.
-#[derive(Drop)]
+#[derive(Clone, Copy)]
 pub struct Slot {
     pub cell: u64,
     pub tag: bool,
