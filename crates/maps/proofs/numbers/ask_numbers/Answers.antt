@@ -17,4 +17,4 @@ returns c =
     let list = c.list-count in
     asked (map row_from a.rows.now) a.question a.bases.now survey.result judge.result survey.ensures
     (judge.ensures ∙ ap (λ (n : ℕ). judge_with a.question survey.result n (length a.bases.now)) (sym (length-map a.rows.now row_from)))
-    list.result list.new.1.1.1.0 c.answer_with.result list.ensures c.answer_with.ensures
+    list.result list.new.bases c.answer_with.result list.ensures c.answer_with.ensures

@@ -1,7 +1,6 @@
 -- `maps::numbers::list` meets its contract. The idea: what the turns still to come make of what is listed so far is what all turns make of
 -- the slice as it was.
 use mathlib.Core.Path.{refl, ◌∙◌}
-use Prim.Native.Nat.{◌-◌}
 use native.Mathlib.Omega.{arith}
 use mathlib.Core.List.{map}
 use lib.ListN.{length, take}
@@ -38,7 +37,7 @@ loop-i-preserved c =
     let row = c.row_of-record in
     let step = c.list_with-count in (
       search rules ∙ loop.invariant.0,
-      list_number a.question a.rows.now a.upto (listing loop.count loop.bases) (listing step.result step.new.0) (list_over a.question (listing 0 a.bases.now) (take a.upto (map row_from a.rows.now))) loop.i row.result
+      list_number a.question a.rows.now a.upto (listing loop.count loop.bases) (listing step.result step.new.bases) (list_over a.question (listing 0 a.bases.now) (take a.upto (map row_from a.rows.now))) loop.i row.result
           (is_there loop.i a.upto (length a.rows.now) c.loop-i-test.true) loop.invariant.1 row.ensures step.ensures,
     )
 

@@ -1,7 +1,6 @@
 -- `maps::numbers::survey` meets its contract. The idea: what the turns still to come make of what was seen so far is what all turns make of
 -- nothing seen.
 use mathlib.Core.Path.{ap}
-use Prim.Native.Nat.{◌-◌}
 use native.Mathlib.Omega.{arith}
 use mathlib.Core.List.{map}
 use Rattle.table.specs.Numbers.{row_from}
