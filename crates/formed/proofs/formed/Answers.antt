@@ -19,4 +19,4 @@ returns c =
     let m = arrays a.nums a.words.now a.marks.now a.mail.now a.flags.now a.rows.now a.pages.now a.frames.now a.principals.now a.counts.now in
     let e = not-false _ (ap not c.if-not-sized-layer.false) in
     back_decides m (ap (λ (x : Bool). lengths_fit m && x) (sym c.layer_sound-layer.ensures) ∙ e) _
-    (rw (c.claims_sound-claims.ensures, c.mailboxes_sound.ensures, c.bits-2.ensures, c.bits.ensures, c.revocation_kept-kept.ensures a.frames.now a.principals.now a.counts.now, c.well-formed-2.ensures))
+    (rw (c.claims_sound-claims.ensures, c.mailboxes_sound.ensures, c.bits-2.ensures, c.bits.ensures, c.revocation_kept-kept.ensures a.frames.now a.principals.now a.counts.now, c.well_formed-table.ensures))

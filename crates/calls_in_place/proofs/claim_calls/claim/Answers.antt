@@ -14,5 +14,4 @@ returns c =
     let a = c.args in
     let early = c.early_code-early in
     let at = c.page_number-at in
-    let call = c.claim in
-    λ m ev f cells tags. rw c.coded-2.ensures (claim_left (with_claims m a.principals.now a.counts.now) f cells tags a.v ev a.party a.principal a.page early.result early.ensures c.if-early-ne0.false at.result at.ensures call.result _ _ call.ensures.0 call.ensures.1.0 call.ensures.1.1)
+    λ m ev f cells tags. rw c.coded-2.ensures (claim_left (with_claims m a.principals.now a.counts.now) f cells tags a.v ev a.party a.principal a.page early.result early.ensures c.if-early-ne0.false at.result at.ensures c.claim.result _ _ c.claim.ensures.value c.claim.ensures.principals_after c.claim.ensures.counts_after)

@@ -11,5 +11,4 @@ returns-then-party-holder c =
 pub returns : goal.returns
 returns c =
     let a = c.args in
-    let call = c.create in
-    λ v counts m ev f cells tags. rw c.coded-2.ensures (create_left (with_claims m a.principals.now counts) f cells tags a.party a.parent a.child a.limit a.holder c.if-party-holder.false call.result (call.ensures.0 counts) _ call.ensures.1)
+    λ v counts m ev f cells tags. rw c.coded-2.ensures (create_left (with_claims m a.principals.now counts) f cells tags a.party a.parent a.child a.limit a.holder c.if-party-holder.false c.create.result (c.create.ensures.by_index counts) _ c.create.ensures.principals_after)

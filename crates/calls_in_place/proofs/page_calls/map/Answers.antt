@@ -13,5 +13,4 @@ pub returns : goal.returns
 returns c =
     let a = c.args in
     let early = c.manager_code-early in
-    let call = c.map in
-    λ m ev eh f cells tags. rw c.coded-2.ensures (map_left (with_pages m a.pages.now a.frames.now) f a.party early.result early.ensures cells tags a.nums.v a.nums.f ev eh c.if-early-ne0.false call.result a.page a.frame call.ensures.0 _ _ call.ensures.1.0 call.ensures.1.1)
+    λ m ev eh f cells tags. rw c.coded-2.ensures (map_left (with_pages m a.pages.now a.frames.now) f a.party early.result early.ensures cells tags a.nums.v a.nums.f ev eh c.if-early-ne0.false c.map.result a.page a.frame c.map.ensures.value _ _ c.map.ensures.pages_after c.map.ensures.frames_after)

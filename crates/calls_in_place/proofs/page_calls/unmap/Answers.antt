@@ -17,5 +17,4 @@ returns c =
     let early = c.manager_code-early in
     let at = c.page_number in
     let any = c.any_counts-claimed in
-    let call = c.unmap in
-    λ m ev eh ec f cells tags. rw c.coded-2.ensures (unmap_left (with_pages m a.pages.now a.frames.now) f a.party early.result early.ensures cells tags a.nums.v a.nums.f ev eh c.if-early-ne0.false call.result a.page at.result at.ensures any.result (any.ensures ∙ ap (λ n. any_counts 32 n at.result) (sym ec)) (call.ensures.0 a.nums.f) _ _ call.ensures.1.0 call.ensures.1.1)
+    λ m ev eh ec f cells tags. rw c.coded-2.ensures (unmap_left (with_pages m a.pages.now a.frames.now) f a.party early.result early.ensures cells tags a.nums.v a.nums.f ev eh c.if-early-ne0.false c.unmap.result a.page at.result at.ensures any.result (any.ensures ∙ ap (λ n. any_counts 32 n at.result) (sym ec)) (c.unmap.ensures.by_index a.nums.f) _ _ c.unmap.ensures.pages_after c.unmap.ensures.frames_after)

@@ -13,5 +13,4 @@ pub returns : goal.returns
 returns c =
     let a = c.args in
     let early = c.manager_code-early in
-    let call = c.zero in
-    λ m eh lc lt f. rw c.coded-2.ensures (zero_left (with_pages m m.pages a.frames.now) f a.party early.result early.ensures a.cells.now a.tags.now a.f eh lc lt c.if-early-ne0.false call.result a.frame (call.ensures.0 m.nums.v m.pages) _ _ _ call.ensures.1.0 call.ensures.1.1.0 call.ensures.1.1.1)
+    λ m eh lc lt f. rw c.coded-2.ensures (zero_left (with_pages m m.pages a.frames.now) f a.party early.result early.ensures a.cells.now a.tags.now a.f eh lc lt c.if-early-ne0.false c.zero.result a.frame (c.zero.ensures.by_index m.nums.v m.pages) _ _ _ c.zero.ensures.frames_after c.zero.ensures.cells_after c.zero.ensures.tags_after)
