@@ -1,6 +1,8 @@
 // Reads a call at every place of the input and past its end, and writes it back. A line a place: the place and `3` where nothing is
 // read there; else the call, the bytes it used, the code of writing it and the buffer then, and the codes of reading and writing it
 // cut short at every length. tests/calls_vectors.py works `stdin` and `stdout` out from the documents' lines.
+#![tactic(auto)]
+
 mod kinds_shown;
 mod show;
 

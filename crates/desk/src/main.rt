@@ -1,4 +1,6 @@
 // Runs the session on standard input, and prints its lines.
+#![tactic(auto)]
+
 fn main() {
     console::run();
 }

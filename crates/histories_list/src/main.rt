@@ -1,4 +1,6 @@
 // Prints every short history, a line each: document 02, 2026-10. tests/short_histories.py works `stdout` out from document 01.
+#![tactic(auto)]
+
 use libc::{STDERR_FILENO, STDOUT_FILENO};
 
 fn main() {
