@@ -41,26 +41,25 @@ def proof(crate, function, idea, uses, needs):
 NEEDS = "use borrow.Author.Needs.{needs}"
 
 
-def variants(kinds, crate="calls·specs.specs"):
+def variants(kinds):
     names = ", ".join(kind.variant for kind in kinds)
-    return f"use Rattle·{crate}.declared.Call.the-variants.{{{names}}}"
+    return f"use Rattle.calls.specs.declared.Call.TheVariants.{{{names}}}"
 
 
 # ---- crates/calls
 
 def parts(kinds):
     clauses = [
-        f"partsOf ({kind.variant} {' '.join(kind.names)}) = "
-        f"({kind.code}, {' ∷ '.join([o.number.replace('.', ' .') for o in kind.operands] + ['[]'])})"
+        f"parts_of ({kind.variant} {' '.join(kind.names)}) = "
+        f"({kind.code}, {' ∷ '.join([o.number for o in kind.operands] + ['[]'])})"
         for kind in kinds
     ]
     head = f"""{ANTT}
 -- The way back from a call to its row.
-use Prim.Native.Nat.{{ℕ}}
-use mathlib.Core.List.{{List, [], _∷_}}
-use Rattle·calls·specs.specs.declared.Call.{{Call}}
+use Rattle.std.specs.Prelude.{{ℕ, List, [], ◌∷◌}}
+use Rattle.calls.specs.declared.Call.{{Call}}
 {variants(kinds)}"""
-    body = "\n".join(["-- A call's command byte and operands.", "abbrev pub partsOf : Call → ℕ × List ℕ", *clauses])
+    body = "\n".join(["-- A call's command byte and operands.", "abbrev pub parts_of : Call → ℕ × List ℕ", *clauses])
     return made("crates/calls/specs/Parts.antt", [head, body])
 
 
@@ -71,9 +70,9 @@ def listed(kinds):
     head = f"""{ANTT}
 -- The calls of each kind fit their row, by computing.
 use mathlib.Core.Path.{{refl}}
-use Rattle·calls·specs.specs.declared.Call.{{Call}}
+use Rattle.calls.specs.declared.Call.{{Call}}
 {variants(kinds)}
-use Rattle·calls·proofs.proofs.Cases.{{Listed}}"""
+use Rattle.calls.proofs.Cases.{{Listed}}"""
     return made("crates/calls/proofs/Listed.antt", [head, "\n".join(["pub listed : (c : Call) → Listed c", *clauses])])
 
 
