@@ -141,15 +141,16 @@ def kind_from(kind):
     """Of a kind with an operand of eight bytes."""
     place = 1 + kind.operands.index(kind.of("u64")[0])
     uses = [
-        "use Rattle.std.specs.Prelude.{◌<◌, ◌^◌, get_or}",
-        "use native.Mathlib.Nat.{mod_eq_of_lt}",
+        "use Prim.Native.Nat.{◌<◌, ◌^◌}",
+        "use native.Mathlib.Nat.{mod-eq_of_lt}",
         "use native.Mathlib.Omega.{arith}",
+        "use lib.ListN.{get_or}",
     ]
     facts = promises([FROM[operand.type] for operand in kind.operands])
     text = f"""
     let x = c.args.numbers.now in
-    let fits : get_or x {place} 0 < 2 ^ 64 = omega (arith, c.numbers.range {place}) in
-    simp ({", ".join([*facts, "mod_eq_of_lt fits"])})"""
+    let fits : get_or x {place} 0 < 2 ^ 64 = omega (arith, c.shared_slice_known-1.given {place}) in
+    simp ({", ".join([*facts, "mod-eq_of_lt fits"])})"""
     idea = "Eight bytes hold every number of 64 bits, so that nothing is cut off the value."
     return proof("operands", f"kinds_from/{kind.snake}_from", idea, uses, [answer("returns", text)])
 
