@@ -260,14 +260,14 @@ pub fn numbers_of(call: Call) -> [u64; 7]
 # ---- crates/calls_run
 
 def shown_by(kind):
-    return f'shown(b"{kind.word}", &numbers[1..{1 + len(kind.operands)}]),'
+    return f'shown(rt, b"{kind.word}", &numbers[1..{1 + len(kind.operands)}]),'
 
 
 def shown(kinds):
     arms = [f"        {kind.byte} => {shown_by(kind)}" for kind in kinds[:-1]]
-    head = "\n".join([RATTLE, "use crate::show::shown;", "use calls::Call;"])
+    head = "\n".join([RATTLE, "use crate::show::shown;", "use calls::Call;", "use std::io;"])
     call = """// A call's word and its operands, in the order of their bytes. In the last arm only the last command is left.
-pub(crate) fn call(c: Call) {
+pub(crate) fn call(rt: &impl Print, c: Call) -> io::Result<()> {
     let numbers = operands::numbers_of(c);
     match numbers[0] {
 %s
