@@ -18,7 +18,7 @@ returns-then-not-in_range c =
     let test = c.if-not-in_range in
     let range = c.in_range in
     let if1 = c.if-input-lt3 in
-    let a = c.args in let both = read_out a.input.now (256 * c.wide.result + c.wide-2.result) c.wide-f.result (let e = c.wide.ensures.value in let e₂ = c.wide-2.ensures.value in omega (arith, e, e₂)) c.wide-f.ensures.value if1.false a.out.now c.put_line-then-not-in_range.result _ (sym range.ensures ∙ not-true _ test.true) (laid_in_lem (line_of 1 0 false) 0 c.put_line-then-not-in_range.result a.out.now c.put_line-then-not-in_range.ensures.value c.put_line-then-not-in_range.ensures.out_after) in record { laid = both.0; spared = both.1 }
+    let a = c.args in let both = read_out a.input.now (256 * c.wide.result + c.wide-2.result) c.wide-f.result (let e = c.wide.ensures.value in let e₂ = c.wide-2.ensures.value in omega (arith, e, e₂)) c.wide-f.ensures.value if1.false a.out.now c.put_line-then-not-in_range.result _ (sym range.ensures ∙ test.true) (laid_in_lem (line_of 1 0 false) 0 c.put_line-then-not-in_range.result a.out.now c.put_line-then-not-in_range.ensures.value c.put_line-then-not-in_range.ensures.out_after) in record { laid = both.0; spared = both.1 }
 
 pub started-requires : goal.started-requires
 started-requires c =
@@ -29,11 +29,11 @@ started-requires c =
     let wide = c.wide in
     let if1 = c.if-input-lt3 in
     let a = c.args in
-    let near = c.put_line-end.ensures.upper_bound (omega arith) in record { f_value = sym range.ensures ∙ not-false _ test.false; in_bounds = if1.false; input_len_bound = c.requires; begin_bound = omega (arith, near) }
+    let near = c.put_line-end.ensures.upper_bound (omega arith) in record { f_value = sym range.ensures ∙ test.false; in_bounds = if1.false; input_len_bound = c.requires; begin_bound = omega (arith, near) }
 
 pub returns : goal.returns
 returns c =
     let test = c.if-not-in_range in
     let range = c.in_range in
     let if1 = c.if-input-lt3 in
-    let a = c.args in let both = read_in a.input.now (256 * c.wide.result + c.wide-2.result) c.wide-f.result (let e = c.wide.ensures.value in let e₂ = c.wide-2.ensures.value in omega (arith, e, e₂)) c.wide-f.ensures.value if1.false a.out.now c.put_line-end.result _ (sym range.ensures ∙ not-false _ test.false) (laid_in_lem (line_of 0 0 false) 0 c.put_line-end.result a.out.now c.put_line-end.ensures.value c.put_line-end.ensures.out_after) c.started.result _ c.started.ensures.laid c.started.ensures.upper_bound in record { laid = both.0; spared = both.1 }
+    let a = c.args in let both = read_in a.input.now (256 * c.wide.result + c.wide-2.result) c.wide-f.result (let e = c.wide.ensures.value in let e₂ = c.wide-2.ensures.value in omega (arith, e, e₂)) c.wide-f.ensures.value if1.false a.out.now c.put_line-end.result _ (sym range.ensures ∙ test.false) (laid_in_lem (line_of 0 0 false) 0 c.put_line-end.result a.out.now c.put_line-end.ensures.value c.put_line-end.ensures.out_after) c.started.result _ c.started.ensures.laid c.started.ensures.upper_bound in record { laid = both.0; spared = both.1 }

@@ -33,7 +33,13 @@ pub commands-requires : goal.commands-requires
 commands-requires c =
     let a = c.args in
     let own = c.fresh_numbers-nums in
-    let n = ap length (lent_zeroed a.v a.f c.requires.f_value) ∙ length-replicate (16 * a.f) 0 ∙ ap (λ (x : Numbers). 16 * x.f) (sym own.ensures) in let all = (begun_formed a.v a.f c.requires.f_value own.result own.ensures, ((n, n), c.requires.1)) in record { formed = all.0; cells_len = all.1.0; in_bounds = all.1.1.0; input_len_bound = all.1.1.1.0; begin_bound = all.1.1.1.1 }
+    let n = ap length (lent_zeroed a.v a.f c.requires.f_value) ∙ length-replicate (16 * a.f) 0 ∙ ap (λ (x : Numbers). 16 * x.f) (sym own.ensures) in record {
+      formed = begun_formed a.v a.f c.requires.f_value own.result own.ensures;
+      cells_len = (n, n);
+      in_bounds = c.requires.in_bounds;
+      input_len_bound = c.requires.input_len_bound;
+      begin_bound = c.requires.begin_bound
+    }
 
 pub returns : goal.returns
 returns c =
