@@ -1,4 +1,6 @@
 // Runs the session on standard input, and prints its lines.
-fn main() {
-    console::run();
+#![tactic(auto)]
+
+fn main(rt: HostRuntime) {
+    console::run(&rt);
 }

@@ -1,4 +1,6 @@
 // The same program on the edges that document 01 leaves unmarked: a program is run on one input within the gate.
-fn main() {
-    console::run();
+#![tactic(auto)]
+
+fn main(rt: HostRuntime) {
+    console::run(&rt);
 }
