@@ -1,4 +1,5 @@
 // The state as arrays of numbers: what a call is lent.
+#![tactic(auto)]
 
 // The small numbers of the state, which go by value; with the range that is being revoked (0 and 0 if none is).
 #[derive(Clone, Copy)]

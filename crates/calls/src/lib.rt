@@ -1,4 +1,6 @@
 // Calls and their bytes: document 01, "Commands".
+#![tactic(auto)]
+
 mod commands;
 mod digits;
 mod kinds_bytes;

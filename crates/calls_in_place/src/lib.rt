@@ -1,5 +1,7 @@
 // The calls in place, over lent arrays of numbers: each kind of call is done by one function here. Whoever calls one knows that the
 // arrays are well formed; on others it answers too, and promises nothing, so none of these is an entry.
+#![tactic(auto)]
+
 use arrays::{Answer, Numbers};
 
 pub mod claim_calls;

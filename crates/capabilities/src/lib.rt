@@ -1,4 +1,6 @@
 // What every layer shares: capabilities as numbers, ranges of virtual cells, and refusals in their order.
+#![tactic(auto)]
+
 pub mod capability;
 pub mod death;
 pub mod ranges;

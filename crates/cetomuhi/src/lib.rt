@@ -1,5 +1,7 @@
 // What a server links: the machine over memory that the server owns. Only numbers and slices of numbers cross the boundary; every
 // function answers for all bytes, numbers and lengths.
+#![tactic(auto)]
+
 ghost use Rattle.std.specs.Prelude.{◌≡◌, ◌++◌, ◌<◌, ◌≤◌, length, drop};
 ghost use Rattle.words.specs.Words.{empty};
 ghost use Rattle.arrays.specs.Reading.{arrays};

@@ -1,4 +1,6 @@
 // Claims on pages: principals in a tree, each with a limit that it spends on pages. Knows nothing of reservations.
+#![tactic(auto)]
+
 pub mod destroying;
 pub mod lent;
 pub mod number;

@@ -1,4 +1,6 @@
 // The cost of a page, asked of a state in place: a question, no call, and nothing is written.
+#![tactic(auto)]
+
 ghost use Rattle.std.specs.Prelude.{◌≤◌, ◌≡◌};
 ghost use Rattle.claims.specs.Claims.{one};
 ghost use Rattle.claims.specs.Cost.{cost, cost_of};

@@ -1,5 +1,7 @@
 // A call, a command and a run of commands in place; the state by value. No entry relies on its caller: every arrays, lengths, inputs and
 // lent memory have their answer.
+#![tactic(auto)]
+
 ghost use Rattle.std.specs.Prelude.{◌≡◌};
 ghost use Rattle.arrays.specs.Reading.{arrays};
 ghost use Rattle.arrays.specs.Steps.{leaving};

@@ -24,7 +24,7 @@ use Rattle.cases.specs.WrongMachines.{untouched}
 use Rattle.machine.proofs.Computing.{computing}
 use Rattle.histories.specs.Runs.{Machine, machine, outcome, next, run, begun}
 use Rattle.histories.specs.Live.{virtual, word_in}
-use Rattle.histories.specs.Restoring.{each_below, many_below, sweep_and_collect, finishing, taking, merging, destroying, releasing, unclaiming, every_page, unmapping, revoking, ◌andThen◌, restoring}
+use Rattle.histories.specs.Restoring.{each_below, many_below, sweep_and_collect, finishing, taking, merging, destroying, releasing, unclaiming, every_page, unmapping, revoking, ◌and_then◌, restoring}
 use Rattle.histories.specs.Manager.{unmapping_all, taking_back, Beside}
 use Rattle.examples.proofs.Histories.{start}
 use Rattle.examples.proofs.Restoring.{swept, counted}
@@ -84,7 +84,7 @@ pub unmapped :
     ∷ left (22 ∷ []) (reservation 0 32 Open 0 9 ∷ []) Unmapped (Mapped (frame 0)) 0
     ∷ left (0 ∷ 0 ∷ 0 ∷ 0 ∷ 0 ∷ 22 ∷ []) (reservation 0 32 Open 0 9 ∷ []) Unmapped (Mapped (frame 0)) 0
     ∷ []
-unfolding leaves tagged cells_shown counted start each_below many_below destroying releasing unclaiming unmapping ◌andThen◌ unmapping_all instead destroy_by outcome next run begun computing
+unfolding leaves tagged cells_shown counted start each_below many_below destroying releasing unclaiming unmapping ◌and_then◌ unmapping_all instead destroy_by outcome next run begun computing
 unmapped = refl
 
 -- Party 3 has taken page 0, which its principal and principal 0 count. Its capability is in its register, in the page and in the mailbox of
@@ -96,7 +96,7 @@ house =
     ∷ Create 0 0 4 100 3 ∷ Claim 3 4 (page 0) ∷ Claim 0 0 (page 0) ∷ [])
 
 pub taking_back_lem : taking_back 0 house ≡ Destroy 0 4 ∷ Release 0 0 (page 0) ∷ Unmap 0 (page 0) ∷ Revoke 0 0 ∷ Sweep 0 16 ∷ Collect 0 ∷ []
-unfolding house start each_below many_below sweep_and_collect destroying releasing unclaiming unmapping revoking ◌andThen◌ taking_back outcome next run begun computing
+unfolding house start each_below many_below sweep_and_collect destroying releasing unclaiming unmapping revoking ◌and_then◌ taking_back outcome next run begun computing
 taking_back_lem = refl
 
 -- It is taken back; not without the unmap, and not by a collect that forgets registers.
@@ -106,7 +106,7 @@ pub back :
     ∷ left (0 ∷ 0 ∷ 13 ∷ 11 ∷ 11 ∷ []) (reservation 0 16 Taken 0 3 ∷ reservation 16 16 Open 7 9 ∷ []) (Mapped (frame 0)) Unmapped 3
     ∷ left (0 ∷ 0 ∷ 0 ∷ 0 ∷ 0 ∷ 0 ∷ []) (reservation 0 16 Open 0 9 ∷ reservation 16 16 Open 7 9 ∷ []) Unmapped Unmapped 1
     ∷ []
-unfolding leaves tagged cells_shown house start each_below many_below sweep_and_collect destroying releasing unclaiming unmapping revoking ◌andThen◌ taking_back instead collect_by outcome next run begun computing
+unfolding leaves tagged cells_shown house start each_below many_below sweep_and_collect destroying releasing unclaiming unmapping revoking ◌and_then◌ taking_back instead collect_by outcome next run begun computing
 back = refl
 
 -- What leads back from there leaves no live capability; without the last revoke it leaves those of the house and of the takes.
@@ -115,7 +115,7 @@ pub none_live :
     ≡ left (0 ∷ 0 ∷ 0 ∷ 0 ∷ 0 ∷ 0 ∷ 0 ∷ 0 ∷ []) (reservation 0 32 Open 0 9 ∷ []) Unmapped Unmapped 0
     ∷ left (0 ∷ 0 ∷ 0 ∷ 0 ∷ 0 ∷ []) (reservation 0 32 Taken 0 8 ∷ []) Freed Unmapped 3
     ∷ []
-unfolding leaves tagged cells_shown house start each_below many_below sweep_and_collect finishing taking merging destroying releasing unclaiming unmapping revoking ◌andThen◌ restoring outcome next run begun computing
+unfolding leaves tagged cells_shown house start each_below many_below sweep_and_collect finishing taking merging destroying releasing unclaiming unmapping revoking ◌and_then◌ restoring outcome next run begun computing
 none_live = refl
 
 -- What party 0 cannot do alone. Party 5 has taken cells 0 to 7, and a party holds cells 8 to 31 Open, which share a page with them.

@@ -14,7 +14,7 @@ use Rattle.calls.specs.Commands.{page, frame}
 use Rattle.machine.specs.State.{Answered}
 use Rattle.machine.proofs.Computing.{computing}
 use Rattle.histories.specs.Runs.{Machine, outcome, next, run, answers, begun}
-use Rattle.histories.specs.Restoring.{each_below, many_below, sweep_and_collect, finishing, taking, merging, destroying, releasing, unclaiming, unmapping, revoking, ◌andThen◌, restoring}
+use Rattle.histories.specs.Restoring.{each_below, many_below, sweep_and_collect, finishing, taking, merging, destroying, releasing, unclaiming, unmapping, revoking, ◌and_then◌, restoring}
 use Rattle.examples.proofs.Histories.{start}
 
 -- A revocation in its middle: the sweep has passed five cells.
@@ -44,7 +44,7 @@ pub lists :
     ∷ (Sweep 0 16 ∷ Collect 0 ∷ Take 5 23 0 ∷ Take 0 0 0 ∷ Merge 0 0 ∷ Merge 0 0 ∷ Revoke 0 0 ∷ Sweep 0 16 ∷ Collect 0 ∷ [])
     ∷ (Take 0 0 0 ∷ Destroy 0 5 ∷ Destroy 0 3 ∷ Release 0 0 (page 1) ∷ Release 0 0 (page 1) ∷ Release 0 0 (page 0) ∷ Unmap 0 (page 1) ∷ Revoke 0 0 ∷ Sweep 0 16 ∷ Collect 0 ∷ [])
     ∷ []
-unfolding swept cut shared counted start each_below many_below sweep_and_collect finishing taking merging destroying releasing unclaiming unmapping revoking ◌andThen◌ restoring outcome next run answers begun computing
+unfolding swept cut shared counted start each_below many_below sweep_and_collect finishing taking merging destroying releasing unclaiming unmapping revoking ◌and_then◌ restoring outcome next run answers begun computing
 lists = refl
 
 -- Their answers' codes, the reservations that they leave, and the two pages.
@@ -58,5 +58,5 @@ pub back :
     ∷ (replicate 9 0, reservation 0 32 Open 0 9 ∷ [], Unmapped, Unmapped)
     ∷ (replicate 10 0, reservation 0 32 Open 0 9 ∷ [], Unmapped, Unmapped)
     ∷ []
-unfolding told swept cut shared counted start each_below many_below sweep_and_collect finishing taking merging destroying releasing unclaiming unmapping revoking ◌andThen◌ restoring outcome next run answers begun computing
+unfolding told swept cut shared counted start each_below many_below sweep_and_collect finishing taking merging destroying releasing unclaiming unmapping revoking ◌and_then◌ restoring outcome next run answers begun computing
 back = refl

@@ -1,4 +1,6 @@
 // Whether lent arrays are a well-formed state, each number as the state is written.
+#![tactic(auto)]
+
 ghost use Rattle.std.specs.Prelude.{◌≡◌};
 ghost use Rattle.arrays.specs.Reading.{arrays};
 ghost use Rattle.formed.specs.Test.{RevocationKept, formed_of};

@@ -9,7 +9,7 @@ use Rattle.calls.specs.declared.Call.{Call}
 use Rattle.histories.specs.Runs.{Machine, Granted, next, run, begun, Reached}
 use Rattle.histories.specs.Forming.{Standing}
 use Rattle.histories.specs.Losing.{AllGranted, nothing, more}
-use Rattle.histories.specs.Restoring.{each_below, many_below, ◌andThen◌}
+use Rattle.histories.specs.Restoring.{each_below, many_below, ◌and_then◌}
 use Rattle.histories.proofs.Forming.{standing_run}
 
 pub record Leads (Q : Machine → Type 0) (m : Machine) (calls : List Call) : Type 0 where
@@ -59,7 +59,7 @@ leads_append P Q a b m k g =
 -- Two lists, the second computed from where the first leads.
 pub leads_then : (v f : ℕ) (P Q : Machine → Type 0) (a b : Machine → List Call) (m : Machine) → Standing m v f → Leads P m (a m) → ((n : Machine) → Standing n v f → P n → Leads Q n (b n))
     → Leads Q m ((a and_then b) m)
-unfolding ◌andThen◌
+unfolding ◌and_then◌
 leads_then v f P Q a b m s k g = leads_append P Q (a m) (b (run m (a m))) m k (g (run m (a m)) (standing_run (a m) m v f s))
 
 -- A call for each number that passes a test: Q n says that what is at n and above is done.

@@ -155,6 +155,7 @@ module _ (s : State) (v : ℕ) (few : s.core.pages.v ≤ 256) (ok : claims_sound
   pub other_stays : {call : Call} {x : Claims} → Touches s call x → OtherLetsGo c q call → count_of x q k ≡ count_of c q k
   other_stays kept o = refl
   other_stays (created party parent child limit holder z) o = create_counts v c ok party parent child limit holder z q k
+  other_stays (counted party p page _ _) o = elim o [ ]
   other_stays (released party p page z) (other_releases by from of other) = release_others c from of.0 q k (λ e. other e.0)
   other_stays (destroyed party p z) (other_destroyed by top other) = go (leads_up c p q) refl
     where

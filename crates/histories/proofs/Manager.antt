@@ -28,7 +28,7 @@ use Rattle.histories.specs.Runs.{Machine, run, Reached}
 use Rattle.histories.specs.Live.{NoneInto}
 use Rattle.histories.specs.Inv.{row_at}
 use Rattle.histories.specs.Forming.{Standing}
-use Rattle.histories.specs.Restoring.{each_below, many_below, sweep_and_collect, top_at, destroying, releasing, unclaiming, mapped_at, every_page, unmapping, revoking, ◌andThen◌}
+use Rattle.histories.specs.Restoring.{each_below, many_below, sweep_and_collect, top_at, destroying, releasing, unclaiming, mapped_at, every_page, unmapping, revoking, ◌and_then◌}
 use Rattle.histories.specs.Manager.{Returned, RevocationEnds, unmapping_all, AllUnmapped, taking_back, TakenBack}
 use Rattle.histories.proofs.Table.{running_by}
 use Rattle.histories.proofs.Always.{inv_reached}
@@ -51,7 +51,7 @@ own_append [] b p q = q
 own_append (c ∷ a) b p q = (p.0, own_append a b p.1 q)
 
 own_then : (a b : Machine → List Call) → ((m : Machine) → Own (a m)) → ((m : Machine) → Own (b m)) → (m : Machine) → Own ((a and_then b) m)
-unfolding ◌andThen◌
+unfolding ◌and_then◌
 own_then a b p q m = own_append (a m) (b (run m (a m))) (p m) (q (run m (a m)))
 
 own_each : (test : ℕ → Bool) (call : ℕ → Call) → ((n : ℕ) → caller_of (call n) ≡ 0) → (n : ℕ) → Own (each_below test call n)

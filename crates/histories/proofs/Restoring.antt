@@ -22,7 +22,7 @@ use Rattle.histories.specs.Runs.{Machine, run}
 use Rattle.histories.specs.Live.{Spot, Live}
 use Rattle.histories.specs.Inv.{row_at, Inv}
 use Rattle.histories.specs.Forming.{Standing}
-use Rattle.histories.specs.Restoring.{finishing, taking, merging, unclaiming, every_page, unmapping, revoking, ◌andThen◌, restoring, NothingLost}
+use Rattle.histories.specs.Restoring.{finishing, taking, merging, unclaiming, every_page, unmapping, revoking, ◌and_then◌, restoring, NothingLost}
 use Rattle.histories.proofs.Table.{running_by}
 use Rattle.histories.proofs.Always.{inv_reached, inv_run}
 use Rattle.histories.proofs.Confining.{live_confined}

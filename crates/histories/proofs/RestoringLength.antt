@@ -14,7 +14,7 @@ use Rattle.calls.specs.declared.Call.{Call}
 use Rattle.calls.specs.declared.Call.TheVariants.{Merge, Unmap, Release, Destroy}
 use Rattle.calls.specs.Commands.{page}
 use Rattle.histories.specs.Runs.{Machine, run, Reached}
-use Rattle.histories.specs.Restoring.{each_below, many_below, sweep_and_collect, finishing, open_at, take_at, taking, merging, top_at, destroying, releasing, unclaiming, mapped_at, every_page, unmapping, revoking, ◌andThen◌, restoring, RestoringBounded}
+use Rattle.histories.specs.Restoring.{each_below, many_below, sweep_and_collect, finishing, open_at, take_at, taking, merging, top_at, destroying, releasing, unclaiming, mapped_at, every_page, unmapping, revoking, ◌and_then◌, restoring, RestoringBounded}
 use Rattle.histories.proofs.Forming.{always_formed, standing_facts}
 use Rattle.histories.proofs.Leading.{reached_run}
 use Rattle.histories.proofs.Sharing.{counts_fit}
@@ -52,7 +52,7 @@ abbrev Within : ℕ → ℕ → (Machine → List Call) → Type 0
 Within v n calls = (m : Machine) (r : Reached m) → r.v ≡ v → length (calls m) ≤ n
 
 then_within : (v n k : ℕ) (a b : Machine → List Call) → Within v n a → Within v k b → Within v (n + k) (a and_then b)
-unfolding ◌andThen◌ reached_run
+unfolding ◌and_then◌ reached_run
 then_within v n k a b f g m r e =
     let one = f m r e in
     let two = g (run m (a m)) (reached_run m r (a m)) e in

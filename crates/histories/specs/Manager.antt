@@ -18,7 +18,7 @@ use Rattle.histories.specs.Runs.{Machine, run, Reached}
 use Rattle.histories.specs.Live.{NoneInto}
 use Rattle.histories.specs.Inv.{row_at}
 use Rattle.histories.specs.Losing.{AllGranted}
-use Rattle.histories.specs.Restoring.{sweep_and_collect, every_page, unclaiming, unmapping, revoking, ◌andThen◌}
+use Rattle.histories.specs.Restoring.{sweep_and_collect, every_page, unclaiming, unmapping, revoking, ◌and_then◌}
 
 -- Each call is party 0's, and each is granted in its turn.
 pub record ByManager (m : Machine) (calls : List Call) : Type 0 where

@@ -80,8 +80,8 @@ unfoldable pub revoking : ℕ → Machine → List Call
 revoking base m = Revoke 0 base ∷ sweep_and_collect m.state.core.pages.f
 
 -- Calls computed from a state, and then those computed from the state that they lead to.
-infixr 5 ◌andThen◌
-unfoldable pub ◌andThen◌ : (Machine → List Call) → (Machine → List Call) → Machine → List Call
+infixr 5 ◌and_then◌
+unfoldable pub ◌and_then◌ : (Machine → List Call) → (Machine → List Call) → Machine → List Call
 (a and_then b) m = a m ++ b (run m (a m))
 
 -- 4 and 5. No page has a claim then, and each can be unmapped.

@@ -1,4 +1,6 @@
 // A line of three numbers, put straight into a lent buffer.
+#![tactic(auto)]
+
 ghost use Rattle.std.specs.Prelude.{ℕ, ◌+◌, ◌/◌, ◌%◌, ◌<◌, ◌≤◌, [], ◌∷◌, ◌++◌, ◌≡◌, length, set};
 ghost use Rattle.words.specs.Words.{byte_of};
 ghost use Rattle.lines.specs.Lines.{decimal, line_of};

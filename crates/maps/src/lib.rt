@@ -1,5 +1,7 @@
 // Which reservations lie where: questions about reservation records, apart from the machine. The records lie as plain numbers (`numbers`)
 // or, above the same steps, in a lent slice of records (`records`). Of them only what refusal 25 names is judged.
+#![tactic(auto)]
+
 pub mod cells;
 pub mod numbers;
 pub mod records;

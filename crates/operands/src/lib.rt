@@ -1,4 +1,6 @@
 // A call as seven numbers: its command, its operands in the order of their bytes, and 0 after them.
+#![tactic(auto)]
+
 mod kinds_from;
 mod kinds_numbers;
 mod making;

@@ -1,4 +1,6 @@
 // The page layer: virtual pages, frames, and the cells of lent memory behind them.
+#![tactic(auto)]
+
 pub mod entry;
 pub mod layer;
 pub mod lent;

@@ -1,4 +1,6 @@
 // The lines of a session, put into a lent buffer if they fit. The state is tested at every command, or not: the lines are the same.
+#![tactic(auto)]
+
 ghost use Rattle.std.specs.Prelude.{◌≡◌};
 ghost use Rattle.session_rules.specs.Session.{lines_of, printed, print_of};
 

@@ -1,4 +1,6 @@
 // Reservations above the page layer: what a revocation makes of a row, and of lent rows and pages.
+#![tactic(auto)]
+
 pub mod lent;
 
 ghost use Rattle.std.specs.Prelude.{◌≡◌};

@@ -1,4 +1,6 @@
 // A whole session of the machine: from input bytes to printed lines in a lent buffer.
+#![tactic(auto)]
+
 ghost use Rattle.std.specs.Prelude.{◌≡◌};
 ghost use Rattle.session_rules.specs.Session.{lines_of, printed, print_of};
 

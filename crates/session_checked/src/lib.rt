@@ -1,4 +1,6 @@
 // A whole session with the state tested at every command. It stands alone, so that the session without the test is compiled without it.
+#![tactic(auto)]
+
 ghost use Rattle.std.specs.Prelude.{◌≡◌};
 ghost use Rattle.session_rules.specs.Session.{lines_of, printed, print_of};
 

@@ -1,4 +1,6 @@
 // The lines of a session as the rules give them, and whether a refusal ends it.
+#![tactic(auto)]
+
 ghost use Rattle.std.specs.Prelude.{◌≡◌};
 ghost use Rattle.session_rules.specs.Session.{ends_session};
 

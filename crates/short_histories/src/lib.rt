@@ -1,4 +1,6 @@
 // Every short history, put into a lent buffer as lines: document 02, 2026-10.
+#![tactic(auto)]
+
 mod commands;
 mod digits;
 mod walk;

@@ -1,5 +1,7 @@
 // The step that picks the call in place, and the command of bytes. On well-formed arrays and lent memory of the right size they do what
 // the rules say; on others they answer too, and promise nothing, so they are no entries.
+#![tactic(auto)]
+
 ghost use Rattle.std.specs.Prelude.{◌≡◌};
 ghost use Rattle.arrays.specs.Reading.{arrays};
 ghost use Rattle.arrays.specs.Steps.{leaving};

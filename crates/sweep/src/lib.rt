@@ -1,4 +1,6 @@
 // The sweep over lent memory.
+#![tactic(auto)]
+
 pub mod frames;
 
 ghost use Rattle.std.specs.Prelude.{◌≡◌, ◌-◌, min};

@@ -8,7 +8,7 @@ use mathlib.Core.Path.{◌≡◌, refl, sym, ap, subst, ◌∙◌}
 use borrow.Author.Tests.{eqb-true, lt-ltb, le-leb, leb-false, eqb-false}
 use lib.Dec.{eqb, leb, ltb}
 use lib.ListN.{length, get_or, take, drop, set, length-append, length-take, length-drop, length-set}
-use lib.Seq.{split_at, drop-cons, set_split}
+use lib.Seq.{split_at as split_seq_at, drop-cons, set_split}
 use Rattle.capabilities.specs.Lists.{pick}
 use Rattle.capabilities.specs.Refusals.{first}
 use Rattle.capabilities.proofs.Choice.{and_right, pick_yes, pick_no}
@@ -34,7 +34,7 @@ use Rattle.table.proofs.Sound.{Sound, sound, made_sound, with_made}
 
 -- The rows in use, cut at one of them and at two.
 pub cut_one : (l : List Reservation) (i : ℕ) → i < length l → l ≡ take i l ++ get_or l i blank ∷ drop (i + 1) l
-cut_one l i h = rw (add-one i) (split_at l i blank h)
+cut_one l i h = rw (add-one i) (split_seq_at l i blank h)
 
 pub cut_two : (l : List Reservation) (i : ℕ) → i + 1 < length l → l ≡ take i l ++ get_or l i blank ∷ get_or l (i + 1) blank ∷ drop (i + 2) l
 cut_two l i h =

@@ -1,4 +1,6 @@
 // The reservation table, in a lent array of numbers.
+#![tactic(auto)]
+
 pub mod find;
 pub mod number;
 pub mod operations;

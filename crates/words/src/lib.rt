@@ -1,4 +1,6 @@
 // Words: a cell and its tag, in registers, mailboxes and lent memory; what refuses a call on them, and what becomes of them.
+#![tactic(auto)]
+
 ghost use Rattle.std.specs.Prelude.{not, ◌&&◌, ◌≡◌};
 ghost use Rattle.capabilities.specs.Capability.{permits};
 ghost use Rattle.words.specs.Words.{empty, keep_tag};

@@ -1,0 +1,48 @@
+-- `table::find::find` meets its contract: the rows before the first one looked at are not the one.
+use native.Mathlib.Omega.{arith}
+use mathlib.Core.Path.{sym, ◌∙◌}
+use Prim.Native.Nat.{◌<◌, ◌-◌}
+use lib.ListN.{length}
+use Rattle.table.specs.Rows.{live}
+use Rattle.table.specs.Find.{begins}
+use Rattle.table.proofs.Finding.{seek_end}
+use Rattle.table.specs.Numbers.{table_of}
+use Rattle.table.proofs.Reading.{used_length, read_more, read_here}
+use Rattle.table.proofs.find.find.Goals as goal
+use Rattle.table.proofs.find.find.Goals.{In-loop-i}
+
+-- A row in use is one of the slice.
+within : (c : In-loop-i) → c.loop-i.i < length c.args.rows.now
+within c = omega (arith, used_length c.args.rows.now c.args.count, c.used-n.ensures)
+
+pub loop-i-init : goal.loop-i-init
+loop-i-init c = c.skip-i.ensures
+
+pub offset_bounds-rows-i : goal.offset_bounds-rows-i
+offset_bounds-rows-i c = omega (arith, within (goal.at.offset_bounds-rows-i c).In-loop-i)
+
+pub bounds-rows-i : goal.bounds-rows-i
+bounds-rows-i c = within (goal.at.bounds-rows-i c).In-loop-i
+
+pub returns-then-begins_at : goal.returns-then-begins_at
+returns-then-begins_at c =
+    let a = c.args in
+    let i = c.loop-i.i in
+    let h : i < length (live (table_of a.rows.now a.count)) = omega (arith, c.used-n.ensures) in
+    sym (c.loop-i.invariant ∙ read_here (begins a.party a.base) a.rows.now a.count i h (sym c.begins_at.ensures ∙ c.if-begins_at.true))
+
+pub overflow_add-i : goal.overflow_add-i
+overflow_add-i c = omega (arith, within (goal.at.overflow_add-i c).In-loop-i)
+
+pub loop-i-smaller : goal.loop-i-smaller
+loop-i-smaller c = omega arith
+
+pub loop-i-preserved : goal.loop-i-preserved
+loop-i-preserved c =
+    let a = c.args in
+    let i = c.loop-i.i in
+    let h : i < length (live (table_of a.rows.now a.count)) = omega (arith, c.used-n.ensures) in
+    c.loop-i.invariant ∙ read_more (begins a.party a.base) a.rows.now a.count i h (sym c.begins_at.ensures ∙ c.if-begins_at.false)
+
+pub returns : goal.returns
+returns c = sym (c.loop-i.invariant ∙ seek_end _ _ _ (omega (arith, c.used-n.ensures)))
