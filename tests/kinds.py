@@ -29,7 +29,7 @@ OTHERS = table.ENUM, table.ROWS, around.HEADER, around.HEX, around.WORDS, CRATE,
 
 AT, BYTES = "crates/calls/src/reader/kinds_at.rt", "crates/calls/src/kinds_bytes.rt"
 FROM, NUMBERS = "crates/operands/src/kinds_from.rt", "crates/operands/src/kinds_numbers.rt"
-PROOF = "crates/calls/proofs/reader/kinds_at/call_at/Proof.antt"
+PROOF = "crates/calls/proofs/reader/kinds_at/call_at/Answers.antt"
 WORDS = "rust/cetomuhi/src/kinds.rs"
 
 # What goes wrong, the file, the text there, what stands in its place, and a word of the line by which it is found. The line begins
@@ -48,7 +48,7 @@ FAULTS = [
     ("a printed word", "crates/calls_run/src/kinds_shown.rt", 'b"merge"', 'b"revoke"', "merge"),
     ("the way back", "crates/calls/specs/Parts.antt", "(0x0F, party ∷ s ∷ to", "(0x0F, party ∷ to ∷ s", "Grant"),
     ("a law's clause", "crates/calls/proofs/Listed.antt", "listed (Claim", "listed (Claims", "Claim"),
-    ("a proof", PROOF, ".match .keys3)", ".match .keys4)", "keys3"),
+    ("an answer", PROOF, "c.in-3.is c.requires", "c.in-4.is c.requires", "c.in-3"),
     ("the header's function", around.HEADER, "_SPLIT, party, base, len,", "_SPLIT, party, len, base,", "SPLIT"),
     ("the header's parameters", around.HEADER, "uint64_t party, uint64_t frame)", "uint64_t frame, uint64_t party)", "zero"),
     ("the header's word", around.HEADER, '"store", ', "", "store"),

@@ -1,66 +1,47 @@
-"""The definitions, laws and proofs that have a clause or a need a kind."""
+"""The definitions, laws and proofs that have a clause or an answer a kind."""
 
 from rattle import made
 
 ANTT = "-- Made by tools/kinds from the enum of calls: not to be changed here."
 
 
-def before(depth):
-    """The way to what was known some steps before."""
-    return "c" + " .before" * depth
-
-
-def numbered(name, count, sign="-"):
+def numbered(name, count):
     """The name of the first, the second, .. of a sort."""
-    return name if count == 1 else f"{name}{sign}{count}"
+    return name if count == 1 else f"{name}-{count}"
 
 
-def need(name, text, context="c", unfolding=""):
-    """A need and its answer."""
-    lines = [f"{name} : tie.Need-{name}", *([f"unfolding {unfolding}"] if unfolding else []), f"{name} {context} = {text}"]
+def answer(name, text, unfolding=""):
+    """A goal and its answer."""
+    lines = [f"pub {name} : goal.{name}", *([f"unfolding {unfolding}"] if unfolding else []), f"{name} c ={text if text[0] == chr(10) else ' ' + text}"]
     return "\n".join(lines)
 
 
-def searched(name, context="c κs"):
-    return need(name, "search needs", context)
+def proof(crate, function, idea, uses, answers):
+    """A file of answers: why the function meets its contract, what they use, and the answers."""
+    module = f"Rattle.{crate}.proofs.{function.replace('/', '.')}"
+    head = [ANTT, f"-- {idea}", *uses, f"use {module}.Goals as goal"]
+    return made(f"crates/{crate}/proofs/{function}/Answers.antt", ["\n".join(head), *answers])
 
 
-def proof(crate, function, idea, uses, needs):
-    """A proof file: why the function meets its contract, what it uses, and its needs, (name, text) each."""
-    name = function.split("/")[-1].replace("_", "-")
-    module = f"Rattle·{crate}·proofs.proofs.{function.replace('/', '.')}"
-    names = [name for name, _ in needs if name]
-    line = f"tie.close (tie.spec {' '.join(names)})"
-    whole = f"{name}-spec = {line}" if len(line) < 90 - len(name) else "\n    ".join(
-        [f"{name}-spec =", "tie.close", "(tie.spec", *names[:-1], f"{names[-1]})"])
-    head = [ANTT, f"-- {idea}", *uses, f"use {module}.Statement.{{statement}}", f"use {module}.Tie as tie"]
-    return made(f"crates/{crate}/proofs/{function}/Proof.antt", [
-        "\n".join(head), *(text for _, text in needs), f"pub {name}-spec : {{M : Type 1}} → statement M\n{whole}"])
-
-
-NEEDS = "use borrow.Author.Needs.{needs}"
-
-
-def variants(kinds, crate="calls·specs.specs"):
+def variants(kinds):
     names = ", ".join(kind.variant for kind in kinds)
-    return f"use Rattle·{crate}.declared.Call.the-variants.{{{names}}}"
+    return f"use Rattle.calls.specs.declared.Call.TheVariants.{{{names}}}"
 
 
 # ---- crates/calls
 
 def parts(kinds):
     clauses = [
-        f"partsOf ({kind.variant} {' '.join(kind.names)}) = "
-        f"({kind.code}, {' ∷ '.join([o.number.replace('.', ' .') for o in kind.operands] + ['[]'])})"
+        f"parts_of ({kind.variant} {' '.join(kind.names)}) = "
+        f"({kind.code}, {' ∷ '.join([o.number for o in kind.operands] + ['[]'])})"
         for kind in kinds
     ]
     head = f"""{ANTT}
 -- The way back from a call to its row.
-use Prim.Native.Nat.{{ℕ}}
-use mathlib.Core.List.{{List, [], _∷_}}
-use Rattle·calls·specs.specs.declared.Call.{{Call}}
+use Rattle.std.specs.Prelude.{{ℕ, List, [], ◌∷◌}}
+use Rattle.calls.specs.declared.Call.{{Call}}
 {variants(kinds)}"""
-    body = "\n".join(["-- A call's command byte and operands.", "abbrev pub partsOf : Call → ℕ × List ℕ", *clauses])
+    body = "\n".join(["-- A call's command byte and operands.", "abbrev pub parts_of : Call → ℕ × List ℕ", *clauses])
     return made("crates/calls/specs/Parts.antt", [head, body])
 
 
@@ -71,157 +52,116 @@ def listed(kinds):
     head = f"""{ANTT}
 -- The calls of each kind fit their row, by computing.
 use mathlib.Core.Path.{{refl}}
-use Rattle·calls·specs.specs.declared.Call.{{Call}}
+use Rattle.calls.specs.declared.Call.{{Call}}
 {variants(kinds)}
-use Rattle·calls·proofs.proofs.Cases.{{Listed}}"""
+use Rattle.calls.proofs.Cases.{{Listed}}"""
     return made("crates/calls/proofs/Listed.antt", [head, "\n".join(["pub listed : (c : Call) → Listed c", *clauses])])
 
 
-def length_of(kinds):
-    uses = [
-        NEEDS,
-        "use Rattle·calls·proofs.proofs.Cases.{no-length}",
-    ]
-    needs = [(numbered("returns", k), searched(numbered("returns", k), "c")) for k in range(1, len(kinds) + 1)]
-    last = numbered("returns", len(kinds) + 1)
-    needs.append((last, need(last, "no-length (c .before .args .command) (c .match .rest)")))
+def length_of(_):
     idea = "In each arm the command is the arm's number; in the last it is 0 or past the table's end, and both answer 0."
-    return proof("calls", "commands/length_of", idea, uses, needs)
+    return proof("calls", "commands/length_of", idea, ["use Rattle.calls.proofs.Cases.{no_length}"], [
+        answer("returns-in_default", "no_length c.args.command c.in_default.in_default-own.rest")])
 
 
 def call_at(kinds):
     uses = [
-        "use Rattle·calls·specs.specs.Commands.{callAt, lastByte}",
-        "use Rattle·calls·proofs.proofs.Cases.{in-case, last-case, long-enough}",
+        "use Rattle.calls.specs.Commands.{call_at, last_byte}",
+        "use Rattle.calls.proofs.Cases.{in_case, last_case, long_enough}",
     ]
-    needs = []
-    for kind in kinds[:-1]:
-        text = f"long-enough (c .match .keys{kind.byte}) (c .before .before .pre .1)"
-        needs.append((f"{kind.dashed}-at-requires", need(f"{kind.dashed}-at-requires", text, "c κs")))
-    last = kinds[-1].dashed
-    text = """
-    let pre = c .before .before .pre in
-    long-enough (last-case lastByte (pre .0 .0) (pre .0 .1) (c .match .rest)) (pre .1)"""
-    needs.append((f"{last}-at-requires", need(f"{last}-at-requires", text, "c κs").replace("= \n", "=\n")))
-    for kind in kinds[:-1]:
-        name = numbered("returns", kind.byte)
-        text = (f"in-case (λ k. callAt k (c .before .before .before .args .s .now)) "
-                f"(c .before .match .keys{kind.byte}) (c .{kind.dashed}-at .ensures)")
-        needs.append((name, need(name, text)))
-    text = f"""
-    let match = c .before .match in
-    let a = c .before .before .before .args in
-    let pre = c .before .before .before .pre in
-    in-case (λ k. callAt k (a .s .now)) (last-case lastByte (pre .0 .0) (pre .0 .1) (match .rest)) (c .{last}-at .ensures)"""
-    name = numbered("returns", len(kinds))
-    needs.append((name, need(name, text).replace("= \n", "=\n")))
+    *others, last = kinds
+    answers = [answer(f"{kind.snake}_at-requires", f"long_enough c.in-{kind.byte}.is c.requires.1") for kind in others]
+    answers.append(answer(f"{last.snake}_at-requires", """
+    let pre = c.requires in
+    long_enough (last_case last_byte pre.0.0 pre.0.1 c.in_default.in_default-own.rest) pre.1"""))
+    for kind in others:
+        text = f"in_case (λ k. call_at k c.args.s.now) c.in-{kind.byte}.is c.{kind.snake}_at.ensures"
+        answers.append(answer(f"returns-in-{kind.byte}", text))
+    answers.append(answer("returns-in_default", f"""
+    let match = c.in_default.in_default-own in
+    let a = c.args in
+    let pre = c.requires in
+    in_case (λ k. call_at k a.s.now) (last_case last_byte pre.0.0 pre.0.1 match.rest) c.{last.snake}_at.ensures"""))
     idea = ("In each arm the command is the arm's number, so that kind's own function answers; "
             "in the last arm only the last command is left.")
-    return proof("calls", "reader/kinds_at/call_at", idea, uses, needs)
+    return proof("calls", "reader/kinds_at/call_at", idea, uses, answers)
 
 
 def by_kind(kinds, suffix, function, unfolding=""):
-    """The needs of a function whose arms each call the kind's own function; `function` is what is promised of the call."""
-    needs = []
-    for kind in kinds:
-        known, requires = numbered("enum-known-call", kind.byte), f"{kind.dashed}-{suffix}-requires"
-        needs += [(known, searched(known, "c")), (requires, searched(requires))]
-    for kind in kinds:
-        name, call = numbered("returns", kind.byte), numbered("call", kind.byte, "")
-        text = f"in-case {function} (c .before .before .{call} .given .1) (c .{kind.dashed}-{suffix} .ensures)"
-        needs.append((name, need(name, text, unfolding=unfolding)))
-    return needs
+    """The answers of a function whose arms each call the kind's own function; `function` is what is promised of the call."""
+    return [
+        answer(f"returns-in-{kind.variant}", f"in_case {function} c.in-{kind.variant}.is c.{kind.snake}_{suffix}.ensures", unfolding)
+        for kind in kinds
+    ]
 
 
 def bytes_of(kinds):
     uses = [
-        NEEDS,
-        "use Rattle·calls·specs.specs.Commands.{bytesOf, padded}",
-        "use Rattle·calls·proofs.proofs.Cases.{in-case}",
+        "use Rattle.calls.specs.Commands.{bytes_of, padded}",
+        "use Rattle.calls.proofs.Cases.{in_case}",
     ]
     idea = "In each arm the call is of the arm's kind, so that kind's own function answers."
-    needs = by_kind(kinds, "bytes", "(λ call. padded (bytesOf call))")
-    return proof("calls", "kinds_bytes/bytes_of", idea, uses, needs)
+    return proof("calls", "kinds_bytes/bytes_of", idea, uses, by_kind(kinds, "bytes", "(λ call. padded (bytes_of call))"))
 
 
-def calls_in(names):
-    """The calls of a function in their order: of each its own name and the name of its need."""
-    found = []
-    for place, name in enumerate(names, 1):
-        count = names[:place].count(name)
-        found.append((numbered(name, count, ""), numbered(f"{name}-requires", count)))
-    return found
-
-
-def promises(calls):
-    """What the calls of a function promise, the last first."""
-    return [f"{before(depth)} .{own} .ensures" for depth, (own, _) in enumerate(reversed(calls))]
+def promises(names):
+    """What is promised of the calls of these functions, in their order; the last call first."""
+    calls = [numbered(name, names[:place].count(name)) for place, name in enumerate(names, 1)]
+    return [f"c.{call}.ensures" for call in reversed(calls)]
 
 
 def kind_bytes(kind):
     """Of a kind with operands of several bytes."""
     names = [name for o in kind.operands for name in {1: [], 2: ["high", "low"], 8: ["lowest"] * 8}[o.width]]
-    calls = calls_in(names)
-    facts, uses = promises(calls), [NEEDS]
+    facts, uses = promises(names), []
     for operand in kind.of("u64"):
-        uses.append("use Rattle·calls·proofs.proofs.Bytes.{top-digit}")
-        args = before(len(calls))
-        facts.append(f"top-digit ({args} .args .{operand.name}) ({args} .fits .{operand.name} .fits)")
-    needs = [(requires, searched(requires)) for _, requires in calls]
-    needs.append(("returns", need("returns", "simp (" + ", ".join(facts) + ")")))
+        uses.append("use Rattle.calls.proofs.Bytes.{top_digit}")
+        facts.append(f"top_digit c.args.{operand.name} c.ranges.{operand.name}.fits")
     idea = "Byte by byte, from what is promised of each."
-    return proof("calls", f"kinds_bytes/{kind.snake}_bytes", idea, uses, needs)
+    return proof("calls", f"kinds_bytes/{kind.snake}_bytes", idea, uses, [answer("returns", f"simp ({', '.join(facts)})")])
 
 
 # ---- crates/operands
 
 def call_from(kinds):
-    uses = [NEEDS, "use Rattle·operands·proofs.proofs.Commands.{made, made-take}"]
-    names = ["number-at-requires", *(f"{kind.dashed}-from-requires" for kind in kinds), f"{kinds[0].dashed}-from-requires-2"]
-    needs = [(name, searched(name)) for name in names]
-    known = "(c .before .before .before .before .args .numbers .now) (c .before .before .number-at .ensures)"
-    for kind in kinds:
-        name = numbered("returns", kind.byte)
-        needs.append((name, need(name, f"made {known} (c .before .match .keys{kind.byte}) (c .{kind.dashed}-from .ensures)")))
-    name = numbered("returns", len(kinds) + 1)
-    needs.append((name, need(name, f"made-take {known} (c .before .match .rest) (c .{kinds[0].dashed}-from2 .ensures)")))
+    uses = ["use Rattle.operands.proofs.Commands.{made, made_take}"]
+    known = "c.args.numbers.now c.number_at.ensures"
+    answers = [
+        answer(f"returns-in-{kind.byte}", f"made {known} c.in-{kind.byte}.is c.{kind.snake}_from.ensures") for kind in kinds
+    ]
+    answers.append(answer("returns-in_default", f"made_take {known} c.in_default.in_default-own.rest c.{kinds[0].snake}_from-in_default.ensures"))
     idea = f"In each arm the command is the arm's number; in the last it is none, and the table answers with {kinds[0].word}."
-    return proof("operands", "kinds_from/call_from", idea, uses, needs)
+    return proof("operands", "kinds_from/call_from", idea, uses, answers)
 
 
-FROM = {"u8": "byte-at", "VirtualPage": "page-at", "Frame": "frame-at", "u16": "two-at", "u64": "number-at"}
+FROM = {"u8": "byte_at", "VirtualPage": "page_at", "Frame": "frame_at", "u16": "two_at", "u64": "number_at"}
 
 
 def kind_from(kind):
     """Of a kind with an operand of eight bytes."""
-    calls = calls_in([FROM[operand.type] for operand in kind.operands])
     place = 1 + kind.operands.index(kind.of("u64")[0])
     uses = [
-        NEEDS,
-        "use Prim.Native.Nat.{_<_, _^_}",
-        "use native.Mathlib.Nat.{mod-eq-of-lt}",
+        "use Prim.Native.Nat.{◌<◌, ◌^◌}",
+        "use native.Mathlib.Nat.{mod-eq_of_lt}",
         "use native.Mathlib.Omega.{arith}",
-        "use lib.ListN.{getD}",
+        "use lib.ListN.{get_or}",
     ]
+    facts = promises([FROM[operand.type] for operand in kind.operands])
     text = f"""
-    let x = {before(len(calls) + 1)} .args .numbers .now in
-    let fits : getD x {place} 0 < 2 ^ 64 = omega (arith, {before(len(calls))} .shared-slice-known .given {place}) in
-    simp ({", ".join([*promises(calls), "mod-eq-of-lt fits"])})"""
-    needs = [(requires, searched(requires)) for _, requires in calls]
-    needs.append(("returns", need("returns", text).replace("= \n", "=\n")))
+    let x = c.args.numbers.now in
+    let fits : get_or x {place} 0 < 2 ^ 64 = omega (arith, c.shared_slice_known-1.given {place}) in
+    simp ({", ".join([*facts, "mod-eq_of_lt fits"])})"""
     idea = "Eight bytes hold every number of 64 bits, so that nothing is cut off the value."
-    return proof("operands", f"kinds_from/{kind.snake}_from", idea, uses, needs)
+    return proof("operands", f"kinds_from/{kind.snake}_from", idea, uses, [answer("returns", text)])
 
 
 def numbers_of(kinds):
     uses = [
-        NEEDS,
-        "use Rattle·calls.proofs.Cases.{in-case}",
-        "use Rattle·operands·specs.specs.Numbers.{numbersOf}",
+        "use Rattle.calls.proofs.Cases.{in_case}",
+        "use Rattle.operands.specs.Numbers.{numbers_of}",
     ]
     idea = "In each arm the call is of the arm's kind, so that kind's own function answers."
-    needs = by_kind(kinds, "numbers", "numbersOf", unfolding="numbersOf")
-    return proof("operands", "kinds_numbers/numbers_of", idea, uses, needs)
+    return proof("operands", "kinds_numbers/numbers_of", idea, uses, by_kind(kinds, "numbers", "numbers_of", unfolding="numbers_of"))
 
 
 def files(kinds):

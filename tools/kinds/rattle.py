@@ -38,7 +38,15 @@ def parameters(operands, plain=False):
 def imports(kinds, *wanted):
     """The page layer's types that the kinds have."""
     types = {operand.type for kind in kinds for operand in kind.operands}
-    return [f"use pages::{name};" for name in ("Frame", "VirtualPage") if name in types & set(wanted)]
+    return used("pages", types & set(wanted))
+
+
+def used(path, names):
+    """The line that brings names of one module into scope."""
+    names = sorted(names)
+    if not names:
+        return []
+    return [f"use {path}::{{{', '.join(names)}}};" if len(names) > 1 else f"use {path}::{names[0]};"]
 
 
 # ---- crates/calls
@@ -47,11 +55,11 @@ def commands(kinds):
     arms = [f"        {kind.constant} => {kind.length}," for kind in kinds]
     head = f"""{RATTLE}
 // The byte of each command, and its length with that byte.
-ghost use mathlib.Core.Path.{{_≡_}};
-ghost use Rattle·calls·specs.specs.Commands.{{commandLength}};"""
+ghost use Rattle.std.specs.Prelude.{{◌≡◌}};
+ghost use Rattle.calls.specs.Commands.{{command_length}};"""
     length_of = """// A command's length; 0 for a byte that is no command.
 pub(crate) fn length_of(command: u8) -> usize
-    ensures { λ r. ⌜ r ≡ commandLength command ⌝ }
+    ensures { result ≡ command_length command }
 {
     match command {
 %s
@@ -72,7 +80,7 @@ READERS = {"u8": "byte_in", "VirtualPage": "page_at", "Frame": "frame_at", "u16"
 # It stands beside `call_at`, so that what this requires of its arguments is asked of no other module.
 READ_CALL = """// The call at the beginning of an input, or refusal 3. Nothing of its operands is judged here.
 pub fn read_call(s: &[u8]) -> Reading
-    ensures { λ r. ⌜ Reads (now (s .entry)) r ⌝ }
+    ensures { Reads s.now result }
 {
     let command = byte_at(s, 0);
     let used = commands::length_of(command);
@@ -98,33 +106,30 @@ def fields(kind, readers, source, width):
 
 def kind_at(kind):
     return f"""fn {kind.snake}_at(s: &[u8]) -> Call
-    requires {{ ⌜ {kind.length} ≤ length (now s) ⌝ }}
-    ensures {{ λ r. ⌜ r ≡ callAt {kind.code} (now (s .entry)) ⌝ }}
+    requires {{ {kind.length} ≤ length s.now }}
+    ensures {{ result ≡ call_at {kind.code} s.now }}
 {{
 {fields(kind, READERS, "s", lambda operand: operand.width)}
 }}"""
 
 
 def reader(kinds):
-    used = sorted({"byte_at"} | {READERS[operand.type] for kind in kinds for operand in kind.operands})
+    readers = {"byte_at"} | {READERS[operand.type] for kind in kinds for operand in kind.operands}
     arms = [f"        commands::{kind.constant} => {kind.snake}_at(s)," for kind in kinds[:-1]]
     head = "\n".join([
         RATTLE,
         "// Bytes read as calls. First a function a kind: the call that the operands after the command's byte make.",
-        *(f"use super::{name};" for name in used),
-        "use crate::Call;",
-        "use crate::Reading;",
-        "use crate::commands;",
-        "ghost use mathlib.Core.Path.{_≡_};",
-        "ghost use Prim.Native.Nat.{_≤_};",
-        "ghost use lib.ListN.{length};",
-        "ghost use Rattle·calls·specs.specs.Commands.{callAt, commandLength, lastByte};",
-        "ghost use Rattle·calls·specs.specs.Reader.{Reads};",
+        "ghost use Rattle.std.specs.Prelude.{◌≡◌, ◌≤◌, length};",
+        "ghost use Rattle.calls.specs.Commands.{call_at, command_length, last_byte};",
+        "ghost use Rattle.calls.specs.Reader.{Reads};",
+        "",
+        *used("super", readers),
+        "use crate::{Call, Reading, commands};",
     ])
     call_at = """// The call of a command's byte and the operands after it. In the last arm only the last command is left.
 fn call_at(command: u8, s: &[u8]) -> Call
-    requires { ⌜ ((1 ≤ command) × (command ≤ lastByte)) × (commandLength command ≤ length (now s)) ⌝ }
-    ensures { λ r. ⌜ r ≡ callAt command (now (s .entry)) ⌝ }
+    requires { ((1 ≤ command) × (command ≤ last_byte)) × (command_length command ≤ length s.now) }
+    ensures { result ≡ call_at command s.now }
 {
     match command {
 %s
@@ -153,7 +158,7 @@ def kind_bytes(kind):
     items += ["0"] * (LONGEST - len(items))
     body = "\n".join([*lets, "    " + array(items)])
     return f"""fn {kind.snake}_bytes({parameters(kind.operands)}) -> [u8; commands::LONGEST]
-    ensures {{ λ r. ⌜ r ≡ padded (bytesOf (Call.{kind.variant} {" ".join(kind.names)})) ⌝ }}
+    ensures {{ result ≡ padded (bytes_of (Call.{kind.variant} {" ".join(kind.names)})) }}
 {{
 {body}
 }}"""
@@ -168,16 +173,16 @@ def writer(kinds):
     head = "\n".join([
         RATTLE,
         "// Calls written as bytes. First a function a kind: the call's bytes, and 0 after them.",
-        "use crate::Call;",
-        "use crate::commands;",
-        *(f"use crate::digits::{name};" for name in ("high", "low", "lowest")),
+        "ghost use Rattle.std.specs.Prelude.{◌≡◌};",
+        "ghost use Rattle.calls.specs.Commands.{bytes_of, padded};",
+        "",
+        *used("crate::digits", ("high", "low", "lowest")),
+        "use crate::{Call, commands};",
         *imports(kinds, "Frame", "VirtualPage"),
-        "ghost use mathlib.Core.Path.{_≡_};",
-        "ghost use Rattle·calls·specs.specs.Commands.{bytesOf, padded};",
     ])
     bytes_of = """// A call's bytes, and 0 after them.
 pub(crate) fn bytes_of(call: Call) -> [u8; commands::LONGEST]
-    ensures { λ r. ⌜ r ≡ padded (bytesOf call) ⌝ }
+    ensures { result ≡ padded (bytes_of call) }
 {
     match call {
 %s
@@ -193,27 +198,28 @@ MAKERS = {"u8": "byte_at", "VirtualPage": "page_at", "Frame": "frame_at", "u16":
 
 def kind_from(kind):
     return f"""fn {kind.snake}_from(numbers: &[u64]) -> Call
-    ensures {{ λ r. ⌜ r ≡ callOf (commandOf {kind.code}) (now (numbers .entry)) ⌝ }}
+    ensures {{ result ≡ call_of (command_of {kind.code}) numbers.now }}
 {{
 {fields(kind, MAKERS, "numbers", lambda operand: 1)}
 }}"""
 
 
 def making(kinds):
-    used = sorted({MAKERS[operand.type] for kind in kinds for operand in kind.operands} | {"number_at"})
+    makers = {MAKERS[operand.type] for kind in kinds for operand in kind.operands} | {"number_at"}
     head = "\n".join([
         RATTLE,
         "// Calls made of numbers. First a function a kind: the call that the numbers after the first make, each cut to its operand's",
         "// width.",
-        *(f"use crate::making::{name};" for name in used),
+        "ghost use Rattle.std.specs.Prelude.{◌≡◌};",
+        "ghost use Rattle.calls.specs.Commands.{command_of};",
+        "ghost use Rattle.operands.specs.Numbers.{call_of, call_from};",
+        "",
+        *used("crate::making", makers),
         "use calls::Call;",
-        "ghost use mathlib.Core.Path.{_≡_};",
-        "ghost use Rattle·calls.specs.Commands.{commandOf};",
-        "ghost use Rattle·operands·specs.specs.Numbers.{callOf, callFrom};",
     ])
     call_from = """// The call that numbers make. The table answers with %s for a number that is no command.
 pub fn call_from(numbers: &[u64]) -> Call
-    ensures { λ r. ⌜ r ≡ callFrom (now (numbers .entry)) ⌝ }
+    ensures { result ≡ call_from numbers.now }
 {
     match number_at(numbers, 0) {
 %s
@@ -227,7 +233,7 @@ def kind_numbers(kind):
     zeros = ["0"] * (6 - len(kind.operands))
     values = [o.name if o.type == "u64" else f"{o.name} as u64" for o in kind.operands]
     return f"""fn {kind.snake}_numbers({parameters(kind.operands, plain=True)}) -> [u64; 7]
-    ensures {{ λ r. ⌜ r ≡ {" ∷ ".join([str(kind.byte), *kind.names, *zeros, "[]"])} ⌝ }}
+    ensures {{ result ≡ {" ∷ ".join([str(kind.byte), *kind.names, *zeros, "[]"])} }}
 {{
     {array([str(kind.byte), *values, *zeros])}
 }}"""
@@ -236,13 +242,13 @@ def kind_numbers(kind):
 def numbers(kinds):
     head = f"""{RATTLE}
 // Calls as seven numbers. First a function a kind: the command, its operands, and 0 after them.
-use calls::Call;
-ghost use mathlib.Core.List.{{[], _∷_}};
-ghost use mathlib.Core.Path.{{_≡_}};
-ghost use Rattle·operands·specs.specs.Numbers.{{numbersOf}};"""
+ghost use Rattle.std.specs.Prelude.{{[], ◌∷◌, ◌≡◌}};
+ghost use Rattle.operands.specs.Numbers.{{numbers_of}};
+
+use calls::Call;"""
     numbers_of = """// A call's seven numbers.
 pub fn numbers_of(call: Call) -> [u64; 7]
-    ensures { λ r. ⌜ r ≡ numbersOf call ⌝ }
+    ensures { result ≡ numbers_of call }
 {
     match call {
 %s
@@ -254,14 +260,14 @@ pub fn numbers_of(call: Call) -> [u64; 7]
 # ---- crates/calls_run
 
 def shown_by(kind):
-    return f'shown(b"{kind.word}", &numbers[1..{1 + len(kind.operands)}]),'
+    return f'shown(rt, b"{kind.word}", &numbers[1..{1 + len(kind.operands)}]),'
 
 
 def shown(kinds):
     arms = [f"        {kind.byte} => {shown_by(kind)}" for kind in kinds[:-1]]
-    head = "\n".join([RATTLE, "use crate::show::shown;", "use calls::Call;"])
+    head = "\n".join([RATTLE, "use crate::show::shown;", "use calls::Call;", "use std::io;"])
     call = """// A call's word and its operands, in the order of their bytes. In the last arm only the last command is left.
-pub(crate) fn call(c: Call) {
+pub(crate) fn call(rt: &impl Print, c: Call) -> io::Result<()> {
     let numbers = operands::numbers_of(c);
     match numbers[0] {
 %s

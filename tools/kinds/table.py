@@ -12,7 +12,7 @@ WIDTHS = {"u8": 1, "VirtualPage": 1, "Frame": 1, "u16": 2, "u64": 8}
 MAKERS = {"VirtualPage": "page", "Frame": "frame"}
 # The documents' names of operands that have another one in the enum.
 NAMES = {"party": "P"}
-# The longest command and the most operands, which `calls:Commands.padded` and `operands:Numbers.numbersOf` have.
+# The longest command and the most operands, which `calls:Commands.padded` and `operands:Numbers.numbers_of` have.
 LONGEST = 11
 MOST = 6
 
@@ -111,13 +111,13 @@ def row(name, operands):
 
 def rows(text):
     """Of each row: the byte, the word and the operands in its comment, and what stands below it."""
-    first = re.search(r"^take-command = (.*)$", text, re.MULTILINE)
+    first = re.search(r"^take_command = (.*)$", text, re.MULTILINE)
     body = re.search(r"^commands =\n(.*?)^    ∷ \[\]$", text, re.DOTALL | re.MULTILINE)
     if not first or not body:
         raise Fault(f"{ROWS}: there are no rows of commands")
     for comment, row_text in re.findall(r"^    -- (.*)\n    (?:∷ )?(.*)$", body[1], re.MULTILINE):
         byte, word, layout = comment.split(" ", 2)
-        yield byte, word, layout, first[1] if row_text == "take-command" else row_text
+        yield byte, word, layout, first[1] if row_text == "take_command" else row_text
 
 
 def kinds(root):

@@ -1,16 +1,16 @@
 -- A well-formed state, written and read again, is the same. Assumes nothing.
-use Prim.Native.Nat.{ℕ, ◌+◌, ◌-◌, ◌*◌, ◌<◌}
+use Prim.Native.Nat.{ℕ, ◌+◌, ◌*◌, ◌<◌}
 use native.Mathlib.Omega.{arith}
 use mathlib.Core.Bool.{true}
 use mathlib.Core.List.{List, [], ◌∷◌, ◌++◌, map}
 use mathlib.Core.Path.{◌≡◌, refl, sym, ap, subst}
-use lib.ListN.{length, drop}
+use lib.ListN.{drop}
 use borrow.Author.Tests.{leb-true}
 use Rattle.capabilities.proofs.Choice.{and_left, and_right}
 use Rattle.pages.proofs.Reading.{pages_back, frames_back}
 use Rattle.table.specs.declared.Reservation.{Reservation}
 use Rattle.table.specs.Table.{Table}
-use Rattle.table.specs.Rows.{is_blank, live, table}
+use Rattle.table.specs.Rows.{is_blank, live}
 use Rattle.table.specs.Tiling.{tiles, all_blank, taker_sound, takers_sound, table_sound}
 use Rattle.table.proofs.Sound.{sound, rows_parts}
 use Rattle.table.proofs.Inverse.{blank_is}

@@ -2,7 +2,7 @@
 use Prim.Native.Nat.{ℕ}
 use mathlib.Core.List.{List, map}
 use mathlib.Core.Path.{◌≡◌, refl, sym, ap, ◌∙◌}
-use lib.ListN.{length, set}
+use lib.ListN.{set}
 use Rattle.pages.specs.declared.PageState.{PageState}
 use Rattle.pages.specs.declared.FrameState.{FrameState}
 use Rattle.pages.specs.Pages.{PageEntry}

@@ -1,15 +1,13 @@
 -- The arrays read as a state, and a state written as arrays. Assumes nothing.
-use Rattle.std.specs.Prelude.{ℕ, Bool, true, List, map, ◌≡◌}
+use Rattle.std.specs.Prelude.{ℕ, true, List, map, ◌≡◌}
 use Rattle.table.specs.Rows.{table}
 use Rattle.reservations.specs.Core.{Core, core}
 use Rattle.reservations.specs.Revocation.{revoked}
-use Rattle.words.specs.declared.Slot.{Slot}
-use Rattle.words.specs.Words.{byte_of}
 use Rattle.machine.specs.State.{State}
 use Rattle.machine.specs.Formed.{well_formed}
 use Rattle.arrays.specs.declared.Numbers.{Numbers}
 use Rattle.arrays.specs.declared.Arrays.{Arrays}
-use Rattle.pages.specs.Numbers.{page_code, frame_code, page_in, frame_in, layer_of}
+use Rattle.pages.specs.Numbers.{page_code, frame_code, layer_of}
 use Rattle.table.specs.Numbers.{row_from, row_code}
 use Rattle.claims.specs.Numbers.{claims_in, laid}
 use Rattle.claims.specs.Numbers.{numbers_of as claim_numbers}

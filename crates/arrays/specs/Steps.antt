@@ -1,8 +1,7 @@
 -- A call on arrays: the rule on the state read, written back. Assumes nothing.
-use Rattle.std.specs.Prelude.{ℕ, Bool, false, List, ◌≡◌}
+use Rattle.std.specs.Prelude.{ℕ, List, ◌≡◌}
 use Rattle.calls.specs.declared.Call.{Call}
 use Rattle.words.specs.declared.Slot.{Slot}
-use Rattle.words.specs.Words.{empty}
 use Rattle.machine.specs.Step.{Outcome, ruled}
 use Rattle.arrays.specs.declared.Numbers.{Numbers}
 use Rattle.arrays.specs.declared.Arrays.{Arrays}

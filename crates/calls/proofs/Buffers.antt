@@ -37,11 +37,10 @@ module _ (c : Call) (all : List ℕ) (n : ℕ) (filled : all ≡ padded (bytes_o
       sym (ap (answer c out) (lt-leb (length (bytes_of c)) (length out) (omega (arith, exact))))
 
   pub written : (out after : List ℕ) → n ≤ length out
-      → after ≡ take (length (take n all)) (take n all) ++ drop (length (take n all)) out → outcome 0 n after ≡ write_of c out
+      → after ≡ take n all ++ drop (length (take n all)) out → outcome 0 n after ≡ write_of c out
   unfolding write_of
   written out after h e =
       ap (λ (m : ℕ). outcome 0 m after) exact
       ∙ ap (λ (s : List ℕ). outcome 0 (length (bytes_of c)) s)
-      (e ∙ ap (λ (s : List ℕ). take (length s) s ++ drop (length s) out) front
-      ∙ ap (λ (s : List ℕ). s ++ drop (length (bytes_of c)) out) (take-length (bytes_of c)))
+      (e ∙ ap (λ (s : List ℕ). s ++ drop (length s) out) front)
       ∙ sym (ap (answer c out) (le-leb (length (bytes_of c)) (length out) (omega (arith, exact))))

@@ -8,7 +8,7 @@ use lib.Dec.{ltb, leb}
 use lib.ListN.{length, get_or, take, length-append}
 use borrow.Author.Tests.{ltb-true, leb-true}
 use Rattle.calls.specs.Bytes.{numbers_at, bytes_in, Fit, Bytes}
-use Rattle.calls.specs.Commands.{command_of, command_length, call_at, byte_of, operands_of, bytes_of, Fitting}
+use Rattle.calls.specs.Commands.{command_of, command_length, call_at, byte_of, operands_of, bytes_of}
 use Rattle.calls.specs.Reader.{whole, read_of}
 use Rattle.calls.specs.Promises.{RoundTrip, WrittenInBytes, LengthsAgree, ReadFrom, ReadBack, OneCall, DifferentBytes}
 use Rattle.calls.specs.declared.Call.{Call}

@@ -1,7 +1,7 @@
 -- 0F and 10 in place. Assumes nothing.
 use Prim.Native.Nat.{ℕ, ◌+◌, ◌*◌}
 use mathlib.Core.List.{List}
-use mathlib.Core.Path.{◌≡◌, refl, sym, ap, ◌∙◌}
+use mathlib.Core.Path.{◌≡◌, sym, ap, ◌∙◌}
 use lib.ListN.{set}
 use Rattle.capabilities.specs.Refusals.{first}
 use Rattle.calls.specs.declared.Call.{Call}

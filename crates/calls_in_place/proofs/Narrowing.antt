@@ -2,14 +2,14 @@
 use Prim.Native.Nat.{ℕ, ◌+◌, ◌*◌}
 use mathlib.Core.Bool.{true}
 use mathlib.Core.List.{List}
-use mathlib.Core.Path.{◌≡◌, refl, sym, ap, ◌∙◌}
+use mathlib.Core.Path.{◌≡◌, sym, ap, ◌∙◌}
 use lib.ListN.{set}
 use Rattle.capabilities.specs.Capability.{narrowed}
 use Rattle.capabilities.specs.Refusals.{first}
 use Rattle.calls.specs.declared.Call.{Call}
 use Rattle.calls.specs.declared.Call.TheVariants.{Narrow}
 use Rattle.words.specs.declared.Slot.{Slot}
-use Rattle.words.specs.Words.{slot, empty, byte_of, register_of}
+use Rattle.words.specs.Words.{slot, empty, register_of}
 use Rattle.words.specs.WordReasons.{narrow_reasons}
 use Rattle.words.specs.Lent.{register_in}
 use Rattle.machine.specs.Reasons.{reasons}

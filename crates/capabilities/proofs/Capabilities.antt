@@ -2,7 +2,7 @@
 use Prim.Native.Nat.{ℕ, ◌+◌, ◌%◌, ◌<◌, ◌≤◌}
 use native.Mathlib.Omega.{arith}
 use mathlib.Core.Path.{◌≡◌, ◌∙◌}
-use lib.Bits.{bit_and, and_le_l, and_le_r}
+use lib.Bits.{bit_and, and_le_l}
 use Rattle.capabilities.specs.Capability.{base_of, length_of, permissions_of, capability, narrowed}
 
 module _ (base length permissions : ℕ) (b : base < 65536) (l : length < 65536) (p : permissions < 256) where

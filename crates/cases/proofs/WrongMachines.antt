@@ -1,11 +1,11 @@
 -- None of the wrong machines is the rule: by one computation over the list, and since equal outcomes have equal numbers.
 use Prim.Native.Nat.{ℕ}
-use mathlib.Core.Bool.{Bool, true, false, not, true≢false}
+use mathlib.Core.Bool.{true, false, not, true≢false}
 use mathlib.Core.List.{List, [], ◌∷◌}
 use mathlib.Core.Path.{◌≡◌, refl, sym, ap, ◌∙◌}
 use lib.Dec.{eqb}
 use borrow.Author.Tests.{eq-eqb}
-use Rattle.capabilities.specs.Lists.{same, all, Every}
+use Rattle.capabilities.specs.Lists.{same, all}
 use Rattle.capabilities.proofs.Choice.{and_left, both}
 use Rattle.capabilities.proofs.Lists.{every}
 use Rattle.pages.specs.Numbers.{page_code, frame_code}

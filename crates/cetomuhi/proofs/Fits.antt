@@ -1,10 +1,10 @@
 -- What commands keep: well-formed arrays, and small numbers below 65,536. Assumes nothing.
-use Prim.Native.Nat.{ℕ, zero, suc, ◌+◌, ◌<◌, ◌*◌, ◌/◌}
+use Prim.Native.Nat.{ℕ, zero, suc, ◌+◌, ◌<◌, ◌/◌}
 use native.Mathlib.Omega.{arith}
 use mathlib.Core.Bool.{Bool, true, false}
 use mathlib.Core.List.{List}
 use mathlib.Core.Path.{◌≡◌, refl, sym, ap, subst, ◌∙◌}
-use lib.ListN.{length, set, replicate}
+use lib.ListN.{length}
 use lib.Dec.{ltb}
 use Rattle.capabilities.specs.Lists.{pick}
 use Rattle.capabilities.proofs.Choice.{pick_yes, pick_no}
@@ -17,7 +17,7 @@ use Rattle.arrays.specs.declared.Arrays.{Arrays}
 use Rattle.arrays.specs.declared.Numbers.{Numbers}
 use Rattle.arrays.specs.Reading.{core_of, state_of, arrays_of, Formed}
 use Rattle.arrays.proofs.Facts.{lengths}
-use Rattle.arrays.proofs.Starting.{begun, fresh_in, fresh_out}
+use Rattle.arrays.proofs.Starting.{fresh_in, fresh_out}
 use Rattle.formed.specs.Test.{formed_of, sized}
 use Rattle.formed.specs.Fresh.{Start, starting, start_in}
 use Rattle.formed.proofs.Tested.{tested, passing}

@@ -1,5 +1,5 @@
 -- A destroy that is not refused: it drops the principal and its descendants, the parent gets their limits, and claims stay well formed. Assumes nothing.
-use Prim.Native.Nat.{ℕ, ◌+◌, ◌-◌, ◌<◌}
+use Prim.Native.Nat.{ℕ, ◌+◌, ◌<◌}
 use native.Mathlib.Omega.{arith}
 use mathlib.Core.Bool.{Bool, true, false, not, ◌&&◌, true≢false, and-true, and-false}
 use mathlib.Core.List.{[]}

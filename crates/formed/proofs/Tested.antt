@@ -13,7 +13,6 @@ use Rattle.capabilities.proofs.Choice.{and_left, and_right}
 use Rattle.pages.specs.Pages.{PageEntry}
 use Rattle.pages.specs.Pages.{FrameEntry}
 use Rattle.pages.specs.Layer.{well_formed}
-use Rattle.pages.proofs.Formed as layer
 use Rattle.pages.proofs.Testing.{kept_list, list_kept}
 use Rattle.pages.specs.Numbers.{page_code, frame_code, page_in, frame_in, layer_of, page_kept, frame_kept, layer_sound}
 use Rattle.table.specs.Tiling.{table_sound}
@@ -32,7 +31,7 @@ use Rattle.words.proofs.Lent.{slots_length, cells_kept, bytes_kept, bytes_bits}
 use Rattle.machine.specs.Formed as rules
 use Rattle.machine.proofs.Keeps.{facts, formed}
 use Rattle.arrays.specs.declared.Arrays.{Arrays}
-use Rattle.arrays.specs.Reading.{arrays, core_of, numbers_of, state_of, arrays_of, Formed}
+use Rattle.arrays.specs.Reading.{core_of, numbers_of, state_of, arrays_of, Formed}
 use Rattle.arrays.proofs.Facts.{lengths, claims_pass}
 use Rattle.arrays.proofs.Writing.{same_arrays}
 use Rattle.formed.specs.Test.{sized, canonical, cached, formed_of, Tested, Passing}

@@ -37,7 +37,7 @@ use Rattle.machine.proofs.PagesKept.{zero_clear}
 use Rattle.histories.specs.Runs.{Machine, machine, next}
 use Rattle.histories.specs.Live.{Spot, register, mailbox, virtual, word_in, shown}
 use Rattle.histories.specs.Inv.{Inv}
-use Rattle.histories.specs.Origins.{Origin, from, made, same_spot, register_at, cell_at, filled_from, origin_by, Narrower, itself, narrower, Made, Comes, ComesBy, EachComes}
+use Rattle.histories.specs.Origins.{Origin, from, made, same_spot, register_at, filled_from, origin_by, Narrower, itself, narrower, Comes, ComesBy, EachComes}
 use Rattle.histories.proofs.Held.{Tagged, Narrows, OfTake}
 use Rattle.histories.proofs.View.{Seen, collected_registers, collected_mailboxes, shown_by, shown_at_lem, seen, seen_once, word_none, written_here, written_other}
 use Rattle.histories.proofs.Keep.{Blank, frame_lookup, place_below, clear_word, sweep_word}

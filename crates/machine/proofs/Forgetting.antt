@@ -1,11 +1,11 @@
 -- Document 02, 2026-04: a step of the machine, its takers forgotten, is the step of the machine without takers. For no reason against a
 -- call and no effect of one looks at a taker but to write a taker, and what is written so is forgotten on both sides. Assumes nothing.
-use Prim.Native.Nat.{ℕ, ◌+◌, ◌*◌}
+use Prim.Native.Nat.{ℕ, ◌*◌}
 use mathlib.Core.Bool.{Bool, true, false, not, ◌&&◌, ◌||◌, and-true}
 use mathlib.Core.List.{List, [], ◌∷◌, map}
 use mathlib.Core.Path.{◌≡◌, refl, sym, ap, subst, ◌∙◌}
 use lib.Dec.{eqb}
-use lib.ListN.{length, set, replicate}
+use lib.ListN.{length, replicate}
 use Rattle.capabilities.specs.Capability.{capability, permitted, permits}
 use Rattle.capabilities.specs.Lists.{pick}
 use Rattle.capabilities.specs.Refusals.{reason, first}

@@ -34,7 +34,7 @@ use Rattle.words.specs.Words.{mailbox_sound}
 use Rattle.machine.specs.Formed.{mailboxes_sound, sized, formed_bare, well_formed, fresh, start_of}
 use Rattle.machine.specs.Roles.{Asked}
 use Rattle.machine.specs.Effects.{MailboxChange, keep_mailboxes, put_mailbox, collect_mailboxes, Effect}
-use Rattle.machine.specs.Step.{mailboxes_after, done, reasons_on, effect_on, judged, step_of}
+use Rattle.machine.specs.Step.{mailboxes_after, done, reasons_on, effect_on, judged}
 use Rattle.machine.specs.Demands.{StepKeeps, StartFormed}
 use Rattle.machine.proofs.Judging.{judged_by, step_by}
 use Rattle.machine.proofs.Deeds.{Recored, splits, merges, gives, revokes, maps, unmaps, reclaims, Deed, took, recored, swept, collected_all, zeroed, filled, wrote, mailed, received, deed}

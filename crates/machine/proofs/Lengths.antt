@@ -20,7 +20,7 @@ use Rattle.words.specs.Words.{byte_of, collected_register, collected_mailbox}
 use Rattle.machine.specs.State.{State}
 use Rattle.machine.specs.Roles.{Asked}
 use Rattle.machine.specs.Effects.{RegisterChange, keep_registers, put_register, collect_registers, MailboxChange, keep_mailboxes, put_mailbox, collect_mailboxes, MemoryChange, keep_memory, Write, write_words, clear_frame, sweep_cells, Effect}
-use Rattle.machine.specs.Step.{Outcome, refused, registers_after, mailboxes_after, written_cells, written_tags, cells_after, tags_after, done, reasons_on, effect_on, judged, step_of}
+use Rattle.machine.specs.Step.{refused, registers_after, mailboxes_after, written_cells, written_tags, cells_after, tags_after, done, reasons_on, effect_on, judged}
 use Rattle.machine.specs.Demands.{Sized, StepSized}
 use Rattle.machine.proofs.Judging.{judged_by, step_by}
 use Rattle.machine.proofs.Deeds.{Deed, took, recored, swept, collected_all, zeroed, filled, wrote, mailed, received, deed}

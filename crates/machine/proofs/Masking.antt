@@ -6,7 +6,7 @@ use mathlib.Core.Bool.{Bool, true, false}
 use mathlib.Core.List.{List}
 use mathlib.Core.Path.{◌≡◌, refl, sym, ap}
 use lib.Dec.{eqb}
-use lib.ListN.{length, set}
+use lib.ListN.{length}
 use lib.Seq.{set-set}
 use borrow.Author.Tests.{eqb-false, ne_eqb}
 use Rattle.capabilities.specs.Capability.{capability, permitted}

@@ -1,5 +1,5 @@
 // The same walks over a lent slice of records: each turn calls a function of plain numbers on a record's numbers, the one that the walk over
-// numbers calls. Their proofs are walked by hand, so they hold nothing else.
+// numbers calls.
 ghost use Rattle.std.specs.Prelude.{◌≡◌, [], take};
 ghost use Rattle.maps.specs.declared.Question.TheVariants.{Sharing, Within, Nearest};
 ghost use Rattle.maps.specs.Questions.{response, ask_of};

@@ -6,11 +6,11 @@ use mathlib.Core.Bool.{Bool, true, false}
 use mathlib.Core.List.{List, [], ◌∷◌, ◌++◌}
 use mathlib.Core.Path.{◌≡◌, refl, sym, ap, fun_ext, ◌∙◌}
 use lib.Dec.{leb, eqb}
-use lib.ListN.{length, get_or, take, drop, replicate}
+use lib.ListN.{length, get_or, drop, replicate}
 use lib.Seq.{get_or-drop, length-take-le}
 use borrow.Author.Tests.{le-leb, lt-leb, leb-true, leb-false, eqb-true, eqb-false}
 use Rattle.capabilities.proofs.Choice.{pick_yes, pick_no}
-use Rattle.calls.specs.Bytes.{Fit, Bytes}
+use Rattle.calls.specs.Bytes.{Fit}
 use Rattle.calls.specs.Commands.{command_of, byte_of, operands_of, bytes_of, Fitting}
 use Rattle.calls.specs.Reader.{read_of}
 use Rattle.calls.specs.Writer.{Outcome, outcome, write_of}

@@ -2,7 +2,6 @@
 use Prim.Native.Nat.{ℕ, ◌+◌, ◌<◌}
 use native.Mathlib.Omega.{arith}
 use mathlib.Core.Bool.{Bool, true, false, not, ◌||◌, false≢true}
-use mathlib.Core.List.{List}
 use mathlib.Core.Path.{◌≡◌, refl, sym}
 use lib.ListN.{length, set}
 use lib.Dec.{eqb}
@@ -20,7 +19,7 @@ use Rattle.pages.specs.declared.FrameState.TheVariants.{Dirty, Free, Mapped as S
 use Rattle.pages.specs.Entries.{is_unmapped, is_mapped, maps, is_free, is_shown, page_entry}
 use Rattle.pages.specs.Layer.{page_at, frame_at, with_page, with_frame, mappings, well_formed, in_range, fresh_of, blank}
 use Rattle.pages.specs.Mapping.{paged, no_page, no_frame, map_reasons, mapped, map_of, unmap_reasons, unmapped, unmap_of, soiled}
-use Rattle.pages.proofs.Formed.{Sound, sound, formed, mapped_once, maps_low, changed, frame_changed, blank_sound}
+use Rattle.pages.proofs.Formed.{Sound, sound, formed, mapped_once, maps_low, changed, blank_sound}
 use Rattle.pages.proofs.Mappings.{mappings_set}
 use Rattle.pages.proofs.States.{is_unmapped_lem, is_free_lem}
 

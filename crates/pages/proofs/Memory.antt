@@ -3,19 +3,19 @@ use Prim.Native.Nat.{ℕ, ◌+◌, ◌-◌, ◌*◌, ◌≤◌, ◌<◌}
 use native.Mathlib.Omega.{arith}
 use mathlib.Core.Bool.{true, not}
 use mathlib.Core.List.{List, ◌++◌}
-use mathlib.Core.Path.{◌≡◌, refl, sym}
+use mathlib.Core.Path.{◌≡◌}
 use lib.ListN.{length, take, drop, replicate, length-drop}
 use lib.Seq.{length-take-le, drop-drop}
 use lib.Dec.{eqb}
-use borrow.Author.Tests.{eqb-true, leb-false, not-false, ne_eqb}
+use borrow.Author.Tests.{eqb-true, leb-false, not-false}
 use Rattle.capabilities.specs.Refusals.{first}
 use Rattle.capabilities.proofs.Choice.{and_left, and_right}
 use Rattle.capabilities.proofs.Refusals.{first_clear}
 use Rattle.pages.specs.declared.Frame.{Frame}
 use Rattle.pages.specs.Pages.{Pages}
-use Rattle.pages.specs.declared.FrameState.TheVariants.{Dirty, Free}
+use Rattle.pages.specs.declared.FrameState.TheVariants.{Dirty}
 use Rattle.pages.specs.Entries.{is_dirty}
-use Rattle.pages.specs.Layer.{frame_at, serves, with_frame}
+use Rattle.pages.specs.Layer.{frame_at, serves}
 use Rattle.pages.specs.Mapping.{zero_reasons, dirty_reasons, no_frame, cleared}
 use Rattle.pages.proofs.States.{is_dirty_lem}
 

@@ -4,10 +4,10 @@ use native.Mathlib.Omega.{arith}
 use mathlib.Core.Bool.{Bool, true, false, false≢true}
 use mathlib.Core.List.{List, map}
 use mathlib.Core.Path.{◌≡◌, refl, sym, ap, ◌∙◌}
-use lib.ListN.{length, get_or, get_or-map}
+use lib.ListN.{get_or, get_or-map}
 use lib.Dec.{eqb, ltb}
 use borrow.Author.Tests.{ne_eqb, ltb-true, lt-ltb}
-use Rattle.capabilities.specs.Lists.{pick, each}
+use Rattle.capabilities.specs.Lists.{pick}
 use Rattle.capabilities.proofs.Codes.{other_code}
 use Rattle.capabilities.proofs.Lists.{back}
 use Rattle.pages.specs.Pages.{Pages}

@@ -11,7 +11,7 @@ use Rattle.pages.specs.declared.VirtualPage.{VirtualPage}
 use Rattle.pages.specs.Pages.{PageEntry}
 use Rattle.pages.specs.declared.PageState.{PageState}
 use Rattle.pages.specs.declared.PageState.TheVariants.{Unmapped, Freed, Mapped}
-use Rattle.pages.specs.declared.FrameState.TheVariants.{Dirty, Free, Mapped as Shown}
+use Rattle.pages.specs.declared.FrameState.TheVariants.{Dirty, Mapped as Shown}
 use Rattle.pages.specs.declared.Place.{Place}
 use Rattle.pages.specs.declared.Place.TheVariants.{At, Nowhere}
 use Rattle.pages.specs.Entries.{is_unmapped, is_mapped, is_dirty, is_free, page_entry}

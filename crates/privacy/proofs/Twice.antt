@@ -19,9 +19,9 @@ use Rattle.reservations.specs.Core.{Core}
 use Rattle.reservations.specs.Revocation.{revoked, core_sound}
 use Rattle.calls.specs.declared.Call.{Call}
 use Rattle.words.specs.declared.Slot.{Slot}
-use Rattle.words.specs.Words.{empty, register_of, word_at, place_number, loaded}
+use Rattle.words.specs.Words.{empty, register_of, place_number, loaded}
 use Rattle.words.specs.WordReasons.{may_not_load, cell_reasons}
-use Rattle.machine.specs.Roles.{Sources, from_none, from_one, from_two, from_cell, Role, takes, collects, fills, stores, grants, receives, plain, Asked, role_of, caller_of, sources_of}
+use Rattle.machine.specs.Roles.{Sources, from_none, from_one, from_two, from_cell, Role, takes, collects, fills, stores, grants, receives, plain, role_of, caller_of, sources_of}
 use Rattle.machine.specs.Reasons.{Reads, reading, addressed, fetched, found, words_in, reads, reasons}
 use Rattle.machine.specs.Step.{reasons_on, effect_on}
 use Rattle.machine.proofs.Dependence.{formed_by, formed_by_lem}

@@ -16,7 +16,6 @@ use Rattle.calls.specs.declared.Reading.TheVariants.{Read, Refused}
 use Rattle.calls.specs.Reader.{read_of}
 use Rattle.words.specs.Words.{byte_of}
 use Rattle.arrays.specs.Reading.{arrays_of}
-use Rattle.arrays.specs.Steps.{answer}
 use Rattle.session_rules.specs.Session.{ends_session}
 use Rattle.entries.specs.Runs.{Run, answer_numbers, run_of, resting, preceded, run_on}
 use Rattle.entries.proofs.Repeating.{preceded_rest, run_next, run_past}

@@ -21,7 +21,6 @@ use Rattle.table.specs.Tiling.{table_sound}
 use Rattle.table.proofs.Unrevoked.{take_still, give_still, split_still, merge_still}
 use Rattle.table.proofs.Truth.{both}
 use Rattle.table.proofs.Dying.{dyings, none, first_of, revoking_row_lem, revoking_none}
-use Rattle.table.proofs.Sound.{sound}
 use Rattle.table.proofs.Kept.{take_kept, give_kept, split_kept, merge_kept}
 use Rattle.reservations.specs.Core.{Core, with_table}
 use Rattle.reservations.specs.Revocation.{running, revoked, whole_pages, revocation_sound, core_sound}

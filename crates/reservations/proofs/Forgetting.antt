@@ -5,7 +5,6 @@ use mathlib.Core.Bool.{true, not, ◌&&◌, ◌||◌}
 use mathlib.Core.List.{[], ◌∷◌}
 use mathlib.Core.Path.{◌≡◌, refl, ap, ◌∙◌}
 use lib.Dec.{eqb, leb}
-use Rattle.capabilities.specs.Capability.{base_of}
 use Rattle.capabilities.specs.Lists.{pick}
 use Rattle.capabilities.specs.Death.{dies}
 use Rattle.capabilities.specs.Refusals.{reason}

@@ -6,7 +6,6 @@ use mathlib.Core.Path.{◌≡◌, refl, sym, ap, ◌∙◌}
 use lib.ListN.{length, drop}
 use lib.Dec.{eqb}
 use borrow.Author.Tests.{eq-eqb, eqb-true}
-use Rattle.capabilities.specs.Lists.{pick}
 use Rattle.capabilities.proofs.Choice.{pick_yes, pick_no, and_left, and_right}
 use Rattle.table.proofs.Truth.{both}
 use Rattle.pages.specs.Layer.{serves}
@@ -15,8 +14,8 @@ use Rattle.calls.specs.declared.Reading.{Reading}
 use Rattle.calls.specs.declared.Reading.TheVariants.{Read, Refused}
 use Rattle.calls.specs.Reader.{read_of}
 use Rattle.words.specs.Words.{empty}
-use Rattle.machine.specs.Step.{Outcome, refused, ruled, judged}
-use Rattle.machine.specs.Command.{Ran, used, on_reading, command_judged}
+use Rattle.machine.specs.Step.{refused, ruled, judged}
+use Rattle.machine.specs.Command.{used, on_reading, command_judged}
 use Rattle.arrays.specs.declared.Arrays.{Arrays}
 use Rattle.arrays.specs.Reading.{core_of, state_of, Formed}
 use Rattle.arrays.specs.Steps.{Leaving, answer, leaving, left_of}

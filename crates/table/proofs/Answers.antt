@@ -1,7 +1,6 @@
 -- A refused operation answers its number and the table as it was; a granted one answers 0 and the new table. Assumes nothing.
 use Prim.Native.Nat.{ℕ, ◌≤◌}
 use native.Mathlib.Omega.{arith}
-use lib.ListN.{length}
 use mathlib.Core.Bool.{Bool, true, false, not}
 use mathlib.Core.List.{List, [], ◌∷◌}
 use mathlib.Core.Path.{◌≡◌, sym, ap, ◌∙◌}
@@ -12,13 +11,11 @@ use Rattle.capabilities.specs.Refusals.{Reason, reason, first}
 use Rattle.capabilities.proofs.Choice.{pick_yes, kept, and_left}
 use Rattle.capabilities.proofs.Refusals.{first_clear}
 use Rattle.table.specs.Table.{Table}
-use Rattle.table.specs.Table.{Tabled}
-use Rattle.table.specs.Table.{Taken}
 use Rattle.table.specs.declared.Reservation.{Reservation}
 use Rattle.table.specs.declared.Found.{Found}
 use Rattle.table.specs.Rows.{is_open}
 use Rattle.table.specs.Find.{missing, next_of, row_of}
-use Rattle.table.specs.Operations.{tabled, open_reasons, bad_split, full, mergeable, split_reasons_at, merge_reasons_at}
+use Rattle.table.specs.Operations.{open_reasons, bad_split, full, mergeable, split_reasons_at, merge_reasons_at}
 use Rattle.table.proofs.Truth.{or_right}
 
 module _ {A : Type 0} (code told : ℕ) (e : code ≡ told) (x y : A) where

@@ -16,7 +16,6 @@ use Rattle.table.specs.declared.Reservation.{Reservation}
 use Rattle.table.specs.declared.ReservationState.{ReservationState}
 use Rattle.table.specs.declared.ReservationState.TheVariants.{Open, Taken, Revoking}
 use Rattle.table.specs.Table.{Table}
-use Rattle.table.specs.Table.{Tabled}
 use Rattle.table.specs.declared.Found.{Found}
 use Rattle.table.specs.declared.Found.TheVariants.{At, Nowhere}
 use Rattle.table.specs.Rows.{is_open, is_blank, held, live, table, blank, splice, spread, gather}

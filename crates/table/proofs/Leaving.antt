@@ -11,7 +11,7 @@ use Rattle.table.specs.declared.Reservation.{Reservation}
 use Rattle.table.specs.Table.{Table}
 use Rattle.table.specs.declared.Found.{Found}
 use Rattle.table.specs.declared.Found.TheVariants.{At, Nowhere}
-use Rattle.table.specs.Rows.{live, blank, table}
+use Rattle.table.specs.Rows.{live, blank}
 use Rattle.table.specs.Find.{missing, row_of, with_row, find_of, next_of, begins}
 use Rattle.table.specs.Operations.{tabled, taken_row, given_row, lower_part, upper_part, joined, split_at, merge_at, mergeable, split_reasons_at, merge_reasons_at}
 use Rattle.table.proofs.Answers.{granted, refused, Splits}

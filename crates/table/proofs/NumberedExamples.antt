@@ -1,7 +1,7 @@
 -- Calls that leave the rule's table and other numbers than the right ones, by computing: `table:Lent.Leaves` holds of each, and what
 -- `table:Numbered` says does not. All begin with numbers that no reservation is written as. Assumes nothing.
 use Prim.Native.Nat.{ℕ, ◌+◌}
-use mathlib.Core.Bool.{true, false, false≢true}
+use mathlib.Core.Bool.{false, false≢true}
 use mathlib.Core.List.{List, ◌∷◌}
 use mathlib.Core.Path.{◌≡◌, refl, sym, ◌∙◌}
 use lib.ListN.{length, get_or, replicate}

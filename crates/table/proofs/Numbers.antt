@@ -6,7 +6,6 @@ use mathlib.Core.Path.{◌≡◌, refl, sym, ap, ◌∙◌}
 use borrow.Author.Tests.{eqb-true, eqb-false, eq-eqb, ne_eqb, leb-true, ltb-true, le-leb, lt-ltb, le-ltb}
 use lib.Bits.{bit_and, and_block, and_mask}
 use lib.Dec.{eqb, leb, ltb}
-use lib.ListN.{length}
 use Rattle.capabilities.specs.Lists.{pick}
 use Rattle.capabilities.proofs.Choice.{pick_yes, pick_no, and_left, and_right}
 use Rattle.table.specs.declared.ReservationState.{ReservationState}

@@ -4,7 +4,7 @@ use native.Mathlib.Omega.{arith}
 use mathlib.Core.Bool.{Bool, true, false, ◌||◌}
 use mathlib.Core.List.{List, map}
 use mathlib.Core.Path.{◌≡◌, refl, sym, ap, ◌∙◌}
-use lib.ListN.{length, get_or, take, set, length-map, get_or-map}
+use lib.ListN.{length, get_or, set, length-map, get_or-map}
 use Rattle.table.specs.declared.Reservation.{Reservation}
 use Rattle.table.specs.declared.Found.{Found}
 use Rattle.table.specs.declared.Found.TheVariants.{At, Nowhere}
@@ -17,7 +17,7 @@ use Rattle.table.proofs.Moving.{live_length, live_at}
 use Rattle.table.specs.Numbers.{row_from, row_code, table_of}
 use Rattle.table.specs.Lent.{put_at}
 use Rattle.table.proofs.Numbers.{zero_blank, Sized, read_back}
-use Rattle.table.proofs.Mapping.{map_take, map_set}
+use Rattle.table.proofs.Mapping.{map_set}
 
 pub used_length : (l : List ℕ) (n : ℕ) → length (live (table_of l n)) ≡ min n (length l)
 used_length l n = live_length (table_of l n) ∙ ap (min n) (length-map l row_from)

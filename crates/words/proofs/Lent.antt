@@ -10,7 +10,6 @@ use lib.ListN.{length, get_or, set, take}
 use lib.Dec.{leb}
 use borrow.Author.Tests.{leb-true}
 use Rattle.capabilities.specs.declared.Range.{Range}
-use Rattle.capabilities.specs.Capability.{base_of}
 use Rattle.capabilities.specs.Lists.{pick, each}
 use Rattle.capabilities.specs.Death.{dies}
 use Rattle.capabilities.proofs.Choice.{and_left, and_right}

@@ -1,0 +1,15 @@
+-- `maps::numbers::survey` meets its contract. The idea: what the turns still to come make of what was seen so far is what all turns make of
+-- nothing seen.
+use mathlib.Core.Path.{◌≡◌}
+use Prim.Native.Nat.{◌-◌}
+use mathlib.Core.List.{map}
+use lib.ListN.{length, drop}
+use Rattle.table.specs.Numbers.{row_from}
+use Rattle.maps.specs.Walks.{seen_over, nothing}
+use Rattle.maps.proofs.numbers.survey.Given as goal
+
+abbrev pub invariant-loop-i : goal.invariant-loop-i
+invariant-loop-i l = seen_over l.question l.seen (drop l.i (map row_from l.rows)) ≡ seen_over l.question nothing (map row_from l.rows)
+
+abbrev pub decreases-loop-i : goal.decreases-loop-i
+decreases-loop-i l = length l.rows - l.i
