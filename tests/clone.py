@@ -16,7 +16,7 @@ ROOT = pathlib.Path(__file__).resolve().parent.parent
 LIBRARY = pathlib.Path(os.environ.get("CETOMUHI_LIB_DIR") or ROOT / "target/staticlib").resolve() / "libcetomuhi.a"
 SCRIPTS = pathlib.Path(os.environ.get("SCRIPTS_ROOT") or ROOT)
 LIMIT = 60  # seconds, also where the machine has much else to do
-PROGRAMS = """as awk bash cat cc chmod cp env find flock grep head ld mkdir mktemp mv readlink rm sed seq sh sha256sum sleep tail
+PROGRAMS = """as awk bash cat cc chmod cp dirname env find flock grep head ld mkdir mktemp mv readlink rm sed seq sh sha256sum sleep tail
 touch true yes"""
 
 # Prints its words, or standard input for the word `copy`, and ends with the number that the last word is.
@@ -34,43 +34,64 @@ int main(int argc, char **argv) {
 WORDS = '#define OPEN "<"\n#define CLOSE ">"\n'
 CHECK = '#include <stdio.h>\nint main(void) { puts(ARCHIVE_SHA256); return 0; }\n'
 
-# An rt that writes what the real one does: notes, a line for each function, a line for each crate.
+# An rt that writes what the real one does in a crate's folder: of each crate that it proves, those below first, where it begins,
+# notes, a line for each function, and that it is proved.
 RT = """#!/bin/sh
-echo "$*" >>"{stub}/runs"
-while read -r crate how; do
-    echo "crates/$crate/proofs/Proof.antt:49:12: note: large solution, no error" >&2
-    echo "fn $crate::first: proved"
-    echo "rt: $crate proved ($how)"
+echo "${PWD##*/}: $*" >>"{stub}/runs"
+while read -r crate; do
+    echo "rt: chose --jobs 2 for $crate" >&2
+    echo "proofs/Proof.antt:49:12: note: large solution, no error" >&2
+    echo "fn $crate::first: proved" >&2
+    echo "logic=proved functions=1" >&2
+    echo "logic=proved functions=1" >&2
 done <"{stub}/before"
-case "$1 $2" in "check histories_list") ;; check*) exit ;; esac
 . "{stub}/then"
 """
-ARCHIVE = """mkdir -p target/staticlib
-cp "{library}" target/staticlib/libcetomuhi.a
-echo 'rt: target/staticlib/libcetomuhi.a has the functions of cetomuhi that are marked #[no_mangle] pub extern "C"'
+BEGIN = """echo 'rt: chose --jobs 2 for cetomuhi_c'
+"""
+ARCHIVE = BEGIN + """mkdir -p out
+cp "{library}" out/libcetomuhi_c.a
+echo 'logic=proved functions=12'
 """
 # Half of the archive is there, and a process of rt's own runs, when the file `busy` is.
-BUSY = """mkdir -p target/staticlib
-head -c 1000 "{library}" >target/staticlib/libcetomuhi.a
+BUSY = """mkdir -p out
+head -c 1000 "{library}" >out/libcetomuhi_c.a
 sleep 60 &
 echo $! $$ >"{stub}/half" && mv "{stub}/half" "{stub}/busy"
 wait
 """
-PROGRAM = """mkdir -p target/bin target/stamp
-if [ ! -e target/stamp/histories_list ]; then
-    printf '#!/bin/sh\\n%s\\n' '{text}' >target/bin/histories_list
-    chmod +x target/bin/histories_list
-    touch target/stamp/histories_list
-fi
-echo "rt: histories_list proved (1 s)"
-echo "rt: ok, 25 crates proved"
+PROGRAM = """mkdir -p out
+printf '#!/bin/sh\\n%s\\n' '{text}' >out/histories_list
+chmod +x out/histories_list
+echo "rt: chose --jobs 2 for histories_list" >&2
+echo "logic=proved functions=1" >&2
+out/histories_list || true
 """
+
+
+def crates():
+    """The listed crates, each with those that it names."""
+    lines = [line.split("#")[0].split(":") for line in (ROOT / "crates.txt").read_text().splitlines()]
+    return {line[0].split()[0]: line[1].split() for line in lines if len(line) == 2}
+
+
+def in_turn(wanted):
+    """The crates that a crate stands on, and itself, each behind those that it stands on."""
+    found = []
+
+    def visit(crate):
+        for below in crates()[crate]:
+            if below in crates() and below not in found:
+                visit(below)
+        found.append(crate)
+
+    visit(wanted)
+    return found
 
 
 def closure(wanted):
     """The listed crates that a crate stands on, and itself."""
-    lines = [line.split("#")[0].split(":") for line in (ROOT / "crates.txt").read_text().splitlines()]
-    listed = {line[0]: line[1].split() for line in lines if len(line) == 2}
+    listed = crates()
     reached = {wanted}
     while more := {below for crate in reached for below in listed[crate]} & listed.keys() - reached:
         reached |= more
@@ -98,7 +119,7 @@ class Clone(unittest.TestCase):
     """A small clone, and an rt that builds for it."""
 
     def setUp(self):
-        self.assertTrue(LIBRARY.is_file(), f"{LIBRARY} is not there; rt staticlib cetomuhi builds it")
+        self.assertTrue(LIBRARY.is_file(), f"{LIBRARY} is not there; tools/made cetomuhi builds it")
         holder = tempfile.TemporaryDirectory()
         self.addCleanup(holder.cleanup)
         self.folder = pathlib.Path(holder.name).resolve()
@@ -107,13 +128,13 @@ class Clone(unittest.TestCase):
         self.tools = programs(self.folder / "programs")
         for name in ("tools/desk", "tools/check", "sessions", "docs"):
             (self.root / name).mkdir(parents=True)
-        for name in ("desk", "install", "histories", "tools/building.sh", "tools/proving.sh"):
+        for name in ("cetomuhi-desk", "install-programs", "histories", "tools/building.sh", "tools/proving.sh"):
             shutil.copy(SCRIPTS / name, self.root / name)
-        for name in ("crates.txt", "sessions/README.md"):
+        for name in ("crates.txt", "sessions/README.md", "tools/made"):
             shutil.copy(ROOT / name, self.root / name)
         shutil.copytree(ROOT / "include", self.root / "include")
         self.change("pause=0.2", "pause=0.02")
-        for name in closure("cetomuhi") | closure("histories_list") | closure("console"):
+        for name in closure("cetomuhi_c") | closure("histories_list") | closure("console"):
             (self.root / "crates" / name / "src").mkdir(parents=True)
             (self.root / "crates" / name / "src/lib.rt").write_text("")
         for name, text in (("desk/main.c", DESK), ("desk/words.h", WORDS), ("check/main.c", CHECK)):
@@ -138,11 +159,10 @@ class Clone(unittest.TestCase):
         for path in (folder, *folder.rglob("*")):
             os.utime(path, (1000, 1000))
 
-    def plan(self, then=ARCHIVE, crate="cetomuhi", unchanged=0):
-        """What rt does: the crates below, the first of them unchanged, then the rest."""
-        before = sorted(closure(crate) - {crate})
-        how = ["unchanged since it was last proved"] * unchanged + ["1 s"] * (len(before) - unchanged)
-        (self.stub / "before").write_text("".join(f"{name} {words}\n" for name, words in zip(before, how)))
+    def plan(self, then=ARCHIVE, crate="cetomuhi_c", unchanged=0):
+        """What rt does: the crates below, but the first of them, which are unchanged, then the rest."""
+        before = in_turn(crate)[unchanged:-1]
+        (self.stub / "before").write_text("".join(f"{name}\n" for name in before))
         (self.stub / "then").write_text(then.replace("{library}", str(LIBRARY)).replace("{stub}", str(self.stub)))
         (self.stub / "rt").write_text(RT.replace("{stub}", str(self.stub)))
         (self.stub / "rt").chmod(0o755)
@@ -193,14 +213,11 @@ class Clone(unittest.TestCase):
         return processes
 
     def rt_runs(self):
-        """The words of each run of rt that builds something; those before it only prove."""
-        return [words for words in self.rt_words() if words == "check histories_list" or not words.startswith("check ")]
-
-    def rt_words(self):
+        """The folder and the words of each run of rt."""
         path = self.stub / "runs"
         return path.read_text().splitlines() if path.exists() else []
 
-    def works(self, script="desk", *words, **changed):
+    def works(self, script="cetomuhi-desk", *words, **changed):
         """What a run that ends well said on standard error."""
         status, output, error = self.run_script(script, *(words or ("a.hex", "0")), **changed)
         self.assertEqual((status, output), (0, "".join(f"<{word}>\n" for word in words or ("a.hex", "0"))), error)

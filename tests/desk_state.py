@@ -210,7 +210,7 @@ class State(Case):
         revoked = [thing for thing, said in rows if said.startswith("Revoking")]
         self.assertEqual([thing for thing, _ in found.get("revocation", [])], revoked)
 
-    # sessions/document.state was written by hand from document 01, before the tables were first
+    # sessions/document.tables was written by hand from document 01, before the tables were first
     # printed: its commands and lines are those of "One session in full", the take by command 11 with
     # mask 0F as request 2026-01 says, and what each command changes is the sentence for it under
     # "Commands", with the taker that request 2026-04 adds. The sums: V 2 is cells 0 to 31 and F 1
@@ -221,12 +221,12 @@ class State(Case):
     # them.
     def test_document(self):
         document = ROOT / "sessions/document.hex"
-        expected = document.with_suffix(".state").read_text()
+        expected = document.with_suffix(".tables").read_text()
         self.prints(expected, document, "--explain", "--state")
 
     def test_state_without_words(self):
         document = ROOT / "sessions/document.hex"
-        _, tables = split_tables(document.with_suffix(".state").read_text())
+        _, tables = split_tables(document.with_suffix(".tables").read_text())
         lines = document.with_suffix(".out").read_text()
         both = [line + "\n" + table for line, table in zip(lines.splitlines(), tables)]
         self.prints("\n".join(both), document, "--state")

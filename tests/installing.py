@@ -1,5 +1,5 @@
 #!/usr/bin/env python3
-"""Tries ./install and ./histories: what they write, and what they say where that cannot be."""
+"""Tries ./install-programs and ./histories: what they write, and what they say where that cannot be."""
 import hashlib
 import os
 import re
@@ -32,11 +32,11 @@ class Installed(Clone):
         return {str(path.relative_to(prefix)): stat.S_IMODE(path.stat().st_mode) for path in paths}
 
     def install(self, *words, **changed):
-        return self.run_script("install", *words, **{"CETOMUHI_LIB_DIR": str(LIBRARY.parent), **changed})
+        return self.run_script("install-programs", *words, **{"CETOMUHI_LIB_DIR": str(LIBRARY.parent), **changed})
 
     def loses(self, word):
         """Lost output is told, and no success."""
-        command = [self.root / "install", word]
+        command = [self.root / "install-programs", word]
         with open("/dev/full", "w", encoding="ascii") as full:
             done = subprocess.run(command, stdout=full, stderr=subprocess.PIPE, check=False, env=self.environment(), timeout=LIMIT)
         self.assertEqual((done.returncode, done.stderr.count(b"\n")), (3, 1))
@@ -55,7 +55,7 @@ class Installed(Clone):
             (self.root / name).chmod(0o600)
         status, output, error = self.install(self.prefix, CETOMUHI_LIB_DIR="")
         self.assertEqual(status, 0, error)
-        self.assertIn("install: proved 20 of 20: cetomuhi", error)
+        self.assertIn("install: proved 21 of 21: cetomuhi_c", error)
         self.assertIn(f"installed under {self.prefix}", output)
         for file in self.FILES:
             self.assertIn(file if not file.startswith("share") else "share/cetomuhi/sessions", output)
@@ -90,10 +90,10 @@ class Installed(Clone):
 
     def test_words_that_are_wrong(self):
         for words in ((), ("",), ("--what",), ("a", "b")):
-            self.assertEqual(self.refused(2, *words), "install: usage: ./install PREFIX\n")
+            self.assertEqual(self.refused(2, *words), "install: usage: ./install-programs PREFIX\n")
         status, output, error = self.install("--help")
         self.assertEqual((status, error), (0, ""))
-        for file in ("usage: ./install PREFIX", *list(self.FILES)[:5], "share/cetomuhi/sessions"):
+        for file in ("usage: ./install-programs PREFIX", *list(self.FILES)[:5], "share/cetomuhi/sessions"):
             self.assertIn(file, output)
         self.loses("--help")
 
@@ -131,7 +131,7 @@ class Installed(Clone):
 
     def test_an_interrupt(self):
         self.plan(BUSY)
-        process = self.begin("install", str(self.prefix))
+        process = self.begin("install-programs", str(self.prefix))
         children = self.busy()
         process.terminate()
         output, _ = process.communicate(timeout=LIMIT)
@@ -165,7 +165,7 @@ class Histories(Clone):
         self.assertEqual((status, output), (0, self.LINES), error)
         total = len(closure("histories_list"))
         self.assertIn(f"histories: proved {total} of {total}: histories_list", error)
-        self.assertEqual(self.rt_runs(), ["check histories_list"])
+        self.assertEqual(self.rt_runs(), ["histories_list: run"])
         self.assertEqual(self.run_script("histories"), (0, self.LINES, ""))
         self.assertEqual(self.run_script("histories", rt=False), (0, self.LINES, ""))
         os.utime(self.root / "crates/short_histories/src/lib.rt")

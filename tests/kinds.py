@@ -3,7 +3,7 @@
 
 What is made of the table is made anew and compared, and so is what tests/calls_vectors.py writes from the documents' lists. What
 is written by hand is held against the table: bytes, names and widths of operands in the enum of include/cetomuhi.h, the enum of the
-Rust crate, tools/desk/calls.c and tests/calls_vectors.py. A line for each difference; the exit status is 1 then. At last each of the faults
+Rust crate, tools/hex, tools/desk/calls.c and tests/calls_vectors.py. A line for each difference; the exit status is 1 then. At last each of the faults
 listed below is put into a copy of these files, where it has to be found. Ends after two minutes at the latest.
 """
 import pathlib
@@ -25,7 +25,7 @@ LIMIT = 120
 CRATE, VECTORS = "rust/cetomuhi/src/call.rs", "tests/calls_vectors.py"
 STDIN, STDOUT = "crates/calls_run/stdin", "crates/calls_run/stdout"
 IN_C, IN_RUST, BENCH = "tests/widths.h", "rust/cetomuhi/tests/widths/mod.rs", "bench/src/plain/kinds.rs"
-OTHERS = table.ENUM, table.ROWS, around.HEADER, around.WORDS, CRATE, VECTORS, STDIN, STDOUT, IN_C, IN_RUST, BENCH
+OTHERS = table.ENUM, table.ROWS, around.HEADER, around.HEX, around.WORDS, CRATE, VECTORS, STDIN, STDOUT, IN_C, IN_RUST, BENCH
 
 AT, BYTES = "crates/calls/src/reader/kinds_at.rt", "crates/calls/src/kinds_bytes.rt"
 FROM, NUMBERS = "crates/operands/src/kinds_from.rt", "crates/operands/src/kinds_numbers.rt"
@@ -61,10 +61,14 @@ FAULTS = [
     ("a kind that the crate lacks", CRATE, "    Collect { party: u8 },\n", "", "Collect"),
     ("the crate's numbers", WORDS, "=> [0x03,", "=> [0x05,", "Merge"),
     ("the crate's words", WORDS, "zeroes frame", "clears frame", "Zero"),
+    ("a width of hex", around.HEX, '0x06: ("P n/2"', '0x06: ("P n"', "Sweep"),
+    ("an order of hex", around.HEX, '"P a off/2 d"', '"P d off/2 a"', "Load"),
+    ("a kind that hex lacks", around.HEX, "    0x15: (", "    0x1F: (", "15"),
+    ("words of hex that name no operand", around.HEX, "unmaps page {page}", "unmaps page {frame}", "09"),
     ("a width of the words", around.WORDS, '0x06, "P n/2"', '0x06, "P n"', "Sweep"),
     ("an order of the words", around.WORDS, '"P a off/2 d"', '"P d off/2 a"', "Load"),
-    ("a kind that the words lack", around.WORDS, "{0x15, ", "{0x1F, ", "15"),
-    ("words that name no operand", around.WORDS, "unmaps page {page}", "unmaps page {frame}", "09"),
+    ("a kind that the words lack", around.WORDS, "{0x15, ", "{0x1F, ", "Destroy"),
+    ("other words than those of hex", around.WORDS, "unmaps page {page}", "unmaps page {frame}", "Unmap"),
     ("a width of the vectors", VECTORS, "05 revoke P base/2", "05 revoke P base", "Revoke"),
     ("an order of the vectors", VECTORS, "04 give P base/2 to", "04 give P to base/2", "Give"),
     ("a kind that the vectors lack", VECTORS, "15 destroy P principal\n", "", "Destroy"),
@@ -102,10 +106,19 @@ def crate_faults(root, kinds):
     yield from compared(CRATE, found, {kind.variant: fields(kind.operands) for kind in kinds})
 
 
+def hex_faults(root, kinds):
+    names = {kind.byte: kind.variant for kind in kinds}
+    found = {names.get(byte, f"{byte:02X}"): layout for byte, (layout, _) in around.hex_commands(root).items()}
+    yield from compared(around.HEX, found, {kind.variant: kind.layout for kind in kinds})
+
+
 def word_faults(root, kinds):
     names = {kind.byte: kind.variant for kind in kinds}
-    found = {names.get(byte, f"{byte:02X}"): layout for byte, (layout, _) in around.worded_commands(root).items()}
-    yield from compared(around.WORDS, found, {kind.variant: kind.layout for kind in kinds})
+
+    def shown(commands):
+        return {names.get(byte, f"{byte:02X}"): f"{layout}: {words}" for byte, (layout, words) in commands.items()}
+
+    yield from compared(around.WORDS, shown(around.worded_commands(root)), shown(around.hex_commands(root)))
 
 
 def vector_faults(root, kinds):
@@ -124,7 +137,7 @@ def faults(root):
     try:
         kinds = table.kinds(root)
         found = [f"{name}: {words}" for name, _, words in making.differing(root)]
-        for look in (header_faults, crate_faults, word_faults, vector_faults):
+        for look in (header_faults, crate_faults, hex_faults, word_faults, vector_faults):
             found += look(root, kinds)
     except (table.Fault, OSError) as fault:
         return [str(fault)]

@@ -66,7 +66,7 @@ class Scripts:
     """The scripts, of which each small clone has copies."""
 
     faults = planted_scripts.FAULTS
-    files = ("desk", "install", "histories", "tools/building.sh", "tools/proving.sh")
+    files = ("cetomuhi-desk", "install-programs", "histories", "tools/building.sh", "tools/proving.sh")
 
     def __init__(self, folder):
         self.folder = folder

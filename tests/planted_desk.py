@@ -38,16 +38,16 @@ DOCUMENT, SUMMED, TAKERS, CLAIMS = (
     f"desk_state State.test_{name}" for name in ("document", "rows_are_summed_up", "takers", "claims")
 )
 SMALL, RUNS, RULER, LAST_CHARACTER, BEFORE_MARK, PAST_TABLE = (
-    f"desk_map Drawn.test_{name}"
+    f"desk_maps Drawn.test_{name}"
     for name in ("a_small_session", "runs_of_cells", "a_ruler_that_has_no_room",
                  "a_last_character_of_fewer_cells", "words_before_the_mark",
                  "frames_that_go_on_past_the_table")
 )
 NO_WIDTH, LEAST_WIDTH, TERMINAL, WIDEST = (
-    f"desk_map Width.test_{name}"
+    f"desk_maps Width.test_{name}"
     for name in ("columns_that_are_no_width", "a_width_below_the_least", "a_terminal", "the_widest")
 )
-WORDS_BESIDE = "desk_map Combined.test_beside_words"
+WORDS_BESIDE = "desk_maps Combined.test_beside_words"
 
 FAULTS = {
     "calls.c": [

@@ -6,9 +6,9 @@ PROVED, ALREADY, SILENCE, MINUTES, FAILS, SAYS_NOTHING, MAKES_NOTHING = (
     for name in ("a_line_a_crate", "crates_that_are_proved_already", "a_long_silence", "minutes", "an_rt_that_fails",
                  "an_rt_that_says_nothing_that_tells", "an_rt_that_makes_nothing")
 )
-NO_RT, NO_RT_OLD, DURING_BUILD = (
+NO_RT, NO_RT_OLD, OLD, DURING_BUILD = (
     f"building Old.test_{name}"
-    for name in ("no_rt_and_nothing_built", "no_rt_and_old", "a_source_that_changes_during_the_build")
+    for name in ("no_rt_and_nothing_built", "no_rt_and_old", "what_makes_it_old", "a_source_that_changes_during_the_build")
 )
 INPUT, ANOTHER_ARCHIVE, SHORT_HELP, PROGRAMS_HELP = (
     f"building Started.test_{name}"
@@ -26,12 +26,12 @@ ALL_FILES, WRONG_WORDS, NO_PREFIX, TAKEN = (
     f"installing Installed.test_{name}"
     for name in ("all_files", "words_that_are_wrong", "a_prefix_that_is_none", "a_place_that_is_taken")
 )
-GONE, LOST, PROGRAM_FAILS = (
-    f"installing Histories.test_{name}" for name in ("a_program_that_is_gone", "lost_output", "a_program_that_fails")
+LOST, PROGRAM_FAILS = (
+    f"installing Histories.test_{name}" for name in ("lost_output", "a_program_that_fails")
 )
 
 FAULTS = {
-    "desk": [
+    "cetomuhi-desk": [
         ("-h builds",
          "--help | -h) return 0", "--help) return 0", SHORT_HELP),
         ("a help that is lost is not told",
@@ -41,7 +41,7 @@ FAULTS = {
         ("the help needs a compiler",
          'if [ ! -f "$archive" ] || ! has_compiler; then', 'if [ ! -f "$archive" ]; then', PROGRAMS_HELP),
     ],
-    "install": [
+    "install-programs": [
         ("a help that is lost is not told",
          "    put_out - <<TEXT\n$usage", "    cat <<TEXT\n$usage", WRONG_WORDS),
         ("a prefix that is none is told as something missing",
@@ -108,15 +108,15 @@ FAULTS = {
     ],
     "tools/proving.sh": [
         ("half of a file stays",
-         '! [ "$1" -nt "$1.began" ] || rm -f -- "$1"', "true", INTERRUPTS),
+         '! [ "$1" -nt "$1.began" ] || rm -f -- "$1"', "true", KILLED),
         ("a crate stands on the first one alone",
          "k <= count; k++) visit", "k <= 1; k++) visit", PROVED),
         ("the oldest of the newer sources is told",
          '"$root/$newest" -nt "$root/$part"', '"$root/$newest" -ot "$root/$part"', NO_RT_OLD),
         ("seconds are minutes",
          "$((seconds % 60))", "$((seconds / 60))", MINUTES),
-        ("crates that were proved before are told",
-         "!= unchanged* ]]", "!= changed* ]]", ALREADY),
+        ("crates that were proved before are not counted",
+         '[ "$crate" = "$at" ] || counted', '[ "$crate" != "$at" ] || counted', ALREADY),
         ("half of a line is lost",
          'begin+="$line"', 'begin=""', ALREADY),
         ("nothing is said for long",
@@ -125,18 +125,14 @@ FAULTS = {
          "tail -n 15", "head -n 15", FAILS),
         ("an rt that gives no reason is not shown",
          'tail -n 5 "$1"', "true", SAYS_NOTHING),
-        ("rt runs in the reader's folder",
-         '    cd -- "$root" || return\n', "", PROVED),
-        ("what an archive stands on is not checked before it",
-         '[ "$1" != staticlib ] || [ "${#crates[@]}" -eq 1 ] || rt', '[ "$1" = staticlib ] || rt', PROVED),
-        ("a crate that is proved twice counts twice",
-         '    [ -z "${counted[${BASH_REMATCH[1]}]-}" ] || return\n', "", PROVED),
+        ("what rt keeps makes a file old",
+         "-path 'crates/*/out' -prune -o", "-path 'crates/*/none' -prune -o", OLD),
+        ("a crate that is proved twice is told twice",
+         ' && [ -z "${counted[$at]-}" ]; then', '; then', PROVED),
         ("a file is as new as rt's end",
          '{ [ -s "$made" ] && touch -r "$made.began" -- "$made"; } ||', '[ -s "$made" ] ||', DURING_BUILD),
         ("an rt that makes nothing did well",
          '{ [ -s "$made" ] && touch -r', '{ touch -c -r', MAKES_NOTHING),
-        ("rt takes a program that is gone for made",
-         '[ -e "$made" ] || rm -f -- "$root/target/stamp/$2"', "true", GONE),
         ("a file that is being made is used",
          'elif [ ! -e "$made" ] || [ -e "$made.began" ]; then', 'elif [ ! -e "$made" ]; then', TOGETHER),
         ("half of a file that a killed script left is kept",

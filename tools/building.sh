@@ -1,5 +1,5 @@
 # shellcheck shell=bash
-# Sourced by ./desk, ./install and ./histories, with the script's name: builds what is missing or old, by
+# Sourced by ./cetomuhi-desk, ./install-programs and ./histories, with the script's name: builds what is missing or old, by
 # rt and by a C compiler. Statuses: 2 bad use, 3 output lost, 5 something is missing or was not built.
 
 name="$1"
@@ -109,8 +109,8 @@ find_archive() {
 archive_made() {
     find_archive
     if [ -z "${CETOMUHI_LIB_DIR:-}" ]; then
-        made_by_rt staticlib cetomuhi target/staticlib/libcetomuhi.a "6 to 8 minutes from nothing" \
-            "on a machine that has it, ./install PREFIX, then copy PREFIX here: its programs need no rt"
+        made_by_rt cetomuhi target/staticlib/libcetomuhi.a "some minutes from nothing" \
+            "on a machine that has it, ./install-programs PREFIX, then copy PREFIX here: its programs need no rt"
     fi
     [ -f "$archive" ] || fail "$archive is not there"
 }

@@ -21,18 +21,20 @@ closure() {
             for (k = 1; k <= count; k++) visit(parts[k])
         }
         { sub(/#.*/, "") }
-        NF > 1 { gsub(/[ \t]/, "", $1); below[$1] = $2 }
+        NF > 1 { sub(/[ \t].*/, "", $1); below[$1] = $2 }
         END { visit(wanted) }' "$root/crates.txt"
 }
 
-# Whether a file is there, whole, and no source of the crates is newer. Sets newest, the newest of those.
+# Whether a file is there, whole, and no source of the crates is newer. Sets newest, the newest of those. What
+# rt keeps in a crate's out/ is no source.
 is_current() {
     local part
     newest=""
     [ -e "$1" ] && [ ! -e "$1.began" ] || return 1
     while IFS= read -r part; do
         [ -n "$newest" ] && [ "$root/$newest" -nt "$root/$part" ] || newest="$part"
-    done < <(cd -- "$root" && find crates.txt "${crates[@]/#/crates/}" -newer "$1" 2>/dev/null)
+    done < <(cd -- "$root" && find crates.txt "${crates[@]/#/crates/}" -path 'crates/*/out' -prune -o \
+        \( -name crates.txt -o -path 'crates/*/*' \) -newer "$1" -print 2>/dev/null)
     [ -z "$newest" ]
 }
 
@@ -45,15 +47,19 @@ so_far() {
     fi
 }
 
-# Counts a crate if this line of rt says that it is proved, and tells of it if that is news. The crate
-# that becomes an archive has a line of its own.
+# Counts a crate if this line of rt says that it is proved, and tells of it. rt says nothing of crates that it has
+# proved before: once it is at work on a crate, those below it are counted.
 tell() {
-    local proof='^rt: ([A-Za-z0-9_]+) proved \((.*)\)$' archived='^rt: target/staticlib/lib(.+)\.a has '
-    [[ "$1" =~ $proof ]] || [[ "$1" =~ $archived ]] || return
-    [ -z "${counted[${BASH_REMATCH[1]}]-}" ] || return
-    counted[${BASH_REMATCH[1]}]=yes
-    [[ "${BASH_REMATCH[2]-}" != unchanged* ]] || return
-    say "proved ${#counted[@]} of ${#crates[@]}: ${BASH_REMATCH[1]} ($(so_far))"
+    local begins='^rt: chose --jobs [0-9]+ for ([A-Za-z0-9_]+)$' crate
+    if [[ "$1" =~ $begins ]]; then
+        at="${BASH_REMATCH[1]}"
+        while IFS= read -r crate; do
+            [ "$crate" = "$at" ] || counted[$crate]=yes
+        done < <(closure "$at")
+    elif [[ "$1" == "logic=proved "* ]] && [ -n "$at" ] && [ -z "${counted[$at]-}" ]; then
+        counted[$at]=yes
+        say "proved ${#counted[@]} of ${#crates[@]}: $at ($(so_far))"
+    fi
 }
 
 # Follows what rt writes to standard input's file, until the process ends.
@@ -76,55 +82,48 @@ follow() {
 show_failure() {
     local line
     {
-        grep -E 'error|^rt: ' "$1" | grep -vE '^rt: [A-Za-z0-9_]+ proved \(|: proved$|: note: ' ||
+        grep -E 'error|: no proof|: not proved|^rt: ' "$1" | grep -vE '^rt: chose |: begins with what|: proved$|: note: ' ||
             tail -n 5 "$1"
     } | tail -n 15 | while IFS= read -r line; do say "    ${line:0:300}"; done
 }
 
-# by_rt VERB CRATE: for an archive rt proves one crate after the other, so that what it stands on is checked
-# before, two at a time.
-by_rt() {
-    cd -- "$root" || return
-    { [ "$1" != staticlib ] || [ "${#crates[@]}" -eq 1 ] || rt check "${crates[@]:1}"; } && exec rt "$1" "$2"
-}
-
-# build_by_rt VERB CRATE FILE TIME
+# build_by_rt NAME FILE TIME
 build_by_rt() {
-    local made="$3" log="$root/target/log/$name-build.log" since=$SECONDS process
+    local made="$2" log="$root/target/log/$name-build.log" since=$SECONDS process at=""
     local -A counted=()
-    [ "$1" != staticlib ] || need_compiler # before minutes of proving: a program over the archive comes next
-    say "proving ${#crates[@]} crates for $made ($4); the prover's notes: $log"
-    [ -e "$made" ] || rm -f -- "$root/target/stamp/$2" # by which rt would take it for made
+    [[ "$made" != *.a ]] || need_compiler # before minutes of proving: a program over the archive comes next
+    say "proving ${#crates[@]} crates for $made ($3); the prover's notes: $log"
     begun="$made"
     { mkdir -p -- "${made%/*}" && : >"$made.began" && : >"$log"; } 2>/dev/null ||
         fail "$root/target cannot be written"
-    start by_rt "$1" "$2" >"$log" 2>&1
+    start bash "$root/tools/made" "$1" >"$log" 2>&1
     process="$!"
     follow "$process" <"$log"
     if ! wait "$process"; then
         show_failure "$log"
-        fail "$made could not be built: rt $1 $2 failed; all that it said: $log"
+        fail "$made could not be built: tools/made $1 failed; all that it said: $log"
     fi
     # As old as the build's begin: a source that changed since is newer.
     { [ -s "$made" ] && touch -r "$made.began" -- "$made"; } ||
-        fail "rt $1 $2 made no $made; all that it said: $log"
+        fail "tools/made $1 made no $made; all that it said: $log"
     rm -f -- "$made.began"
     begun=""
 }
 
-# made_by_rt VERB CRATE FILE TIME ELSEWHERE: builds a file of target/ if it is missing or old. TIME says
-# how long that takes, ELSEWHERE what to do on a machine without rt.
+# made_by_rt NAME FILE TIME ELSEWHERE: builds a file of target/ if it is missing or old. TIME says how long that
+# takes, ELSEWHERE what to do on a machine without rt.
 made_by_rt() {
-    local made="$root/$3" newest
-    mapfile -t crates < <(closure "$2")
-    [ "${#crates[@]}" -gt 0 ] || fail "$root/crates.txt does not list $2"
+    local made="$root/$2" newest
+    mapfile -t crates < <(closure "$1_c")
+    [ "${#crates[@]}" -gt 0 ] || mapfile -t crates < <(closure "$1")
+    [ "${#crates[@]}" -gt 0 ] || fail "$root/crates.txt does not list $1"
     is_current "$made" && return
     if have rt; then
         lock_build
         drop_unfinished "$made"
-        is_current "$made" || build_by_rt "$1" "$2" "$made" "$4"
+        is_current "$made" || build_by_rt "$1" "$made" "$3"
     elif [ ! -e "$made" ] || [ -e "$made.began" ]; then
-        fail "$made is not built, and rt, which builds it, is not found; $5"
+        fail "$made is not built, and rt, which builds it, is not found; $4"
     else
         say "$made is older than $newest, and rt, which would build it anew, is not found: used as it is"
     fi

@@ -1,12 +1,14 @@
 """What has an arm or a function a kind around the proved crates: the C header and the Rust crate."""
 
 import re
+import runpy
 
 from rattle import LINE, made
 from table import Fault
 
 RUST = "// Made by tools/kinds from the enum of calls: not to be changed here."
 HEADER = "include/cetomuhi.h"
+HEX = "tools/hex"
 WORDS = "tools/desk/calls.c"
 
 
@@ -66,13 +68,20 @@ def header(kinds, root):
     return HEADER, text
 
 
+# ---- tools/hex
+
+def hex_commands(root):
+    """The commands of tools/hex: of each byte the operands and the words."""
+    return runpy.run_path(str(root / HEX))["COMMANDS"]
+
+
 # ---- tools/desk/calls.c
 
 ROW = re.compile(r'\{0x(\w\w), "([^"]*)",\s*((?:"[^"]*"\s*)+)\}')
 
 
 def worded_commands(root):
-    """The commands with their words: of each byte the operands and the words."""
+    """The commands of tools/desk/calls.c: of each byte the operands and the words."""
     rows = ROW.findall((root / WORDS).read_text())
     return {int(byte, 16): (layout, "".join(re.findall('"([^"]*)"', words))) for byte, layout, words in rows}
 
@@ -97,14 +106,14 @@ def from_numbers(kind):
 
 
 def in_words(kind, text):
-    """The arm that writes the words of tools/desk/calls.c. A page or a frame is written by its number."""
+    """The arm that writes the words of tools/hex. A page or a frame is written by its number."""
     inner = {o.layout.split("/")[0]: o for o in kind.operands}
     numbers = []
 
     def put(found):
         operand = inner.get(found[1])
         if operand is None:
-            raise Fault(f"{WORDS}: {kind.code[2:]}: the words name {found[0]}, which is no operand")
+            raise Fault(f"{HEX}: {kind.code[2:]}: the words name {found[0]}, which is no operand")
         if operand.number == operand.name:
             return f"{{{operand.name}}}"
         numbers.append(operand.number)
@@ -153,10 +162,10 @@ impl fmt::Display for Call {{
 
 
 def crate(kinds, root):
-    commands = worded_commands(root)
+    commands = hex_commands(root)
     missing = [kind.code[2:] for kind in kinds if kind.byte not in commands]
     if missing:
-        raise Fault(f"{WORDS}: command {missing[0]} has no words")
+        raise Fault(f"{HEX}: command {missing[0]} has no words")
     arms = (
         [to_numbers(kind) for kind in kinds],
         [from_numbers(kind) for kind in kinds],

@@ -7,7 +7,11 @@ mod kinds_shown;
 mod show;
 
 use calls::{Call, Reading, Written};
-use libc::{STDIN_FILENO, STDOUT_FILENO};
+use std::io;
+use std::io::Read;
+
+// As many bytes of the input are read.
+const INPUT: u64 = 4096;
 
 // What the lent buffers hold before, so that a byte that is kept shows.
 const KEPT: u8 = 0xEE;
@@ -64,52 +68,54 @@ fn short_code(call: Call, len: usize) -> u8 {
 }
 
 // Two codes for each length below a call's own: of reading that many bytes, and of writing to a buffer of as many.
-fn show_cut(input: &[u8], at: usize, call: Call, used: usize) {
+fn show_cut(rt: &impl Print, input: &[u8], at: usize, call: Call, used: usize) -> io::Result<()> {
     let mut len = 0;
     while len < used {
-        io::print_decimal(STDOUT_FILENO, cut_code(input, at, len) as u64);
-        io::print_decimal(STDOUT_FILENO, short_code(call, len) as u64);
+        let cut = cut_code(input, at, len);
+        let short = short_code(call, len);
+        print!(rt; "{cut}{short}")?;
         len += 1;
     }
+    Ok(())
 }
 
-fn show_written(call: Call) {
+fn show_written(rt: &impl Print, call: Call) -> io::Result<()> {
     let mut buffer = [KEPT; 12];
     let code = writing_code(calls::write_call(call, &mut buffer));
-    show::number(code as u64);
-    show::space();
-    show::hex(&buffer);
+    show::number(rt, code as u64)?;
+    show::space(rt)?;
+    show::hex(rt, &buffer)
 }
 
-fn show_at(input: &[u8], at: usize) {
-    io::print_decimal(STDOUT_FILENO, at as u64);
+fn show_at(rt: &impl Print, input: &[u8], at: usize) -> io::Result<()> {
+    print!(rt; "{at}")?;
     match calls::read_at(input, at) {
-        Reading::Refused => show::number(3),
+        Reading::Refused => show::number(rt, 3)?,
         Reading::Read { call, used } => {
-            show::space();
-            kinds_shown::call(call);
-            show::number(used as u64);
-            show_written(call);
-            show::space();
-            show_cut(input, at, call, used);
+            show::space(rt)?;
+            kinds_shown::call(rt, call)?;
+            show::number(rt, used as u64)?;
+            show_written(rt, call)?;
+            show::space(rt)?;
+            show_cut(rt, input, at, call, used)?;
         }
     }
-    show::line_end();
+    show::line_end(rt)
 }
 
 // Every place of the input, its end and one past it.
-fn show_all(input: &[u8]) {
+fn show_all(rt: &impl Print, input: &[u8]) -> io::Result<()> {
     let mut at = 0;
     while at < input.len() {
-        show_at(input, at);
+        show_at(rt, input, at)?;
         at += 1;
     }
-    show_at(input, at);
-    show_at(input, at + 1);
+    show_at(rt, input, at)?;
+    show_at(rt, input, at + 1)
 }
 
-fn main() {
-    let mut input = io::buffer();
-    let len = io::read_full(STDIN_FILENO, &mut input);
-    show_all(&input[..len]);
+fn main(rt: HostRuntime) -> io::Result<()> {
+    let mut input = Vec::new(rt.alloc());
+    rt.reader().take(INPUT).read_to_end(&mut input)?;
+    show_all(&rt, &input)
 }

@@ -1,33 +1,36 @@
 // Words, numbers and bytes as text on standard output.
-use libc::STDOUT_FILENO;
+use std::io;
 
-pub(crate) fn space() {
-    io::write_all(STDOUT_FILENO, b" ");
+pub(crate) fn space(rt: &impl Print) -> io::Result<()> {
+    rt.write_all(b" ")
 }
 
-pub(crate) fn line_end() {
-    io::write_all(STDOUT_FILENO, b"\n");
+pub(crate) fn line_end(rt: &impl Print) -> io::Result<()> {
+    rt.write_all(b"\n")
 }
 
-pub(crate) fn number(x: u64) {
-    space();
-    io::print_decimal(STDOUT_FILENO, x);
+pub(crate) fn number(rt: &impl Print, x: u64) -> io::Result<()> {
+    space(rt)?;
+    print!(rt; "{x}")
 }
 
-pub(crate) fn hex(bytes: &[u8]) {
+pub(crate) fn hex(rt: &impl Print, bytes: &[u8]) -> io::Result<()> {
     let mut i = 0;
     while i < bytes.len() {
-        io::print_hex(STDOUT_FILENO, bytes[i] as u64, 2);
+        let byte = bytes[i];
+        print!(rt; "{byte:02x}")?;
         i += 1;
     }
+    Ok(())
 }
 
 // A word and the numbers after it.
-pub(crate) fn shown(word: &[u8], numbers: &[u64]) {
-    io::write_all(STDOUT_FILENO, word);
+pub(crate) fn shown(rt: &impl Print, word: &[u8], numbers: &[u64]) -> io::Result<()> {
+    rt.write_all(word)?;
     let mut i = 0;
     while i < numbers.len() {
-        number(numbers[i]);
+        number(rt, numbers[i])?;
         i += 1;
     }
+    Ok(())
 }

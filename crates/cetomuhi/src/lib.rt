@@ -66,8 +66,7 @@ fn put_end(answers: &mut [u64], good: bool, f: u16, cells: &[u64], tags: &[u8]) 
 }
 
 // The number of this boundary; another layout has another one, and so have rules under which a call that was there does something else.
-#[unsafe(no_mangle)]
-pub extern "C" fn cetomuhi_version() -> u64
+pub fn cetomuhi_version() -> u64
     ensures { result ≡ 5 }
 {
     5
@@ -76,8 +75,7 @@ pub extern "C" fn cetomuhi_version() -> u64
 const SIZES: [usize; 12] = [6, 64, 64, 8, 8, 64, 256, 128, 32, 8192, 4, 7];
 
 // How many numbers a list of the state has, by its place in the order of the arguments; 10: an answer, 11: a call. 0 above these.
-#[unsafe(no_mangle)]
-pub extern "C" fn cetomuhi_size(which: u64) -> usize
+pub fn cetomuhi_size(which: u64) -> usize
     ensures { result ≡ size_of which }
 {
     if which < 12 {
@@ -89,8 +87,7 @@ pub extern "C" fn cetomuhi_size(which: u64) -> usize
 
 // A fresh state for V and F: code 0. V or F out of range: code 1 and the all-zero state. A list of another length: code 1, and nothing
 // is written.
-#[unsafe(no_mangle)]
-pub extern "C" fn cetomuhi_start(
+pub fn cetomuhi_start(
     v: u64,
     f: u64,
     numbers: &mut [u16],
@@ -119,8 +116,7 @@ pub extern "C" fn cetomuhi_start(
 }
 
 // Whether what is lent is a well-formed state.
-#[unsafe(no_mangle)]
-pub extern "C" fn cetomuhi_well_formed(
+pub fn cetomuhi_well_formed(
     numbers: &[u16],
     words: &[u64],
     marks: &[u8],
@@ -141,8 +137,7 @@ pub extern "C" fn cetomuhi_well_formed(
 }
 
 // What those who claim a page pay for it: its code is answered, and share and remainder are put, 0 and 0 where it is refused.
-#[unsafe(no_mangle)]
-pub extern "C" fn cetomuhi_page_cost(
+pub fn cetomuhi_page_cost(
     numbers: &[u16],
     words: &[u64],
     marks: &[u8],
@@ -171,8 +166,7 @@ pub extern "C" fn cetomuhi_page_cost(
 // One command of the bytes at a place, on any state, memory and input: a run of one, so that a command's code stands in the archive once.
 // Its code, number, tag and bytes used are put into the first four answers, and 1 is answered; with room for fewer nothing is done, and 0
 // is answered.
-#[unsafe(no_mangle)]
-pub extern "C" fn cetomuhi_command(
+pub fn cetomuhi_command(
     numbers: &mut [u16],
     words: &mut [u64],
     marks: &mut [u8],
@@ -224,8 +218,7 @@ pub extern "C" fn cetomuhi_command(
 
 // The commands from a place of an input on, as many as there is room for, with four answers each; the state is tested once. Answers how
 // many were done, and leaves where the input was reached. They end at the input's end and after a refusal 1 to 3, whose answer counts.
-#[unsafe(no_mangle)]
-pub extern "C" fn cetomuhi_commands(
+pub fn cetomuhi_commands(
     numbers: &mut [u16],
     words: &mut [u64],
     marks: &mut [u8],
@@ -258,8 +251,7 @@ pub extern "C" fn cetomuhi_commands(
 
 // Writes the call that seven numbers are, the command and its operands, and answers its length. If they are no call, or it does not fit,
 // nothing is written and 0 is answered.
-#[unsafe(no_mangle)]
-pub extern "C" fn cetomuhi_write(numbers: &[u64], out: &mut [u8]) -> usize
+pub fn cetomuhi_write(numbers: &[u64], out: &mut [u8]) -> usize
     ensures { answered result out.new ≡ write_numbers numbers.now out.old }
 {
     write_numbers(numbers, out)
@@ -267,8 +259,7 @@ pub extern "C" fn cetomuhi_write(numbers: &[u64], out: &mut [u8]) -> usize
 
 // Reads the call at a place of an input into seven numbers and answers the bytes it used. If no call is there, or there are not seven,
 // nothing is written and 0 is answered.
-#[unsafe(no_mangle)]
-pub extern "C" fn cetomuhi_read(input: &[u8], at: usize, numbers: &mut [u64]) -> usize
+pub fn cetomuhi_read(input: &[u8], at: usize, numbers: &mut [u64]) -> usize
     ensures { answered result numbers.new ≡ read_numbers input.now at numbers.old }
 {
     read_numbers(input, at, numbers)

@@ -18,8 +18,7 @@ fn put_list(rows: &[u64], question: Question, bases: &mut [u16], count: &mut u64
 }
 
 // The bases of the reservations that share a cell with `cells` cells from `first` on, and how many they are: code 0, or 25.
-#[unsafe(no_mangle)]
-pub extern "C" fn cetomuhi_sharing(
+pub fn cetomuhi_sharing(
     rows: &[u64],
     first: u64,
     cells: u64,
@@ -32,8 +31,7 @@ pub extern "C" fn cetomuhi_sharing(
 }
 
 // The same of those that lie within these cells.
-#[unsafe(no_mangle)]
-pub extern "C" fn cetomuhi_within(
+pub fn cetomuhi_within(
     rows: &[u64],
     first: u64,
     cells: u64,
@@ -46,14 +44,7 @@ pub extern "C" fn cetomuhi_within(
 }
 
 // Whether an Open one has at least `cells` cells, and the base of the one nearest to a cell, else 0: code 0, or 25.
-#[unsafe(no_mangle)]
-pub extern "C" fn cetomuhi_nearest(
-    rows: &[u64],
-    cell: u64,
-    cells: u64,
-    found: &mut u64,
-    base: &mut u64,
-) -> u8
+pub fn cetomuhi_nearest(rows: &[u64], cell: u64, cells: u64, found: &mut u64, base: &mut u64) -> u8
     ensures { sited result found.new base.new ≡ nearest_lent rows.now cell cells found.old base.old }
 {
     let mut none = [0u16; 1];

@@ -3,7 +3,7 @@
 
 ghost use Rattle.std.specs.Prelude.{◌≡◌, ◌≤◌, length};
 
-use libc::{STDERR_FILENO, STDIN_FILENO, STDOUT_FILENO};
+use std::io::Read;
 
 // A session looks at no more.
 const INPUT: usize = 32768;
@@ -31,16 +31,14 @@ fn output_buffer() -> [u8; OUTPUT]
 }
 
 // Reads, in pieces as they come, until the buffer is full or the input ends.
-fn take(fd: i32, buf: &mut [u8]) -> Taken
+fn take(reader: &mut impl Read, buf: &mut [u8]) -> Taken
     ensures { result.len ≤ length buf.new }
 {
     let mut len: usize = 0;
     while len < buf.len() {
-        let got = libc::read(fd, &mut buf[len..]);
-        if got < 0 {
+        let Ok(more) = reader.read(&mut buf[len..]) else {
             return Taken { len, whole: false };
-        }
-        let more = io::count(got, &buf[len..]);
+        };
         if more == 0 {
             return Taken { len, whole: true };
         }
@@ -49,22 +47,22 @@ fn take(fd: i32, buf: &mut [u8]) -> Taken
     Taken { len, whole: true }
 }
 
-fn say(text: &[u8]) {
-    io::write_all(STDERR_FILENO, text);
+fn say(rt: &impl Eprint, text: &str) {
+    let _ = rt.eprint(text);
 }
 
 // The lines of one input; 0 where all were written, 2 where they do not fit, 3 where a write failed.
-fn show(input: &[u8]) -> u8
+fn show(rt: &(impl Print + Eprint), input: &[u8]) -> u8
     ensures { result ≤ 3 }
 {
     let mut out = output_buffer();
     let n = session::cetomuhi_session(input, &mut out);
     if n == 0 {
-        say(b"desk: the lines do not fit\n");
+        say(rt, "desk: the lines do not fit\n");
         return 2;
     }
-    if !io::write_all(STDOUT_FILENO, &out[..n]) {
-        say(b"desk: standard output could not be written\n");
+    if rt.write_all(&out[..n]).is_err() {
+        say(rt, "desk: standard output could not be written\n");
         return 3;
     }
     0
@@ -72,15 +70,15 @@ fn show(input: &[u8]) -> u8
 
 // A session, and how it went: 0, or the number of what was said on standard error; 1 is a failed read. No contract can speak
 // of what is read and written, so this is all that is promised.
-pub fn run() -> u8
+pub fn run(rt: &(impl Input + Print + Eprint)) -> u8
     ensures { result ≤ 3 }
 {
     let mut input = input_buffer();
-    let taken = take(STDIN_FILENO, &mut input);
+    let taken = take(&mut rt.reader(), &mut input);
     let len = taken.len;
     if taken.whole {
-        return show(&input[..len]);
+        return show(rt, &input[..len]);
     }
-    say(b"desk: standard input could not be read\n");
+    say(rt, "desk: standard input could not be read\n");
     1
 }

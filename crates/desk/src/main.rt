@@ -1,6 +1,6 @@
 // Runs the session on standard input, and prints its lines.
 #![tactic(auto)]
 
-fn main() {
-    console::run();
+fn main(rt: HostRuntime) {
+    console::run(&rt);
 }

@@ -1,14 +1,9 @@
 // Prints every short history, a line each: document 02, 2026-10. tests/short_histories.py works `stdout` out from document 01.
 #![tactic(auto)]
 
-use libc::{STDERR_FILENO, STDOUT_FILENO};
-
-fn main() {
+fn main(rt: HostRuntime) {
     let lines = short_histories::lines();
-    if !io::write_all(STDOUT_FILENO, &lines) {
-        io::write_all(
-            STDERR_FILENO,
-            b"histories_list: standard output could not be written\n",
-        );
+    if rt.write_all(&lines).is_err() {
+        let _ = rt.eprint("histories_list: standard output could not be written\n");
     }
 }

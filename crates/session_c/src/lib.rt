@@ -1,0 +1,13 @@
+// A whole session of the machine, as C calls it: it answers as the function of that name in `session` does.
+#![tactic(auto)]
+
+ghost use Rattle.std.specs.Prelude.{◌≡◌};
+ghost use Rattle.session_rules.specs.Session.{lines_of, printed, print_of};
+
+// Puts the lines of a session first in a lent buffer and answers how long they are. If they do not fit, the answer is 0 and the buffer is as it was.
+#[unsafe(no_mangle)]
+pub extern "C" fn cetomuhi_session(input: &[u8], out: &mut [u8]) -> usize
+    ensures { printed result out.new ≡ print_of (lines_of input.now) out.old }
+{
+    session::cetomuhi_session(input, out)
+}
