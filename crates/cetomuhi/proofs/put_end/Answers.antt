@@ -22,5 +22,8 @@ returns c =
     let coded = c.coded in
     let first2 = c.first-code in
     let first = c.first in
-    let a = c.args in record { value = refl; answers_after = put.ensures ∙ ap (λ (x : Answer). answer_numbers x 0 ++ drop 4 a.answers.now)
-          (coded.ensures ∙ ap (λ (k : ℕ). answer k empty) (first2.ensures ∙ ap (λ (k : ℕ). pick (not a.good) 1 k) first.ensures)) }
+    let a = c.args in record {
+      value = refl;
+      answers_after = put.ensures ∙ ap (λ (x : Answer). answer_numbers x 0 ++ drop 4 a.answers.now)
+          (coded.ensures ∙ ap (λ (k : ℕ). answer k empty) (first2.ensures ∙ ap (λ (k : ℕ). pick (not a.good) 1 k) first.ensures));
+    }

@@ -1,6 +1,6 @@
 -- `cost::claimants` meets its contract. After p turns the first p principals are asked.
 use native.Mathlib.Omega.{arith}
-use Prim.Native.Nat.{ℕ, ◌-◌}
+use Prim.Native.Nat.{ℕ}
 use mathlib.Core.Path.{◌≡◌, refl, ap, ◌∙◌}
 use Rattle.claims.specs.Claims.{one, sum}
 use Rattle.claims.specs.Lent.{count_in}
@@ -23,8 +23,7 @@ loop-p-smaller c = omega arith
 pub loop-p-preserved : goal.loop-p-preserved
 loop-p-preserved c =
     let a = c.args in
-    let loop = c.loop-p in
-    (
+    let loop = c.loop-p in (
       omega arith,
       omega (arith, c.claimant-n.ensures.1),
       sum_turn (λ q. one (count_in a.counts.now q a.page)) loop.p loop.n _ loop.invariant.2

@@ -1,5 +1,5 @@
 -- `lines::put` meets its contract. After each turn two digits more stand before those put, and the number's rest is still to be put.
-use Prim.Native.Nat.{◌-◌, ◌≤◌}
+use Prim.Native.Nat.{◌≤◌}
 use Rattle.lines.proofs.Laying.{Spelt}
 use Rattle.lines.proofs.put.Given as goal
 

@@ -1,5 +1,4 @@
 -- `lines::width` meets its contract. The count goes up while the number is not below the count's power of ten.
-use Prim.Native.Nat.{◌-◌}
 use native.Mathlib.Omega.{arith}
 use Rattle.lines.proofs.Decimal.{counted_one, counted_all, counted_fits, counted_next, counted_most}
 use Rattle.lines.proofs.width.Goals as goal

@@ -1,6 +1,5 @@
 -- `operands::copy` meets its contract. After i turns the first i numbers are copied.
 use native.Mathlib.Omega.{arith}
-use Prim.Native.Nat.{◌-◌}
 use mathlib.Core.Path.{◌∙◌, refl}
 use lib.ListN.{length-set}
 use lib.Seq.{paste-zero}

@@ -1,5 +1,5 @@
 -- `claims::destroying::clear_counts` meets its contract. After q turns the first q principals' counts are done: `cleared_turn`.
-use Prim.Native.Nat.{◌+◌, ◌-◌, ◌*◌, ◌≤◌}
+use Prim.Native.Nat.{◌-◌, ◌*◌, ◌≤◌}
 use mathlib.Core.List.{◌++◌}
 use mathlib.Core.Path.{◌≡◌}
 use lib.ListN.{length, take, drop}

@@ -1,6 +1,5 @@
 -- `claims::destroying::clear_numbers` meets its contract. After q turns the first q numbers are done: `map_each_turn`.
 use native.Mathlib.Omega.{arith}
-use Prim.Native.Nat.{◌-◌}
 use mathlib.Core.Bool.{false}
 use mathlib.Core.Path.{refl, sym, ◌∙◌}
 use lib.ListN.{get_or, length-set}

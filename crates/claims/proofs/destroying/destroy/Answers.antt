@@ -24,5 +24,5 @@ returns c =
     let sized = not-false (sized_in a.principals.now a.counts.now) (ap not c.if-not-principals-counts.false) in record {
       value = sym c.if-code-ne0.false ∙ c.destroy_code-code.ensures a.counts.now ∙ sym (pick_yes (sized_in a.principals.now a.counts.now) _ 1 sized);
       principals_after = c.drop_all.ensures.principals_after;
-      counts_after = c.drop_all.ensures.counts_after
+      counts_after = c.drop_all.ensures.counts_after;
     }

@@ -20,7 +20,10 @@ returns c =
     let a = c.args in
     let marks = c.marks_of-marks in
     let is = marks.ensures a.counts.now in
-    let done = emptied_by a.principals.now a.counts.now a.principal marks.result is (of_numbers a.principals.now a.counts.now c.requires) in record { principals_after = c.put_unspent.ensures
+    let done = emptied_by a.principals.now a.counts.now a.principal marks.result is (of_numbers a.principals.now a.counts.now c.requires) in record {
+      principals_after = c.put_unspent.ensures
           ∙ destroyed_put a.principals.now a.counts.now a.principal _ c.principal_in-q.result c.principal_in-heir.result c.shares-back.result
           (c.clear_numbers.ensures ∙ done) c.principal_in-q.ensures c.principal_in-heir.ensures
-          (c.shares-back.ensures ∙ returned_by a.principals.now a.counts.now a.principal marks.result is); counts_after = c.clear_counts.ensures ∙ cleared_by_lem a.principals.now a.counts.now a.principal marks.result is (of_counts a.principals.now a.counts.now c.requires) }
+          (c.shares-back.ensures ∙ returned_by a.principals.now a.counts.now a.principal marks.result is);
+      counts_after = c.clear_counts.ensures ∙ cleared_by_lem a.principals.now a.counts.now a.principal marks.result is (of_counts a.principals.now a.counts.now c.requires);
+    }

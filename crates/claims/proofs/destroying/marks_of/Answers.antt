@@ -1,6 +1,5 @@
 -- `claims::destroying::marks_of` meets its contract. After q turns the first q principals are marked: `filled_more`.
 use native.Mathlib.Omega.{arith}
-use Prim.Native.Nat.{◌-◌}
 use mathlib.Core.Bool.{false}
 use mathlib.Core.Path.{refl, ◌∙◌}
 use lib.ListN.{length-set}

@@ -1,7 +1,7 @@
 -- `claims::lent::above` meets its contract. After i turns the first i counts are counted: `above_more`.
 use native.Mathlib.Omega.{arith}
 use mathlib.Core.Path.{refl, sym, ap, ◌∙◌}
-use Prim.Native.Nat.{ℕ, ◌+◌, ◌-◌}
+use Prim.Native.Nat.{ℕ, ◌+◌}
 use lib.ListN.{get_or}
 use lib.Dec.{ltb}
 use Rattle.capabilities.specs.Lists.{pick}

@@ -16,7 +16,10 @@ returns-then-code-ne0 c = record { by_index = c.create_code-code.ensures; princi
 
 pub returns : goal.returns
 returns c =
-    let a = c.args in record { by_index = λ counts. sym c.if-code-ne0.false ∙ c.create_code-code.ensures counts; principals_after = c.put_principal.ensures
+    let a = c.args in record {
+      by_index = λ counts. sym c.if-code-ne0.false ∙ c.create_code-code.ensures counts;
+      principals_after = c.put_principal.ensures
           ∙ ap (λ (l : List ℕ). set l a.child (principal_code (principal true a.holder a.parent a.limit)))
           (c.put_unspent.ensures
-          ∙ ap (unspent_put a.principals.now a.parent) (c.less.ensures ∙ ap (λ (q : Principal). q.unspent - a.limit) c.principal_in-q.ensures)) }
+          ∙ ap (unspent_put a.principals.now a.parent) (c.less.ensures ∙ ap (λ (q : Principal). q.unspent - a.limit) c.principal_in-q.ensures));
+    }

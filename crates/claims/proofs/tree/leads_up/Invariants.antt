@@ -1,5 +1,5 @@
 -- `claims::tree::leads_up` meets its contract. A turn goes one parent up: `leads_on`.
-use Prim.Native.Nat.{ℕ, ◌-◌}
+use Prim.Native.Nat.{ℕ}
 use mathlib.Core.List.{List}
 use mathlib.Core.Path.{◌≡◌}
 use Rattle.claims.specs.Tree.{leads_up, leads_within}

@@ -1,5 +1,4 @@
 -- `entries::runs::run` meets its contract. After each turn the answers put so far are those of the definition, what is left to do is a run from the place reached, and the arrays stay well formed.
-use Prim.Native.Nat.{◌-◌}
 use native.Mathlib.Omega.{arith}
 use mathlib.Core.Path.{sym, ◌∙◌}
 use Rattle.arrays.specs.Reading.{arrays}

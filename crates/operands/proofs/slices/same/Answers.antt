@@ -1,6 +1,5 @@
 -- `operands::slices::same` meets its contract. After i turns the flag says that the first i numbers are the same.
 use native.Mathlib.Omega.{arith}
-use Prim.Native.Nat.{◌-◌}
 use mathlib.Core.Path.{◌∙◌, refl}
 use Rattle.capabilities.specs.Lists.{each}
 use Rattle.capabilities.proofs.Lists.{each_more}

@@ -1,7 +1,6 @@
 -- `pages::lent::all_freed` meets its contract. The pages before the range and beyond it are not in it: `test_none`, `test_all`.
 use native.Mathlib.Omega.{arith}
 use mathlib.Core.Path.{◌∙◌}
-use Prim.Native.Nat.{◌-◌}
 use Rattle.pages.specs.Freed.{freed_in, all_freed}
 use Rattle.pages.proofs.OnNumbers.{test_none, test_more, test_all}
 use Rattle.pages.proofs.lent.all_freed.Invariants.{freed}

@@ -1,7 +1,6 @@
 -- `pages::lent::any_mapped` meets its contract. The pages before the range and beyond it are not in it: `test_none`, `test_all`.
 use native.Mathlib.Omega.{arith}
 use mathlib.Core.Path.{refl, ap, ◌∙◌}
-use Prim.Native.Nat.{◌-◌}
 use mathlib.Core.Bool.{not}
 use mathlib.Core.List.{map}
 use lib.ListN.{take}

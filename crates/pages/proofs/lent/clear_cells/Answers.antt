@@ -1,7 +1,6 @@
 -- `pages::lent::clear_cells` meets its contract. After i turns the first i cells are 0 and the others as they were: `fill_more`.
 use lib.ListN.{length-set, set, length, drop_of_length-le}
 use native.Mathlib.Omega.{arith}
-use Prim.Native.Nat.{◌-◌}
 use mathlib.Core.Path.{◌≡◌, refl, ◌∙◌, ap}
 use mathlib.Core.List.{append-nil}
 use borrow.Author.Fill.{fill_none, fill_more}

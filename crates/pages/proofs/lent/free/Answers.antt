@@ -1,7 +1,6 @@
 -- `pages::lent::free` meets its contract. After each turn the numbers from the range's first page up to p are made so: `walk_more`.
 use native.Mathlib.Omega.{arith}
 use mathlib.Core.Path.{ap, ◌∙◌}
-use Prim.Native.Nat.{◌-◌}
 use lib.ListN.{length}
 use Rattle.pages.proofs.RangeNumbers.{freed_code, walk_start, walk_length, walk_more, walk_end, freed_made, freed_reads}
 use Rattle.pages.proofs.lent.free.Goals as goal

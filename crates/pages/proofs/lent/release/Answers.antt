@@ -1,7 +1,6 @@
 -- `pages::lent::release` meets its contract. After each turn the numbers from the range's first page up to p are 0: `walk_more`.
 use native.Mathlib.Omega.{arith}
 use mathlib.Core.Path.{refl, ap, ◌∙◌}
-use Prim.Native.Nat.{◌-◌}
 use lib.ListN.{length}
 use Rattle.pages.proofs.RangeNumbers.{walk_start, walk_length, walk_more, walk_end, released_made, released_reads}
 use Rattle.pages.proofs.lent.release.Invariants.{zeroed}

@@ -3,9 +3,8 @@ use lib.ListN.{get_or}
 use native.Mathlib.Omega.{arith}
 use mathlib.Core.Path.{refl, sym, ap, ◌∙◌}
 use Prim.Native.Nat.{◌-◌, ◌+◌}
-use mathlib.Core.Bool.{true, false≢true}
+use mathlib.Core.Bool.{false≢true}
 use mathlib.Core.List.{map}
-use mathlib.Core.Logic.{⊎_elim}
 use lib.ListN.{take, get_or-replicate, length-set, length-map}
 use lib.Seq.{take_all}
 use borrow.Author.Tests.{lt-ltb, le-ltb}
@@ -76,8 +75,8 @@ loop-p-preserved c =
       elim c.if-code-gt1.branch [ then-code-gt1 w ↦ rw (w.tally-is, length-set) loop.invariant.1 | else-code-gt1 w ↦ rw w.tally-is loop.invariant.1 ],
       rw (each_more (shows_below a.f) a.pages.now loop.p 0 (omega arith)) (rw loop.invariant.2 (lt-ltb _ _ c.if-limit-code.false)),
       elim c.if-code-gt1.branch [
-      | then-code-gt1 w ↦ subst (λ t. Tally t (take (loop.p + 1) l)) (sym w.tally-is) (count_hit loop.tally a.pages.now loop.p (omega arith) loop.invariant.3 (get_or a.pages.now loop.p 0 - 2) w.if-code-gt1.true (omega (arith, c.requires.f_bound)) refl loop.invariant.1)
-      | else-code-gt1 w ↦ subst (λ t. Tally t (take (loop.p + 1) l)) (sym w.tally-is) (count_miss loop.tally a.pages.now loop.p (omega arith) loop.invariant.3 w.if-code-gt1.false)
+        | then-code-gt1 w ↦ subst (λ t. Tally t (take (loop.p + 1) l)) (sym w.tally-is) (count_hit loop.tally a.pages.now loop.p (omega arith) loop.invariant.3 (get_or a.pages.now loop.p 0 - 2) w.if-code-gt1.true (omega (arith, c.requires.f_bound)) refl loop.invariant.1)
+        | else-code-gt1 w ↦ subst (λ t. Tally t (take (loop.p + 1) l)) (sym w.tally-is) (count_miss loop.tally a.pages.now loop.p (omega arith) loop.invariant.3 w.if-code-gt1.false)
       ],
     )
 

@@ -1,5 +1,4 @@
 -- `printing::session::commands` meets its contract. After each turn the lines put so far are those of the definition up to the place reached, and the arrays stay well formed.
-use Prim.Native.Nat.{◌-◌}
 use native.Mathlib.Omega.{arith}
 use mathlib.Core.Path.{sym, ◌∙◌}
 use Rattle.arrays.specs.Reading.{arrays}

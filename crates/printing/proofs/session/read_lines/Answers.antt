@@ -3,7 +3,6 @@ use Prim.Native.Nat.{◌+◌, ◌*◌}
 use native.Mathlib.Omega.{arith}
 use mathlib.Core.Bool.{false}
 use mathlib.Core.Path.{sym, ◌∙◌}
-use borrow.Author.Tests.{not-true, not-false}
 use Rattle.lines.specs.Lines.{line_of}
 use Rattle.lines.proofs.Laying.{laid_in_lem}
 use Rattle.session_rules.proofs.Sessions.{read_short, read_out, read_in}

@@ -38,7 +38,7 @@ commands-requires c =
       cells_len = (n, n);
       in_bounds = c.requires.in_bounds;
       input_len_bound = c.requires.input_len_bound;
-      begin_bound = c.requires.begin_bound
+      begin_bound = c.requires.begin_bound;
     }
 
 pub returns : goal.returns

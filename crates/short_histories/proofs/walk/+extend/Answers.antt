@@ -1,7 +1,7 @@
 -- `short_histories::walk::extend` meets its contract. With no command to come the one history is put; else each turn puts the lines that
 -- go on from one listed command, or none where that one is refused.
 use native.Mathlib.Omega.{arith}
-use mathlib.Core.Path.{◌≡◌, sym, subst}
+use mathlib.Core.Path.{sym, subst}
 use lib.ListN.{length, take}
 use Prim.Native.Nat.{ℕ, ◌+◌, ◌-◌, ◌<◌, ◌≤◌}
 use mathlib.Core.List.{List}
@@ -65,17 +65,17 @@ loop-k-preserved t c =
     let led = c.attempt-led in
     let more : loop.k < length listed = omega (arith, listed_length, c.loop-k-test.true) in
     elim c.if-led.branch [
-    | then-led w ↦
-      let next = w.extend-end.new.out in
-      rw (w.out-is, w.end-is)
-      (parts_next (part_of a.more (take a.history.len a.history.bytes) a.machine.state.arrays a.machine.cells a.machine.tags) listed (Collect 0) a.at a.out.now loop.k loop.end loop.out loop.invariant more w.extend-end.result next
-      (subst (λ (l : List ℕ). Laid l loop.end loop.out w.extend-end.result next)
-      (part_granted a.more (take a.history.len a.history.bytes) a.machine.state.arrays a.machine.cells a.machine.tags loop.k command.result command.ensures led.result.granted led.result.machine.state.arrays led.result.machine.cells led.result.machine.tags led.ensures w.if-led.true (take w.longer.result.len w.longer.result.bytes) w.longer.ensures.bytes_value)
-      w.extend-end.ensures))
-    | else-led w ↦
-      rw (w.out-is, w.end-is)
-      (parts_next (part_of a.more (take a.history.len a.history.bytes) a.machine.state.arrays a.machine.cells a.machine.tags) listed (Collect 0) a.at a.out.now loop.k loop.end loop.out loop.invariant more loop.end loop.out
-      (subst (λ (l : List ℕ). Laid l loop.end loop.out loop.end loop.out) (part_refused a.more (take a.history.len a.history.bytes) a.machine.state.arrays a.machine.cells a.machine.tags loop.k command.result command.ensures led.result.granted led.result.machine.state.arrays led.result.machine.cells led.result.machine.tags led.ensures w.if-led.false) (laid_none loop.end loop.out)))
+      | then-led w ↦
+          let next = w.extend-end.new.out in
+          rw (w.out-is, w.end-is)
+          (parts_next (part_of a.more (take a.history.len a.history.bytes) a.machine.state.arrays a.machine.cells a.machine.tags) listed (Collect 0) a.at a.out.now loop.k loop.end loop.out loop.invariant more w.extend-end.result next
+          (subst (λ (l : List ℕ). Laid l loop.end loop.out w.extend-end.result next)
+          (part_granted a.more (take a.history.len a.history.bytes) a.machine.state.arrays a.machine.cells a.machine.tags loop.k command.result command.ensures led.result.granted led.result.machine.state.arrays led.result.machine.cells led.result.machine.tags led.ensures w.if-led.true (take w.longer.result.len w.longer.result.bytes) w.longer.ensures.bytes_value)
+          w.extend-end.ensures))
+      | else-led w ↦
+          rw (w.out-is, w.end-is)
+          (parts_next (part_of a.more (take a.history.len a.history.bytes) a.machine.state.arrays a.machine.cells a.machine.tags) listed (Collect 0) a.at a.out.now loop.k loop.end loop.out loop.invariant more loop.end loop.out
+          (subst (λ (l : List ℕ). Laid l loop.end loop.out loop.end loop.out) (part_refused a.more (take a.history.len a.history.bytes) a.machine.state.arrays a.machine.cells a.machine.tags loop.k command.result command.ensures led.result.granted led.result.machine.state.arrays led.result.machine.cells led.result.machine.tags led.ensures w.if-led.false) (laid_none loop.end loop.out)))
     ]
 
 pub returns : goal.returns

@@ -30,5 +30,5 @@ returns-in-Wrote c =
 pub returns-in-TooShort : goal.returns-in-TooShort
 returns-in-TooShort c =
     let a = c.args in
-    let g = c.well_formed.0 in 
+    let g = c.well_formed.0 in
     let none : ⊥ = not_short a.history.bytes a.history.len a.call c.write_call.new.out c.write_call.result (search (length_under, g)) c.requires c.write_call.ensures c.in-TooShort.is in record { bytes_value = absurd none; len_value = absurd none }

@@ -1,5 +1,5 @@
 -- `short_histories::walk::put_all` meets its contract. After n turns the lines of the histories of fewer than n commands stand there.
-use Prim.Native.Nat.{ℕ, ◌+◌, ◌-◌, ◌≤◌}
+use Prim.Native.Nat.{ℕ, ◌+◌, ◌≤◌}
 use native.Mathlib.Omega.{arith}
 use mathlib.Core.List.{List}
 use mathlib.Core.Path.{sym, subst}
@@ -21,8 +21,11 @@ extend-end-requires c =
     let a = c.args in
     let start = c.start-started in
     let loop = c.loop-count in
-    let few = c.loop-count-test.true in record { more_bound = omega (arith, few); tags_in_bounds = subst (λ (l : List ℕ). loop.end + length l ≤ length loop.out) (sym (starts_so start.result.answer start.result.state.arrays start.ensures loop.count (omega (arith, few))))
-          (parts_room from_start counts 0 0 a.out.now loop.count loop.end loop.out loop.invariant (omega (arith, few)) (subst (λ (l : List ℕ). 0 + length l ≤ length a.out.now) text_walked (omega (arith, c.requires)))) }
+    let few = c.loop-count-test.true in record {
+      more_bound = omega (arith, few);
+      tags_in_bounds = subst (λ (l : List ℕ). loop.end + length l ≤ length loop.out) (sym (starts_so start.result.answer start.result.state.arrays start.ensures loop.count (omega (arith, few))))
+          (parts_room from_start counts 0 0 a.out.now loop.count loop.end loop.out loop.invariant (omega (arith, few)) (subst (λ (l : List ℕ). 0 + length l ≤ length a.out.now) text_walked (omega (arith, c.requires))));
+    }
 
 pub overflow_add-count : goal.overflow_add-count
 overflow_add-count c = omega (arith, c.loop-count-test.true)

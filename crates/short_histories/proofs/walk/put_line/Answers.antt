@@ -1,5 +1,4 @@
 -- `short_histories::walk::put_line` meets its contract. After i turns the digits of the first i bytes stand there.
-use Prim.Native.Nat.{◌-◌}
 use native.Mathlib.Omega.{arith}
 use mathlib.Core.Path.{◌∙◌}
 use lib.ListN.{length-set}

@@ -1,7 +1,6 @@
 -- `sweep::frames::bases_from` meets its contract: one base a turn (`bases_turn`).
 use native.Mathlib.Omega.{arith}
 use mathlib.Core.Path.{refl}
-use Prim.Native.Nat.{◌-◌}
 use Rattle.sweep.proofs.ByFrames.{bases_turn}
 use Rattle.sweep.proofs.frames.bases_from.Goals as goal
 

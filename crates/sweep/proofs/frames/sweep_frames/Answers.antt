@@ -2,7 +2,7 @@
 use Rattle.sweep.proofs.ByFrames.{swept_nothing, swept_end, frame_shown, frame_hidden}
 use native.Mathlib.Omega.{arith}
 use mathlib.Core.Path.{◌≡◌, refl, sym, ap, ◌∙◌}
-use Prim.Native.Nat.{◌≤◌, ◌-◌}
+use Prim.Native.Nat.{◌≤◌}
 use mathlib.Core.List.{map}
 use lib.ListN.{length}
 use Rattle.pages.specs.Numbers.{frame_in}

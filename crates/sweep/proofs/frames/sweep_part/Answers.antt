@@ -4,7 +4,6 @@ use lib.ListN.{get_or, length-set}
 use borrow.Author.Rules.{rules}
 use native.Mathlib.Omega.{arith}
 use mathlib.Core.Path.{refl, ap, ◌∙◌}
-use Prim.Native.Nat.{◌-◌}
 use Rattle.sweep.specs.Sweep.{swept_tags}
 use Rattle.sweep.proofs.Sweeping.{swept_none}
 use Rattle.sweep.proofs.frames.sweep_part.Goals as goal

@@ -1,7 +1,7 @@
 -- `table::find::find` meets its contract: the rows before the first one looked at are not the one.
 use native.Mathlib.Omega.{arith}
 use mathlib.Core.Path.{sym, ◌∙◌}
-use Prim.Native.Nat.{◌<◌, ◌-◌}
+use Prim.Native.Nat.{◌<◌}
 use lib.ListN.{length}
 use Rattle.table.specs.Rows.{live}
 use Rattle.table.specs.Find.{begins}

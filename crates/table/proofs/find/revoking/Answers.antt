@@ -1,7 +1,7 @@
 -- `table::find::revoking` meets its contract.
 use native.Mathlib.Omega.{arith}
 use mathlib.Core.Path.{refl, sym, ◌∙◌}
-use Prim.Native.Nat.{◌<◌, ◌-◌}
+use Prim.Native.Nat.{◌<◌}
 use lib.ListN.{length}
 use Rattle.table.specs.Rows.{live, is_revoking}
 use Rattle.table.specs.Find.{revoking_of}

@@ -1,7 +1,7 @@
 -- `table::find::skip` meets its contract: four rows that are not the one are four turns of the search.
 use native.Mathlib.Omega.{arith}
 use mathlib.Core.Path.{refl, sym, ◌∙◌}
-use Prim.Native.Nat.{◌+◌, ◌-◌, ◌≤◌}
+use Prim.Native.Nat.{◌+◌, ◌≤◌}
 use lib.ListN.{length}
 use Rattle.table.specs.Rows.{live}
 use Rattle.table.specs.Find.{begins, find_of}

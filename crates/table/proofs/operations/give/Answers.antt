@@ -29,7 +29,10 @@ returns c =
     let f = find_of t a.party a.base in
     let here = c.find-found.ensures in
     let row = c.row_in-row.ensures ∙ ap (row_of t) here in
-    let told = c.open_code-code.ensures ∙ ap (λ g. first (open_reasons g c.row_in-row.result)) here ∙ ap (λ r. first (open_reasons f r)) row in record { value = told; rows_after = c.put_row.ensures
+    let told = c.open_code-code.ensures ∙ ap (λ g. first (open_reasons g c.row_in-row.result)) here ∙ ap (λ r. first (open_reasons f r)) row in record {
+      value = told;
+      rows_after = c.put_row.ensures
           ∙ ap (λ g. put_at l g (row_code c.given_row.result)) here
           ∙ ap (λ r. put_at l f (row_code r)) (c.given_row.ensures ∙ ap (λ r. given_row r a.to) row)
-          ∙ sym (granted _ _ told (put_at l f (row_code (given_row (row_of t f) a.to))) l c.if-code-ne0.false) }
+          ∙ sym (granted _ _ told (put_at l f (row_code (given_row (row_of t f) a.to))) l c.if-code-ne0.false);
+    }

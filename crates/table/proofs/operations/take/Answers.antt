@@ -34,8 +34,11 @@ returns c =
     let f = find_of t a.party a.base in
     let here = c.find-found.ensures in
     let row = c.row_in-row.ensures ∙ ap (row_of t) here in
-    let told = c.open_code-code.ensures ∙ ap (λ g. first (open_reasons g c.row_in-row.result)) here ∙ ap (λ r. first (open_reasons f r)) row in record { value = ap (λ (k : ℕ). answered k c.row_in-row.result.length) told
-          ∙ ap (answered (first (take_reasons t a.party a.base))) (ap (λ r. r.length) row ∙ sym (granted _ _ told (row_of t f).length 0 c.if-code-ne0.false)); rows_after = c.put_row.ensures
+    let told = c.open_code-code.ensures ∙ ap (λ g. first (open_reasons g c.row_in-row.result)) here ∙ ap (λ r. first (open_reasons f r)) row in record {
+      value = ap (λ (k : ℕ). answered k c.row_in-row.result.length) told
+          ∙ ap (answered (first (take_reasons t a.party a.base))) (ap (λ r. r.length) row ∙ sym (granted _ _ told (row_of t f).length 0 c.if-code-ne0.false));
+      rows_after = c.put_row.ensures
           ∙ ap (λ g. put_at l g (row_code c.taken_row.result)) here
           ∙ ap (λ r. put_at l f (row_code r)) (c.taken_row.ensures ∙ ap (λ r. taken_row r a.party) row)
-          ∙ sym (granted _ _ told (put_at l f (row_code (taken_row (row_of t f) a.party))) l c.if-code-ne0.false) }
+          ∙ sym (granted _ _ told (put_at l f (row_code (taken_row (row_of t f) a.party))) l c.if-code-ne0.false);
+    }

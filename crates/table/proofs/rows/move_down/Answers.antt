@@ -1,7 +1,7 @@
 -- `table::rows::move_down` meets its contract.
 use native.Mathlib.Omega.{arith}
 use mathlib.Core.Path.{◌≡◌, refl, ap, ◌∙◌}
-use Prim.Native.Nat.{◌+◌, ◌-◌}
+use Prim.Native.Nat.{◌+◌}
 use lib.ListN.{length, length-set}
 use Rattle.table.specs.Lent.{lowered}
 use Rattle.table.proofs.Moving.{lower_start, lower_more}

@@ -1,6 +1,6 @@
 -- `table::rows::move_up` meets its contract.
 use mathlib.Core.Path.{◌≡◌}
-use Prim.Native.Nat.{◌+◌, ◌-◌, ◌≤◌}
+use Prim.Native.Nat.{◌+◌, ◌≤◌}
 use lib.ListN.{length}
 use Rattle.table.specs.Lent.{raised}
 use Rattle.table.proofs.rows.move_up.Given as goal

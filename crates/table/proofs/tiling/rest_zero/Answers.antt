@@ -1,7 +1,7 @@
 -- `table::tiling::rest_zero` meets its contract.
 use native.Mathlib.Omega.{arith}
 use mathlib.Core.Path.{refl, sym, ap, ◌∙◌}
-use Prim.Native.Nat.{◌+◌, ◌-◌}
+use Prim.Native.Nat.{◌+◌}
 use mathlib.Core.Bool.{◌&&◌, and_assoc, and-true}
 use lib.ListN.{get_or, drop}
 use lib.Dec.{eqb}

@@ -1,7 +1,7 @@
 -- `table::tiling::revokings` meets its contract.
 use native.Mathlib.Omega.{arith}
 use mathlib.Core.Path.{◌≡◌, sym, ap, ◌∙◌}
-use Prim.Native.Nat.{◌+◌, ◌-◌, ◌<◌}
+use Prim.Native.Nat.{◌+◌, ◌<◌}
 use lib.ListN.{length, drop}
 use native.Mathlib.Nat.{zero-add}
 use mir.Val.{bool_byte}

@@ -1,7 +1,7 @@
 -- `table::tiling::tiled` meets its contract.
 use native.Mathlib.Omega.{arith}
 use mathlib.Core.Path.{refl, sym, ap, ◌∙◌}
-use Prim.Native.Nat.{◌+◌, ◌-◌, ◌<◌}
+use Prim.Native.Nat.{◌+◌, ◌<◌}
 use mathlib.Core.Bool.{◌&&◌}
 use lib.ListN.{length, get_or, take, drop}
 use borrow.Author.Tests.{not-true, not-false}

@@ -1,5 +1,5 @@
 -- `words::collecting::collect_mail` meets its contract. After i turns the first i mailboxes are replaced, cell and tag: `beside_turn`.
-use Prim.Native.Nat.{◌-◌, ◌+◌}
+use Prim.Native.Nat.{◌+◌}
 use native.Mathlib.Omega.{arith}
 use mathlib.Core.Path.{◌≡◌, refl, ap, ◌∙◌}
 use lib.ListN.{length, get_or, take}

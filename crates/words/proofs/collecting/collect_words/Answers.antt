@@ -1,5 +1,5 @@
 -- `words::collecting::collect_words` meets its contract. After i turns the marks beside the first i words are replaced: `beside_more`.
-use Prim.Native.Nat.{◌-◌, ◌+◌}
+use Prim.Native.Nat.{◌+◌}
 use native.Mathlib.Omega.{arith}
 use mathlib.Core.Path.{refl, ap, ◌∙◌}
 use lib.ListN.{length, take}

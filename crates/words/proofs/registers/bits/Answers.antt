@@ -1,7 +1,6 @@
 -- `words::registers::bits` meets its contract: one byte more is tested in a turn (`each_more`).
 use native.Mathlib.Omega.{arith}
 use mathlib.Core.Path.{refl, ap, ◌∙◌}
-use Prim.Native.Nat.{◌-◌}
 use lib.Seq.{take_all}
 use Rattle.capabilities.specs.Lists.{each}
 use Rattle.capabilities.proofs.Lists.{each_more}

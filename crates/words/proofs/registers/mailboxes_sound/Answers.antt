@@ -1,7 +1,7 @@
 -- `words::registers::mailboxes_sound` meets its contract: one mailbox more is tested in a turn (`each_more`).
 use native.Mathlib.Omega.{arith}
 use mathlib.Core.Path.{refl, sym, ap, ◌∙◌}
-use Prim.Native.Nat.{◌-◌, ◌<◌}
+use Prim.Native.Nat.{◌<◌}
 use lib.ListN.{length}
 use lib.Seq.{take_all}
 use Rattle.capabilities.specs.Lists.{each}
