@@ -54,6 +54,13 @@ class Gate(unittest.TestCase):
         self.counts("0 passed, 1 failed", "echo fine", "a 9 - true")
         self.counts("0 passed, 1 failed", "kill -9 $$", "a 9 - true")
 
+    def test_a_bad_edit_fails(self):
+        line = "rt: ok; handles allowed: none; must-fail edits: 47 refused{}; done in this run: 3 of the 38 proofs"
+        for bad, last in (("", "6 passed, 0 failed"), (", 1 of them only by a limit", "6 passed, 0 failed"), (", 2 bad", "5 passed, 1 failed"),
+                          (", 1 of them only by a limit, 12 bad", "5 passed, 1 failed")):
+            lines = self.counts(last, f"echo '{line.format(bad)}'; echo '5 passed, 0 failed'", "a 9 - echo here")
+            self.assertEqual("here" in lines, last.endswith(" 0 failed"))
+
     def test_a_limit(self):
         lines = self.counts("5 passed, 1 failed", "echo '5 passed, 0 failed'", "a 1 - echo begun; sleep 30")
         self.assertEqual(lines[1:3], ["begun", "test a: FAILED: longer than 1 s (1 s)"])

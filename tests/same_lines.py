@@ -3,7 +3,7 @@
 
     same_lines.py [SEED]    200 random sessions from a seed, 1 if none is given, each of 150 commands
 
-Both are those of this clone: target/bin/desk, which `rt check desk` links, and ./desk. A session is of any kinds of
+Both are those of this clone: target/bin/desk, which tools/made desk builds, and ./cetomuhi-desk. A session is of any kinds of
 call on few parties, pages and registers, so that some are granted; a tenth of them end in bytes that are no command.
 The last line says how many sessions agree; exit status 1 if one does not, or if not even a tenth of the commands are
 granted.
@@ -60,7 +60,7 @@ def main():
             data = session(chance, commands)
             path.write_text(data.hex())
             proved = lines([PROVED], data)
-            if proved and proved == lines([ROOT / "desk", path], b""):
+            if proved and proved == lines([ROOT / "cetomuhi-desk", path], b""):
                 agree += 1
             else:
                 print(f"session {number} of seed {seed} differs: {data.hex()}")

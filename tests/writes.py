@@ -1,7 +1,8 @@
 #!/usr/bin/env python3
 """Whether the number of writes that split and merge answer is the number of writes that they do (document 02, 2026-03).
 
-Their contract says the table and the number. That the number is a count is read off their MIR (`rt mir table`):
+Their contract says the table and the number. That the number is a count is read off their MIR (`rt check --generated`, in each function's
+Code/Mir.antt):
 
 - of all the functions that they reach, `write_row` alone stores to memory, by one statement; it has no loop, and each way through it
   stores once. Its contract says that it answers one more than it is handed;
@@ -12,7 +13,8 @@ Their contract says the table and the number. That the number is a count is read
 - what a mover reads from a row goes into a write and nowhere else, and it calls nothing but writes and movers, so that what rows hold
   does not decide which places are written.
 
-All is read in a copy, so that no other `rt` is disturbed; each of the faults listed below is put into it and has to be found there.
+All is read in copies, two at a time, so that no other `rt` is disturbed; each of the faults listed below is put into one and has to be found
+there. Nothing is proved for that, and a faulty program need not meet its contract.
 """
 import pathlib
 import re
@@ -20,6 +22,7 @@ import shutil
 import subprocess
 import sys
 import tempfile
+from concurrent.futures import ThreadPoolExecutor
 
 ROOT = pathlib.Path(__file__).resolve().parent.parent
 SOURCE = pathlib.Path("crates/table/src/rows.rt")
@@ -55,17 +58,24 @@ FAULTS = [
 ]
 
 
+# Words that the MIR has now, by those that are used below.
+WORDS = {"List.◌∷◌": "lcons", "List.[]": "lnil", "cond": "if", "rv_opd": "rvOpd"}
+WORDS |= {f"w{width}": str(width) for width in (8, 16, 32, 64)}
+
+
 def parsed(text):
+    """A term of antt: words, and lists for what stands in brackets."""
     stack = [[]]
-    for token in re.findall(r'"[^"]*"|[()]|[^\s()]+', text):
+    for token in re.findall(r"[()]|[^\s()]+", text):
         if token == "(":
             stack.append([])
         elif token == ")":
             inner = stack.pop()
             stack[-1].append(inner)
         else:
-            stack[-1].append(token.strip('"'))
-    return stack[0]
+            token = token.removeprefix("Syntax.")
+            stack[-1].append(WORDS.get(token, token))
+    return stack[0] if len(stack[0]) > 1 else stack[0][0]
 
 
 def listed(term):
@@ -74,13 +84,34 @@ def listed(term):
         term = term[2]
 
 
-def functions(root):
-    """The body of each function, by its name."""
-    mir = subprocess.run(["rt", "mir", "table"], cwd=root, text=True, capture_output=True)
-    if mir.returncode:
-        sys.exit(f"writes: rt mir table failed:\n{mir.stdout}{mir.stderr}")
-    program = parsed(mir.stdout[mir.stdout.index("program ("):])[1]
-    return {item[1]: item[2][5] for item in listed(program)}
+def body_of(path):
+    """The body of a function: the last word of its record, in which each word that is defined beside it stands for its definition."""
+    text = path.read_text()
+    parts = dict(re.findall(r"^abbrev pub (\S+) : Syntax\.Body\n\1 =(.*?)(?=^abbrev |\Z)", text, re.MULTILINE | re.DOTALL))
+    names = {local or "Symbol": whole.replace(".", "::")
+             for whole, local in re.findall(r"^use Rattle\.(\S+)\.Symbol(?: as (\S+))?$", text, re.MULTILINE)}
+
+    def whole(term):
+        if isinstance(term, list):
+            if term[:2] == ["MapTy.spell_body", "table"]:
+                return whole(term[2])
+            if term[0] == "call":
+                return ["call", names[term[1].removesuffix(".name")].replace("::proofs::", "::", 1), *map(whole, term[2:])]
+            return list(map(whole, term))
+        return whole(parsed(parts[term])) if term in parts else term
+
+    return whole(re.search(r"^  body = (\S+);$", text, re.MULTILINE)[1])
+
+
+def functions(root, crate):
+    """The body of each function of a crate, by its name."""
+    with tempfile.TemporaryDirectory() as made:
+        mir = subprocess.run(["rt", "check", "--generated", made], cwd=root / "crates" / crate, text=True, capture_output=True)
+        proofs = pathlib.Path(made) / f"Rattle-{crate}-proofs"
+        files = sorted(proofs.glob("**/Code/Mir.antt"))
+        if not files:
+            sys.exit(f"writes: rt check --generated of {crate} failed:\n{mir.stdout}{mir.stderr}")
+        return {"::".join((crate, *path.relative_to(proofs).parts[:-2])): body_of(path) for path in files}
 
 
 class Statement:
@@ -88,7 +119,7 @@ class Statement:
 
     def __init__(self, term, in_loop):
         self.in_loop = in_loop
-        self.called = term[1][1][1] if term[0] == "call" else None
+        self.called = term[1] if term[0] == "call" else None
         self.operands = list(listed(term[2])) if self.called else []
         self.value = term[2] if term[0] == "assign" else None
         place = {"assign": term[1], "call": term[-1]}.get(term[0])
@@ -230,8 +261,9 @@ def holds(place, held):
     return through(place) or place[1] in held
 
 
-def faults(root):
-    terms = functions(root)
+def faults(root, below):
+    """What is wrong with the crate, which calls these functions of the crate below it."""
+    terms = below | functions(root, "table")
     bodies = {name: list(statements(term)) for name, term in terms.items()}
     found = []
     for name in sorted(reached(bodies)):
@@ -254,23 +286,43 @@ def writes_field(root):
     return re.findall(r"pub (\w+):", re.search(r"pub struct Moved \{(.*?)\}", text, re.S)[1]).index("writes")
 
 
+def copied(folder):
+    """A copy of the crate and of those that it stands on."""
+    lines = [line for line in (ROOT / "crates.txt").read_text().splitlines() if re.match(r"(table|capabilities):", line)]
+    (folder / "crates.txt").write_text("".join(f"{line}\n" for line in lines))
+    for name in ("table", "capabilities"):
+        shutil.copytree(ROOT / "crates" / name, folder / "crates" / name, ignore=shutil.ignore_patterns("out", "must-fail"))
+    return folder
+
+
 def main():
     text = (ROOT / SOURCE).read_text()
-    missed = 0
-    with tempfile.TemporaryDirectory() as folder:
-        shutil.copytree(ROOT / "crates", pathlib.Path(folder) / "crates")
-        shutil.copy(ROOT / "crates.txt", folder)
-        found = faults(folder)
+    for what, old, _ in FAULTS:
+        if text.count(old) != 1:
+            sys.exit(f"writes: the text for '{what}' stands {text.count(old)} times in {SOURCE}")
+    with tempfile.TemporaryDirectory() as first, tempfile.TemporaryDirectory() as second:
+        free = [copied(pathlib.Path(first)), copied(pathlib.Path(second))]
+
+        def seen(fault):
+            """What is found in a copy with a fault in it."""
+            _, old, new = fault
+            folder = free.pop()
+            (folder / SOURCE).write_text(text.replace(old, new))
+            try:
+                return faults(folder, below)
+            finally:
+                free.append(folder)
+
+        below = functions(free[0], "capabilities")
+        found = faults(free[0], below)
         for fault in found:
             print(f"writes: {fault}")
-        for what, old, new in FAULTS:
-            if text.count(old) != 1:
-                sys.exit(f"writes: the text for '{what}' stands {text.count(old)} times in {SOURCE}")
-            (pathlib.Path(folder) / SOURCE).write_text(text.replace(old, new))
-            seen = faults(folder)
-            missed += not seen
-            if not seen or "-v" in sys.argv:
-                print(f"writes: {what}: {seen or 'not found'}")
+        with ThreadPoolExecutor(len(free)) as both:
+            each = list(both.map(seen, FAULTS))
+    for (what, _, _), shown in zip(FAULTS, each):
+        if not shown or "-v" in sys.argv:
+            print(f"writes: {what}: {shown or 'not found'}")
+    missed = sum(not shown for shown in each)
     print(f"writes: {len(found)} faults; {len(FAULTS) - missed} of {len(FAULTS)} planted ones found")
     sys.exit(1 if found or missed else 0)
 

@@ -1,4 +1,4 @@
-//! Finds the proved archives: in the folder that CETOMUHI_LIB_DIR names, or where `rt staticlib`
+//! Finds the proved archives: in the folder that CETOMUHI_LIB_DIR names, or where `tools/made`
 //! writes them.
 
 use std::env;
@@ -33,7 +33,7 @@ fn link(folder: &Path, name: &str) {
     println!("cargo:rerun-if-changed={}", archive.display());
     if !archive.is_file() {
         eprintln!(
-            "{} is missing: run `rt staticlib {name}` in the repository's root, or set \
+            "{} is missing: run `tools/made {name}` in the repository's root, or set \
              CETOMUHI_LIB_DIR to the folder that has it",
             archive.display()
         );

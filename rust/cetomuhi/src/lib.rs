@@ -48,7 +48,7 @@
 //! assert!(run.answers.iter().all(|done| done.answer.code() == 0));
 //! ```
 //!
-//! The archive is looked for in the folder that `CETOMUHI_LIB_DIR` names, or where `rt staticlib
+//! The archive is looked for in the folder that `CETOMUHI_LIB_DIR` names, or where `tools/made
 //! cetomuhi` writes it. What is proved ends at the C boundary; this crate is tested.
 
 #![deny(missing_docs)]
