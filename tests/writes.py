@@ -13,7 +13,7 @@ Code/Mir.antt):
 - what a mover reads from a row goes into a write and nowhere else, and it calls nothing but writes and movers, so that what rows hold
   does not decide which places are written.
 
-All is read in copies, two at a time, so that no other `rt` is disturbed; each of the faults listed below is put into one and has to be found
+All is read in copies, three at a time, so that no other `rt` is disturbed; each of the faults listed below is put into one and has to be found
 there. Nothing is proved for that, and a faulty program need not meet its contract.
 """
 import pathlib
@@ -28,6 +28,7 @@ ROOT = pathlib.Path(__file__).resolve().parent.parent
 SOURCE = pathlib.Path("crates/table/src/rows.rt")
 CALLS = ["table::rows::split", "table::rows::merge"]
 WRITE = "table::rows::write_row"
+COPIES = 3
 MOVERS = ["table::rows::" + name for name in ("move_up", "move_down", "spread", "gather")]
 
 LAST = "    writes = write_row(rows, i, lower, writes);\n"
@@ -288,6 +289,7 @@ def writes_field(root):
 
 def copied(folder):
     """A copy of the crate and of those that it stands on."""
+    folder.mkdir()
     lines = [line for line in (ROOT / "crates.txt").read_text().splitlines() if re.match(r"(table|capabilities):", line)]
     (folder / "crates.txt").write_text("".join(f"{line}\n" for line in lines))
     for name in ("table", "capabilities"):
@@ -300,8 +302,8 @@ def main():
     for what, old, _ in FAULTS:
         if text.count(old) != 1:
             sys.exit(f"writes: the text for '{what}' stands {text.count(old)} times in {SOURCE}")
-    with tempfile.TemporaryDirectory() as first, tempfile.TemporaryDirectory() as second:
-        free = [copied(pathlib.Path(first)), copied(pathlib.Path(second))]
+    with tempfile.TemporaryDirectory() as place:
+        free = [copied(pathlib.Path(place, str(number))) for number in range(COPIES)]
 
         def seen(fault):
             """What is found in a copy with a fault in it."""
@@ -317,8 +319,8 @@ def main():
         found = faults(free[0], below)
         for fault in found:
             print(f"writes: {fault}")
-        with ThreadPoolExecutor(len(free)) as both:
-            each = list(both.map(seen, FAULTS))
+        with ThreadPoolExecutor(COPIES) as workers:
+            each = list(workers.map(seen, FAULTS))
     for (what, _, _), shown in zip(FAULTS, each):
         if not shown or "-v" in sys.argv:
             print(f"writes: {what}: {shown or 'not found'}")
