@@ -6,6 +6,7 @@ pub mod Listing
 pub mod Nearing
 pub mod Asking
 pub mod Reading
+pub mod Handing
 pub mod Calling
 pub mod Meaning
 pub mod Tiled
