@@ -3,6 +3,8 @@
 // cut short at every length. tests/calls_vectors.py works `stdin` and `stdout` out from the documents' lines.
 #![tactic(auto)]
 
+ghost use Rattle.std.specs.Prelude.{◌≤◌, IfOk, length};
+
 mod kinds_shown;
 mod show;
 
@@ -11,7 +13,7 @@ use std::io;
 use std::io::Read;
 
 // As many bytes of the input are read.
-const INPUT: u64 = 4096;
+const INPUT: usize = 4096;
 
 // What the lent buffers hold before, so that a byte that is kept shows.
 const KEPT: u8 = 0xEE;
@@ -114,8 +116,23 @@ fn show_all(rt: &impl Print, input: &[u8]) -> io::Result<()> {
     show_at(rt, input, at + 1)
 }
 
+// Reads, in pieces as they come, until the buffer is full or the input ends, and answers how many bytes came.
+fn read_full(reader: &mut impl Read, buf: &mut [u8]) -> io::Result<usize>
+    ensures { IfOk result (λ n. n ≤ length buf.new) }
+{
+    let mut len: usize = 0;
+    while len < buf.len() {
+        let more = reader.read(&mut buf[len..])?;
+        if more == 0 {
+            return Ok(len);
+        }
+        len += more;
+    }
+    Ok(len)
+}
+
 fn main(rt: HostRuntime) -> io::Result<()> {
-    let mut input = Vec::new(rt.alloc());
-    rt.reader().take(INPUT).read_to_end(&mut input)?;
-    show_all(&rt, &input)
+    let mut input = [0; INPUT];
+    let len = read_full(&mut rt.reader(), &mut input)?;
+    show_all(&rt, &input[..len])
 }

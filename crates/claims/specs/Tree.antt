@@ -12,6 +12,6 @@ unfoldable pub leads_within : ℕ → Claims → ℕ → ℕ → Bool
 leads_within zero c top p = eqb p top
 leads_within (suc n) c top p = eqb p top || leads_within n c top (parent_of c p)
 
--- 32 principals have at most 31 parents on the way: in claims that are well formed this is `LeadsUp` (`claims:Descent.leads-up`).
+-- 32 principals have at most 31 parents on the way: in claims that are well formed this is `LeadsUp` (`claims:Descent.leads_up_lem`).
 abbrev pub leads_up : Claims → ℕ → ℕ → Bool
 leads_up c top p = leads_within 31 c top p

@@ -6,7 +6,7 @@ use Rattle.capabilities.specs.declared.Range.{Range}
 abbrev pub span : ℕ → ℕ → Range
 span first cells = record { base = first; length = cells }
 
--- Each begins before the other ends: they have a cell in common (maps:Meaning.shares-means).
+-- Each begins before the other ends: they have a cell in common (maps:Meaning.shares_means).
 unfoldable pub shares : Range → Range → Bool
 shares p q = ltb q.base (p.base + p.length) && ltb p.base (q.base + q.length)
 

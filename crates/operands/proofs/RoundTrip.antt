@@ -47,7 +47,7 @@ unfolding are_call
 numbers_are_call c f =
     ap (λ (d : Call). same (numbers_of d) (numbers_of c)) (call_back c f) ∙ same_self (numbers_of c)
 
--- Numbers that are a call are those of the call that they make, whose operands fit (`Commands.made-fits`).
+-- Numbers that are a call are those of the call that they make, whose operands fit (`Commands.made_fits`).
 pub numbers_back : (xs : List ℕ) → are_call xs ≡ true → numbers_of (call_from xs) ≡ xs
 unfolding are_call
 numbers_back xs e = same_equal (numbers_of (call_from xs)) xs e
