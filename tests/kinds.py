@@ -27,9 +27,8 @@ STDIN, STDOUT = "crates/calls_run/stdin", "crates/calls_run/stdout"
 IN_C, IN_RUST, BENCH = "tests/widths.h", "rust/cetomuhi/tests/widths/mod.rs", "bench/src/plain/kinds.rs"
 OTHERS = table.ENUM, table.ROWS, around.HEADER, around.HEX, around.WORDS, CRATE, VECTORS, STDIN, STDOUT, IN_C, IN_RUST, BENCH
 
-AT, BYTES = "crates/calls/src/reader/kinds_at.rt", "crates/calls/src/kinds_bytes.rt"
+READ, WRITTEN = "crates/calls/src/kinds_read.rt", "crates/calls/src/kinds_written.rt"
 FROM, NUMBERS = "crates/operands/src/kinds_from.rt", "crates/operands/src/kinds_numbers.rt"
-PROOF = "crates/calls/proofs/reader/kinds_at/call_at/Answers.antt"
 WORDS = "rust/cetomuhi/src/kinds.rs"
 
 # What goes wrong, the file, the text there, what stands in its place, and a word of the line by which it is found. The line begins
@@ -40,15 +39,14 @@ FAULTS = [
     ("a row's width", table.ROWS, "(1 ∷ 2 ∷ 2 ∷ []) (λ x. Split", "(1 ∷ 2 ∷ 1 ∷ []) (λ x. Split", "Split"),
     ("a row's line", table.ROWS, "-- 0F grant P s to", "-- 0F grant P to s", "Grant"),
     ("a row's operands", table.ROWS, "Zero (x 0) (frame (x 1))", "Zero (x 0) (page (x 1))", "Zero"),
-    ("a length", "crates/calls/src/commands.rt", "SPLIT => 6,", "SPLIT => 5,", "SPLIT"),
-    ("a reader's place", AT, "limit: two_at(s, 4)", "limit: two_at(s, 5)", "limit"),
-    ("a writer's byte", BYTES, "commands::SPLIT,", "commands::TAKE,", "SPLIT"),
+    ("a length", READ, "        0x02 => 6,", "        0x02 => 5,", "0x02"),
+    ("a reader's place", READ, "from_be_bytes([limit1, limit0])", "from_be_bytes([limit0, limit1])", "limit"),
+    ("a writer's byte", WRITTEN, "[0x02, party", "[0x01, party", "0x02"),
     ("a maker's width", FROM, "n: two_at(numbers, 2)", "n: byte_at(numbers, 2)", "two_at"),
     ("a call's number", NUMBERS, "[7, party", "[8, party", "[7, party"),
-    ("a printed word", "crates/calls_run/src/kinds_shown.rt", 'b"merge"', 'b"revoke"', "merge"),
+    ("a printed word", "crates/calls_run/src/kinds_shown.rt", '"merge ', '"revoke ', "merge"),
     ("the way back", "crates/calls/specs/Parts.antt", "(0x0F, party ∷ s ∷ to", "(0x0F, party ∷ to ∷ s", "Grant"),
     ("a law's clause", "crates/calls/proofs/Listed.antt", "listed (Claim", "listed (Claims", "Claim"),
-    ("an answer", PROOF, "c.in-3.is c.requires", "c.in-4.is c.requires", "c.in-3"),
     ("the header's function", around.HEADER, "_SPLIT, party, base, len,", "_SPLIT, party, len, base,", "SPLIT"),
     ("the header's parameters", around.HEADER, "uint64_t party, uint64_t frame)", "uint64_t frame, uint64_t party)", "zero"),
     ("the header's word", around.HEADER, '"store", ', "", "store"),

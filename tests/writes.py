@@ -8,8 +8,10 @@ Code/Mir.antt):
   stores once. Its contract says that it answers one more than it is handed;
 - a mover's count is one local. It begins once, outside every loop, at 0 or at the answer of a mover that it calls; each write is handed
   it and leaves its answer there; nothing else sets it; and it is what the mover answers;
-- split and merge have no loop. Each way through them calls a mover once and answers its answer as `writes`, or calls none and answers 0;
+- split and merge have no loop. Each way through them calls a mover once and answers its answer as `writes`, or calls none and answers a
+  refusal, which has no number;
 - nothing else calls `write_row` or a mover;
+- of std they reach the few functions of STD alone, which are handed no row that may be written;
 - what a mover reads from a row goes into a write and nowhere else, and it calls nothing but writes and movers, so that what rows hold
   does not decide which places are written.
 
@@ -29,12 +31,16 @@ SOURCE = pathlib.Path("crates/table/src/rows.rt")
 CALLS = ["table::rows::split", "table::rows::merge"]
 WRITE = "table::rows::write_row"
 COPIES = 3
+FROM_RESIDUAL = "std::prelude::ResultFromResidualErrResidual::from_residual"
+# What is called of std, whose code is not read. None is handed a place that it could write through but its own iterator's.
+STD = re.compile(r"std::(cmp::PartialEq::ne|prelude::(Result|Option)(Try::branch|FromResidual\w+::from_residual)|option::Option::\w+|\w+::Iter\w*::\w+|.*::(iter|position|get|min|saturating_sub|unwrap_or|copied|is_none|is_some))$")
+OK, ERR = ["int", "8", "0"], ["int", "8", "1"]
 MOVERS = ["table::rows::" + name for name in ("move_up", "move_down", "spread", "gather")]
 
 LAST = "    writes = write_row(rows, i, lower, writes);\n"
 TURN = "        writes = write_row(rows, j, above, writes);\n"
 STORE = "    rows[at] = number;\n"
-SPREAD = "    let writes = spread(rows, count, place_of(found), lower, upper);\n"
+SPREAD = "    let writes = spread(rows, count, found.unwrap_or(0), lower, upper);\n"
 HEAD = "// One Open reservation becomes two, the lower of `len` cells.\n"
 AGAIN = "fn again(rows: &mut [u64]) -> usize {\n    if rows.len() > 0 {\n        return move_up(rows, 0, 0);\n    }\n    0\n}\n\n"
 # The contracts refuse a write counted from 0 again and a row passed over. The other programs leave the table and the number that are
@@ -51,10 +57,10 @@ FAULTS = [
     ("an answer that is no count", LAST + "    writes\n", LAST + "    n - i + 1\n"),
     ("a store in a loop of two turns", STORE, "    let mut k: usize = 0;\n    while k < 2 {\n    " + STORE + "        k += 1;\n    }\n"),
     ("a store left out where the number stands there", STORE, "    if rows[at] != number {\n    " + STORE + "    }\n"),
-    ("a row passed over for what another function finds there", TURN, "        if place_of(find(&rows[..], last, 0, 0)) != j {\n    " + TURN + "        }\n"),
-    ("a split that works the number out", SPREAD, SPREAD.replace("let writes = ", "") + "    let writes = count - place_of(found) + 1;\n"),
+    ("a row passed over for what another function finds there", TURN, "        if (LentRows { rows, count: last }).find(0, 0).unwrap_or(0) != j {\n    " + TURN + "        }\n"),
+    ("a split that works the number out", SPREAD, SPREAD.replace("let writes = ", "") + "    let writes = count - found.unwrap_or(0) + 1;\n"),
     ("a split that spreads, gathers and spreads again", SPREAD,
-     SPREAD.replace("let writes = ", "") + "    gather(rows, count + 1, place_of(found), lower);\n" + SPREAD),
+     SPREAD.replace("let writes = ", "") + "    gather(rows, count + 1, found.unwrap_or(0), lower);\n" + SPREAD),
     ("a mover called by another function", HEAD, AGAIN + HEAD),
 ]
 
@@ -97,7 +103,8 @@ def body_of(path):
             if term[:2] == ["MapTy.spell_body", "table"]:
                 return whole(term[2])
             if term[0] == "call":
-                return ["call", names[term[1].removesuffix(".name")].replace("::proofs::", "::", 1), *map(whole, term[2:])]
+                called = term[1] if isinstance(term[1], str) else term[1][0]
+                return ["call", names[called.removesuffix(".name")].replace("::proofs::", "::", 1), *map(whole, term[2:])]
             return list(map(whole, term))
         return whole(parsed(parts[term])) if term in parts else term
 
@@ -189,9 +196,9 @@ def reached(bodies):
     names, left = set(), list(CALLS)
     while left:
         name = left.pop()
-        if name not in names:
+        if name not in names and not STD.match(name):
             names.add(name)
-            left += [each.called for each in bodies[name] if each.called]
+            left += [each.called for each in bodies.get(name, []) if each.called]
     return names
 
 
@@ -202,8 +209,20 @@ def write_faults(body):
     return ["a way through it does not store once"] if any(sum(each.stores for each in way) != 1 for way, _ in taken) else []
 
 
+def fields_of(statement):
+    """What a statement puts together, if it does that."""
+    return list(listed(statement.value[1])) if statement.value and statement.value[0] == "aggregate" else []
+
+
+def granted(answer, way):
+    """The fields of what an answer grants, if that is put together by one statement."""
+    fields = fields_of(answer)
+    made = [each for each in way if fields[:1] == [OK] and fields[1:] == [["copy", ["place", each.local, "lnil"]]]]
+    return fields_of(made[0]) if len(made) == 1 and made[0].into else []
+
+
 def call_faults(body, writes):
-    """Of split or merge, whose answer has its number of writes at a place."""
+    """Of split or merge, whose answer, where it is granted, has its number of writes at a place."""
     taken = ways(body)
     if taken is None:
         return ["it has a loop"]
@@ -211,17 +230,16 @@ def call_faults(body, writes):
     for way, _ in taken:
         moves = [i for i, each in enumerate(way) if each.called in MOVERS]
         answers = [each for each in way if each.local == "0"]
-        one = answers[0] if len(answers) == 1 and answers[0].into and answers[0].value else None
-        fields = list(listed(one.value[1])) if one and one.value[0] == "aggregate" else None
+        one = answers[0] if len(answers) == 1 and answers[0].into else None
         if len(moves) > 1:
             found.append(f"a way through it calls movers {len(moves)} times")
-        elif fields is None:
+        elif one is None:
             found.append("what it answers is not put together by one statement")
-        elif not moves and fields[writes] != ["int", "64", "0"]:
-            found.append("a way through it that calls no mover does not answer 0 writes")
+        elif not moves and one.called != FROM_RESIDUAL and fields_of(one)[:1] != [ERR]:
+            found.append("a way through it that calls no mover does not answer a refusal")
         elif moves:
-            local = way[moves[0]].into
-            if local is None or fields[writes] != ["copy", ["place", local, "lnil"]] or any(each.local == local for each in way[moves[0] + 1:]):
+            local, fields = way[moves[0]].into, granted(one, way)
+            if local is None or not fields or fields[writes] != ["copy", ["place", local, "lnil"]] or any(each.local == local for each in way[moves[0] + 1:]):
                 found.append("the number of writes that it answers is not the mover's answer")
     return found
 
@@ -268,6 +286,9 @@ def faults(root, below):
     bodies = {name: list(statements(term)) for name, term in terms.items()}
     found = []
     for name in sorted(reached(bodies)):
+        if name not in bodies:
+            found.append(f"{name}: its code is not read")
+            continue
         stores = sum(each.stores for each in bodies[name])
         if stores != (1 if name == WRITE else 0):
             found.append(f"{name}: {stores} statements store to memory")

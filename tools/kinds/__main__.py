@@ -1,4 +1,4 @@
-"""Makes what has a function, an arm, a clause or an answer a kind of call, from the one table of kinds.
+"""Makes what has an arm or a clause a kind of call, from the one table of kinds.
 
 python3 tools/kinds            writes the files that differ
 python3 tools/kinds --check    names them, with the first line that differs; exit status 1 then

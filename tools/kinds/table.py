@@ -12,7 +12,7 @@ WIDTHS = {"u8": 1, "VirtualPage": 1, "Frame": 1, "u16": 2, "u64": 8}
 MAKERS = {"VirtualPage": "page", "Frame": "frame"}
 # The documents' names of operands that have another one in the enum.
 NAMES = {"party": "P"}
-# The longest command and the most operands, which `calls:Commands.padded` and `operands:Numbers.numbers_of` have.
+# The longest command and the most operands, which include/cetomuhi.h and `operands:Numbers.numbers_of` have.
 LONGEST = 11
 MOST = 6
 

@@ -1,7 +1,10 @@
 -- A call on arrays: the rule on the state read, written back. Assumes nothing.
-use Rattle.std.specs.Prelude.{ℕ, List, ◌≡◌}
+use Rattle.std.specs.Prelude.{ℕ, List, ◌≡◌, Result, Ok, Err}
+use Rattle.capabilities.specs.declared.refusal.Refusal.{Refusal}
+use Rattle.capabilities.specs.Refusals.{number_of, code}
 use Rattle.calls.specs.declared.Call.{Call}
 use Rattle.words.specs.declared.Slot.{Slot}
+use Rattle.words.specs.Words.{empty}
 use Rattle.machine.specs.Step.{Outcome, ruled}
 use Rattle.arrays.specs.declared.Numbers.{Numbers}
 use Rattle.arrays.specs.declared.Arrays.{Arrays}
@@ -10,6 +13,15 @@ use Rattle.arrays.specs.Reading.{arrays, state_of, arrays_of, Formed}
 
 abbrev pub answer : ℕ → Slot → Answer
 answer code w = record { code = code; number = w.cell; tag = w.tag }
+
+-- The answer of a call: the word that it names, or the refusal's number.
+abbrev pub told : Result Slot Refusal → Answer
+told (Ok w) = answer 0 w
+told (Err r) = answer (number_of r) empty
+
+-- The answer of a call that names no word.
+abbrev pub done : Result Unit Refusal → Answer
+done r = answer (code r) empty
 
 -- What a call leaves: its answer, the arrays, and the lent cells and tags.
 pub record Leaving : Type 0 where

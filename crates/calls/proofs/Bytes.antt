@@ -5,19 +5,18 @@ use mathlib.Core.List.{List, [], ◌∷◌, ◌++◌, append_assoc}
 use mathlib.Core.Path.{◌≡◌, ◌∙◌, refl, sym, ap, subst}
 use native.Mathlib.Nat.{div-add-mod', pow-suc, mod-lt, div-lt_iff_lt-mul}
 use native.Mathlib.Omega.{arith}
+use Rattle.std.specs.Int.{w16, w64, from_be_bytes}
 use lib.Arith.{digits_div, digits_mod, digits_lt}
 use lib.ListN.{length, get_or, take, drop, length-append, length-drop}
 use lib.Seq.{append_snoc, get_or_at, drop-cons, take-suc, take-add, drop-drop, get_or-drop}
 use Rattle.calls.specs.Bytes.{bytes, number, bytes_in, numbers_at, sum, Fit, Bytes}
 
--- The eighth digit of a number of eight bytes has nothing above it.
-pub top_digit : (x : ℕ) → x < 2 ^ 64 → x / 256 / 256 / 256 / 256 / 256 / 256 / 256 % 256 ≡ x / 256 / 256 / 256 / 256 / 256 / 256 / 256
-top_digit x h =
-    let h₁ : x / 256 < 2 ^ 56 = omega arith in
-    let h₂ : x / 256 / 256 < 2 ^ 48 = omega arith in
-    let h₄ : x / 256 / 256 / 256 / 256 < 2 ^ 32 = omega arith in
-    let h₆ : x / 256 / 256 / 256 / 256 / 256 / 256 < 2 ^ 16 = omega arith in
-    omega arith
+-- What the library reads of two bytes, and of eight.
+pub two_bytes : (a b : ℕ) → from_be_bytes w16 (a ∷ b ∷ []) ≡ number 2 0 (a ∷ b ∷ [])
+two_bytes a b = omega arith
+
+pub eight_bytes : (a b c d e f g h : ℕ) → from_be_bytes w64 (a ∷ b ∷ c ∷ d ∷ e ∷ f ∷ g ∷ h ∷ []) ≡ number 8 0 (a ∷ b ∷ c ∷ d ∷ e ∷ f ∷ g ∷ h ∷ [])
+eight_bytes a b c d e f g h = omega arith
 
 -- ---- one number
 

@@ -1,17 +1,13 @@
--- Laws for functions that go by cases on a call or on a command's byte.
-use Prim.Native.Nat.{ℕ, zero, suc, ◌-◌, ◌≤◌}
+-- Laws for functions that go by cases on a command's byte, and what a call of the table fits.
+use Prim.Native.Nat.{ℕ, zero, suc, ◌≤◌}
 use mathlib.Core.Bool.{true}
-use mathlib.Core.Path.{◌≡◌, ◌∙◌, refl, sym, ap, subst}
+use mathlib.Core.Path.{◌≡◌, refl, sym}
 use lib.ListN.{get_or, get_or-eq_default}
 use native.Mathlib.Omega.{arith}
 use Rattle.calls.specs.Bytes.{sum}
 use Rattle.calls.specs.Commands.{command_of, lengths, command_length, last_byte, byte_of, operands_of}
 use Rattle.calls.specs.declared.Call.{Call}
 use Rattle.calls.proofs.Bytes.{formed}
-
--- What a case answers is the answer of the value that led there.
-pub in_case : {A B : Type 0} (f : A → B) {x y : A} {r : B} → x ≡ y → r ≡ f y → r ≡ f x
-in_case f p e = e ∙ sym (ap f p)
 
 -- `k` is none of 1 to `n`.
 abbrev pub NoneTo : ℕ → ℕ → Type 0
@@ -24,16 +20,6 @@ above (suc n) {k} h others =
     let below : suc n ≤ k = above n h others.0 in
     let other : k ≡ suc n → ⊥ = others.1 in
     omega (arith, other)
-
--- Of 1 to `n` only the last is left.
-pub last_case : (n : ℕ) {k : ℕ} → 1 ≤ k → k ≤ n → NoneTo (n - 1) k → k ≡ n
-last_case n {k} low high others =
-    let reached : suc (n - 1) ≤ k = above (n - 1) low others in
-    omega arith
-
--- An input as long as the command's table says is as long as the arm's number says.
-pub long_enough : {k j n : ℕ} → k ≡ j → command_length k ≤ n → command_length j ≤ n
-long_enough {n = n} p h = subst (λ k. command_length k ≤ n) p h
 
 -- A byte that is no command has length 0.
 pub no_length : (k : ℕ) → NoneTo last_byte k → 0 ≡ command_length k

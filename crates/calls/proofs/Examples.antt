@@ -1,4 +1,5 @@
 -- The commands of document 01's session, read one after the other by the specification.
+use Rattle.std.specs.Prelude.{Some, None}
 use Prim.Native.Nat.{ℕ, zero, suc}
 use mathlib.Core.List.{List, [], ◌∷◌}
 use mathlib.Core.Path.{◌≡◌, refl}
@@ -7,12 +8,11 @@ use Rattle.calls.specs.Reader.{whole, read_of}
 use Rattle.calls.specs.Commands.{page, frame}
 use Rattle.calls.specs.declared.Call.{Call}
 use Rattle.calls.specs.declared.Call.TheVariants.{Split, Give, Revoke, Sweep, Collect, Map, Unmap, Zero, Load, Store, Number, TakeMasked}
-use Rattle.calls.specs.declared.Reading.TheVariants.{Read, Refused}
 
 -- The calls of an input, `n` at the most, up to the first place where none is read.
 pub calls : ℕ → List ℕ → List Call
 calls zero s = []
-calls (suc n) s = elim (read_of s) [ Read call used ↦ call ∷ calls n (drop used s) | Refused ↦ [] ]
+calls (suc n) s = elim (read_of s) [ Some (call, used) ↦ call ∷ calls n (drop used s) | None ↦ [] ]
 
 -- Document 01, "One session in full", without V and F in front. Its take is 11 with mask 0F, as request 2026-01 says.
 pub session : List ℕ

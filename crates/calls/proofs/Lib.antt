@@ -4,6 +4,6 @@ pub mod Cases
 pub mod Listed
 pub mod Table
 pub mod Inputs
-pub mod RoundTrip
 pub mod Buffers
+pub mod RoundTrip
 pub mod Examples

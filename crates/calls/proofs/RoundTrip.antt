@@ -1,5 +1,6 @@
 -- Reading and writing undo each other. These are the crate's theorems: what the machine and later crates cite.
-use Prim.Native.Nat.{ℕ, zero, suc, ◌≤◌}
+use Rattle.std.specs.Prelude.{Option, Some, None}
+use Prim.Native.Nat.{ℕ, zero, suc, ◌≤◌, ◌<◌}
 use mathlib.Core.Bool.{Bool, true, false, ◌&&◌, true≢false}
 use mathlib.Core.List.{List, [], ◌∷◌, ◌++◌}
 use mathlib.Core.Path.{◌≡◌, ◌∙◌, refl, sym, ap, subst}
@@ -9,10 +10,9 @@ use lib.ListN.{length, get_or, take, length-append}
 use borrow.Author.Tests.{ltb-true, leb-true}
 use Rattle.calls.specs.Bytes.{numbers_at, bytes_in, Fit, Bytes}
 use Rattle.calls.specs.Commands.{command_of, command_length, call_at, byte_of, operands_of, bytes_of}
-use Rattle.calls.specs.Reader.{whole, read_of}
+use Rattle.calls.specs.Reader.{read, whole, read_of}
 use Rattle.calls.specs.Promises.{RoundTrip, WrittenInBytes, LengthsAgree, ReadFrom, ReadBack, OneCall, DifferentBytes}
 use Rattle.calls.specs.declared.Call.{Call}
-use Rattle.calls.specs.declared.Reading.TheVariants.{Read, Refused}
 use Rattle.calls.proofs.Inputs.{answer_of, call_read}
 use Rattle.calls.proofs.Bytes.{numbers_of_bytes, bytes_of_numbers, numbers_fit, length_bytes_in, fitting_bytes_in}
 use Rattle.calls.proofs.Table.{listed, Entry, entry, in_table}
@@ -23,7 +23,7 @@ lengths_agree c =
 
 pub round_trip : RoundTrip
 round_trip c rest =
-    sym (call_read (bytes_of c ++ rest) (byte_of c) (length (bytes_of c)) refl (lengths_agree c) again some inside).is
+    sym (call_read (bytes_of c ++ rest) refl again (lengths_agree c) some inside).is
   where
     operands : numbers_at (command_of (byte_of c)).widths 1 (bytes_of c ++ rest) ≡ operands_of c
     operands =
@@ -33,8 +33,8 @@ round_trip c rest =
     again =
         sym (ap (λ (xs : List ℕ). (command_of (byte_of c)).make (λ i. get_or xs i 0)) operands ∙ (listed c).made)
 
-    some : length (bytes_of c) ≡ 0 → ⊥
-    some e = omega arith
+    some : 0 < length (bytes_of c)
+    some = omega arith
 
     inside : length (bytes_of c) ≤ length (bytes_of c ++ rest)
     inside = simp length-append (omega arith)
@@ -75,7 +75,14 @@ found k t b w = record {
     ws : List ℕ
     ws = (command_of k).widths
 
-refused_differs : (c : Call) (n : ℕ) → Refused ≡ Read c n → ⊥
+-- Two readings that are the same read the same call, and the same number of bytes.
+pub same_call : (c d : Call) (m n : ℕ) → read c m ≡ read d n → c ≡ d
+same_call c d m n e = ap (λ (r : Option (Call × ℕ)). elim r [ Some p ↦ p.0 | None ↦ c ]) e
+
+pub same_used : (c d : Call) (m n : ℕ) → read c m ≡ read d n → m ≡ n
+same_used c d m n e = ap (λ (r : Option (Call × ℕ)). elim r [ Some p ↦ p.1 | None ↦ m ]) e
+
+refused_differs : (c : Call) (n : ℕ) → None ≡ read c n → ⊥
 refused_differs c n e = let z : ◌≡◌ {A = ℕ} 0 1 = cc in omega arith
 
 pub read_back : ReadBack
@@ -86,17 +93,17 @@ read_back (k ∷ t) b c n e = go (whole (k ∷ t)) refl
     go : (w : Bool) → whole (k ∷ t) ≡ w → ReadFrom (k ∷ t) c n
     go false w = absurd (refused_differs c n (sym (answer_of (k ∷ t) false w) ∙ e))
     go true w =
-        let same : Read (call_at k (k ∷ t)) (command_length k) ≡ Read c n = sym (answer_of (k ∷ t) true w) ∙ e in
-        let call : call_at k (k ∷ t) ≡ c = cc in
-        let used : command_length k ≡ n = cc in
+        let same : read (call_at k (k ∷ t)) (command_length k) ≡ read c n = sym (answer_of (k ∷ t) true w) ∙ e in
+        let call = same_call (call_at k (k ∷ t)) c (command_length k) n same in
+        let used = same_used (call_at k (k ∷ t)) c (command_length k) n same in
         subst (λ (m : ℕ). ReadFrom (k ∷ t) c m) used
         (subst (λ (d : Call). ReadFrom (k ∷ t) d (command_length k)) call (found k t b w))
 
 pub one_call : OneCall
 one_call c d rest others e =
-    let same : Read c (length (bytes_of c)) ≡ Read d (length (bytes_of d)) =
+    let same : read c (length (bytes_of c)) ≡ read d (length (bytes_of d)) =
     sym (round_trip c rest) ∙ ap read_of e ∙ round_trip d others in
-    cc
+    same_call c d (length (bytes_of c)) (length (bytes_of d)) same
 
 pub different_bytes : DifferentBytes
 different_bytes c d e = one_call c d [] [] (ap (λ (s : List ℕ). s ++ []) e)

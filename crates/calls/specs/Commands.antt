@@ -1,5 +1,5 @@
 -- Document 01, "Commands", and the requests since: the one table of commands and their operands.
-use Rattle.std.specs.Prelude.{ℕ, ◌+◌, ◌-◌, List, [], ◌∷◌, ◌++◌, map, get_or, length, replicate}
+use Rattle.std.specs.Prelude.{ℕ, ◌+◌, ◌-◌, List, [], ◌∷◌, map, get_or, length, ◌++◌, replicate}
 use Rattle.pages.specs.declared.VirtualPage.{VirtualPage}
 use Rattle.pages.specs.declared.Frame.{Frame}
 use Rattle.calls.specs.Bytes.{bytes_in, numbers_at, sum, Fit}

@@ -1,8 +1,7 @@
 -- Demand 2 of bytes and calls, as statements: "Bytes read as their call, calls write as those bytes, each undoes the other." Assumes
 -- nothing.
-use Rattle.std.specs.Prelude.{ℕ, ◌≤◌, List, ◌++◌, ◌≡◌, length, take}
+use Rattle.std.specs.Prelude.{ℕ, ◌≤◌, List, ◌++◌, ◌≡◌, length, take, Some}
 use Rattle.calls.specs.declared.Call.{Call}
-use Rattle.calls.specs.declared.Reading.TheVariants.{Read}
 use Rattle.calls.specs.Bytes.{Bytes}
 use Rattle.calls.specs.Commands.{command_length, byte_of, bytes_of, Fitting}
 use Rattle.calls.specs.Reader.{read_of}
@@ -10,7 +9,7 @@ use Rattle.calls.specs.Reader.{read_of}
 -- A call that was written is read, whatever follows it, and uses the bytes that were written. It holds of every call: one whose
 -- numbers fit is written in bytes.
 abbrev pub RoundTrip : Type 0
-RoundTrip = (c : Call) (rest : List ℕ) → read_of (bytes_of c ++ rest) ≡ Read c (length (bytes_of c))
+RoundTrip = (c : Call) (rest : List ℕ) → read_of (bytes_of c ++ rest) ≡ Some (c, length (bytes_of c))
 
 abbrev pub WrittenInBytes : Type 0
 WrittenInBytes = (c : Call) → Fitting c → Bytes (bytes_of c)
@@ -27,7 +26,7 @@ pub record ReadFrom (s : List ℕ) (c : Call) (n : ℕ) : Type 0 where
 
 -- Bytes that read as a call are what the writer writes for it.
 abbrev pub ReadBack : Type 0
-ReadBack = (s : List ℕ) → Bytes s → (c : Call) (n : ℕ) → read_of s ≡ Read c n → ReadFrom s c n
+ReadBack = (s : List ℕ) → Bytes s → (c : Call) (n : ℕ) → read_of s ≡ Some (c, n) → ReadFrom s c n
 
 -- No input begins with two calls: two different calls never write equal bytes, nor one the beginning of the other's.
 abbrev pub OneCall : Type 0

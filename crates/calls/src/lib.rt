@@ -1,15 +1,15 @@
 // Calls and their bytes: document 01, "Commands".
 #![tactic(auto)]
 
-mod commands;
-mod digits;
-mod kinds_bytes;
+mod kinds_read;
+mod kinds_written;
 mod reader;
 mod writer;
 
+pub use kinds_read::read_call;
+pub use kinds_written::write_call;
 use pages::{Frame, VirtualPage};
-pub use reader::{read_at, read_call};
-pub use writer::write_call;
+pub use reader::read_at;
 
 // A call: its kind and its operands, in the order of their bytes. Page and frame numbers are the page layer's own types, so that
 // the one never stands for the other.
@@ -119,18 +119,4 @@ pub enum Call {
         party: u8,
         principal: u8,
     },
-}
-
-// What reading finds: a call and how many bytes it used, or refusal 3.
-#[derive(Clone, Copy)]
-pub enum Reading {
-    Read { call: Call, used: usize },
-    Refused,
-}
-
-// What writing answers: how many bytes were written, or refusal 3 for too short a buffer.
-#[derive(Clone, Copy)]
-pub enum Written {
-    Wrote { len: usize },
-    TooShort,
 }

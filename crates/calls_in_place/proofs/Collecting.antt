@@ -1,4 +1,5 @@
 -- 07 in place. Assumes nothing.
+use Rattle.std.specs.Prelude.{Some, Option, None}
 use Prim.Native.Nat.{ℕ, suc, ◌+◌, ◌*◌, ◌≤◌}
 use native.Mathlib.Omega.{arith}
 use mathlib.Core.Bool.{Bool, true, false, not, ◌&&◌, ◌||◌, true≢false}
@@ -10,13 +11,12 @@ use borrow.Author.Tests.{eq-eqb, not-true, not-false}
 use Rattle.capabilities.specs.declared.Range.{Range}
 use Rattle.capabilities.specs.Death.{dies}
 use Rattle.capabilities.specs.Lists.{pick, each}
-use Rattle.capabilities.specs.Refusals.{first}
-use Rattle.capabilities.proofs.Refusals.{pick_clear}
-use Rattle.capabilities.proofs.Choice.{pick_yes}
+use Rattle.capabilities.specs.declared.refusal.Refusal.{Refusal}
+use Rattle.capabilities.specs.Refusals.{number_of, first}
+use Rattle.capabilities.proofs.Refusals.{number_some}
+use Rattle.capabilities.proofs.Choice.{pick_yes, pick_no}
 use Rattle.pages.specs.Mapping.{released_of}
 use Rattle.table.specs.declared.Reservation.{Reservation}
-use Rattle.table.specs.declared.Found.{Found}
-use Rattle.table.specs.declared.Found.TheVariants.{At as Row, Nowhere as None}
 use Rattle.table.specs.Table.{Table}
 use Rattle.table.specs.Rows.{is_revoking, range_of, blank, live}
 use Rattle.table.specs.Find.{missing, revoking_of, row_of, with_row}
@@ -51,11 +51,13 @@ use Rattle.arrays.specs.Steps.{answer, leaving, left_of}
 use Rattle.arrays.proofs.Facts.{lengths}
 use Rattle.arrays.proofs.Ruling.{wrote, down}
 use Rattle.calls_in_place.proofs.Cached.{cached_range, dying_cached}
+use Rattle.calls_in_place.proofs.Early.{early, late}
+use Rattle.calls_in_place.proofs.Revoking.{caller_code}
 use Rattle.calls_in_place.proofs.Sweeping.{still_cached}
 
 -- No reservation is Revoking once the one that was is exchanged for another.
-module _ (cells : ℕ) (t : Table) (s : Sound cells t) (i : ℕ) (e : revoking_of t ≡ Row i) (n : Reservation) (still : is_revoking n.state ≡ false) where
-  none_dying : dyings (live (with_row t (Row i) n)) ≡ []
+module _ (cells : ℕ) (t : Table) (s : Sound cells t) (i : ℕ) (e : revoking_of t ≡ Some i) (n : Reservation) (still : is_revoking n.state ≡ false) where
+  none_dying : dyings (live (with_row t (Some i) n)) ≡ []
   none_dying =
       let here = found_at (λ r. is_revoking r.state) (live t) i blank (unfold revoking_of in e) in
       let all : dyings (live t) ≡ dyings (take i (live t)) ++ (get_or (live t) i blank ∷ dyings (drop (i + 1) (live t))) =
@@ -65,8 +67,8 @@ module _ (cells : ℕ) (t : Table) (s : Sound cells t) (i : ℕ) (e : revoking_o
       after_dyings cells t s i here.0 n ∙ ap (λ d. d ++ dyings (n ∷ drop (i + 1) (live t))) (no_dyings (take i (live t)) (omega (arith, size)))
       ∙ dyings_not n (drop (i + 1) (live t)) still ∙ no_dyings (drop (i + 1) (live t)) (omega (arith, size))
 
-  pub none_revoking : row_of (with_row t (Row i) n) (revoking_of (with_row t (Row i) n)) ≡ blank
-  none_revoking = revoking_row_lem (with_row t (Row i) n) ∙ ap first_of none_dying
+  pub none_revoking : row_of (with_row t (Some i) n) (revoking_of (with_row t (Some i) n)) ≡ blank
+  none_revoking = revoking_row_lem (with_row t (Some i) n) ∙ ap first_of none_dying
 
 -- The small numbers after a collect: no range, no place.
 abbrev pub numbers_collected : Numbers → Numbers
@@ -77,9 +79,9 @@ same_arrays : {v f c d b l : ℕ} {w₁ w₂ k₁ k₂ m₁ m₂ g₁ g₂ r₁ 
     ≡ arrays (record { v = v; f = f; count = d; place = 0; base = b; length = l }) w₂ k₂ m₂ g₂ r₂ p₂ f₂ q₂ n₂
 same_arrays e1 e2 e3 e4 e5 e6 e7 e8 e9 e10 e11 e12 = cc
 
-same_count : (t : Table) (g : Found) (x : Reservation) → t.count ≡ (with_row t g x).count
+same_count : (t : Table) (g : Option ℕ) (x : Reservation) → t.count ≡ (with_row t g x).count
 unfolding with_row
-same_count t (Row i) x = refl
+same_count t (Some i) x = refl
 same_count t None x = refl
 
 -- What stands in the arrays after a collect, part by part.
@@ -94,10 +96,10 @@ module _ (b : Arrays) (f : Formed b) (run : running (state_of b).core ≡ true) 
   unfolding revoked
   range_gone = go (revoking_of c.table) refl
     where
-      go : (g : Found) → revoking_of c.table ≡ g → revoked (collected c) ≡ range_of blank
-      go (Row i) e =
-          ap revoked (collected_at c (Row i) e)
-          ∙ ap range_of (none_revoking (16 * c.pages.v) c.table (sound (16 * c.pages.v) c.table cf.rows) i e (collected_row (row_of c.table (Row i))) refl)
+      go : (g : Option ℕ) → revoking_of c.table ≡ g → revoked (collected c) ≡ range_of blank
+      go (Some i) e =
+          ap revoked (collected_at c (Some i) e)
+          ∙ ap range_of (none_revoking (16 * c.pages.v) c.table (sound (16 * c.pages.v) c.table cf.rows) i e (collected_row (row_of c.table (Some i))) refl)
       go None e = absurd (true≢false (sym (ap missing e) ∙ not-true (missing (revoking_of c.table)) (unfold running in run)))
 
 -- Registers and mailboxes after a collect.
@@ -159,30 +161,56 @@ module _ (b : Arrays) (f : Formed b) where
       (sym (collect_pages b.rows n.count b.pages n.v n.f n.place b.frames claims (ap (λ (x : Arrays). x.pages) f.kept)))
       (sym (ap (λ (x : Arrays). x.frames) f.kept)) (sym (ap (λ (x : Arrays). x.principals) f.kept)) (sym (ap (λ (x : Arrays). x.counts) f.kept))
 
-  module _ (p k : ℕ) (e : k ≡ pick (unnamed p) 4 (pick (not_manager p) 5 (pick (eqb b.nums.length 0 || not (leb (16 * b.nums.f) b.nums.place)) 11 0))) (cells tags : List ℕ) where
-    rest_is : pick (eqb b.nums.length 0 || not (leb (16 * b.nums.f) b.nums.place)) 11 0 ≡ first (collect_reasons (state_of b).core)
-    unfolding collect_reasons first state_of core_of
-    rest_is = ap (λ (x : Bool). pick (x || not (leb (16 * b.nums.f) b.nums.place)) 11 0) (sym (still_cached b f))
-
-    code_is : k ≡ first (reasons_on (state_of b) (Collect p) cells tags)
+  module _ (p : ℕ) (cells tags : List ℕ) where
+    -- What every manager's command asks comes first.
+    pub collect_early : (r : Refusal) → number_of r ≡ caller_code p
+        → leaving (answer (number_of r) empty) b cells tags ≡ left_of (ruled (state_of b) (Collect p) cells tags)
     unfolding reasons first
-    code_is = e ∙ ap (λ (x : ℕ). pick (unnamed p) 4 (pick (not_manager p) 5 x)) rest_is
+    collect_early r e = down b f (Collect p) cells tags (number_of r) (early (unnamed p) (not_manager p) 5 r _ e) (number_some r)
 
-    clear : k ≡ 0 → first (collect_reasons (state_of b).core) ≡ 0
-    clear z = sym rest_is ∙ (pick_clear 5 (not_manager p) _ (λ x. omega arith) (pick_clear 4 (unnamed p) _ (λ x. omega arith) (sym e ∙ z)).1).1
+    -- Then a revocation has to run, and no cell to be left.
+    abbrev unswept : Bool
+    unswept = eqb b.nums.length 0 || not (leb (16 * b.nums.f) b.nums.place)
 
-    pub collect_down : (k ≡ 0 → ⊥) → leaving (answer k empty) b cells tags ≡ left_of (ruled (state_of b) (Collect p) cells tags)
-    collect_down = down b f (Collect p) cells tags k code_is
+    abbrev unswept_code : ℕ
+    unswept_code = pick unswept 11 0
 
-    effect_is : k ≡ 0 → effect_on (state_of b) (Collect p) cells tags ≡ effect_of (collected (state_of b).core) collect_registers collect_mailboxes keep_memory empty
-    unfolding effect collect_of
-    effect_is z =
-        ap (λ (x : Core). effect_of x collect_registers collect_mailboxes keep_memory empty)
-        (pick_yes _ (collected (state_of b).core) (state_of b).core (eq-eqb (first (collect_reasons (state_of b).core)) 0 (clear z)))
+    module _ (e0 : 0 ≡ caller_code p) where
+      rest_is : unswept_code ≡ first (collect_reasons (state_of b).core)
+      unfolding collect_reasons first state_of core_of
+      rest_is = ap (λ (x : Bool). pick (x || not (leb (16 * b.nums.f) b.nums.place)) 11 0) (sym (still_cached b f))
 
-    pub collect_done : k ≡ 0 → leaving (answer 0 empty) (collected_arrays b (cached_range b)) cells tags ≡ left_of (ruled (state_of b) (Collect p) cells tags)
-    collect_done z =
-        let run = not-false (running (state_of b).core) (collect_clear (state_of b).core (clear z)).0 in
-        wrote 0 empty (collected_state (state_of b)) _ cells tags (put_collected run)
-        ∙ ap left_of (ruled_done (state_of b) (Collect p) cells tags k code_is z _
-        (done_collect (state_of b) (collected (state_of b).core) cells tags ∙ sym (ap (λ y. done (state_of b) y cells tags) (effect_is z))))
+      code_is : unswept_code ≡ first (reasons_on (state_of b) (Collect p) cells tags)
+      unfolding reasons first
+      code_is =
+          late (unnamed p) (not_manager p) 5 (λ x. omega (arith, x)) unswept_code e0 ∙ ap (λ (x : ℕ). pick (unnamed p) 4 (pick (not_manager p) 5 x)) rest_is
+
+      pub collect_down : unswept ≡ true → leaving (answer 11 empty) b cells tags ≡ left_of (ruled (state_of b) (Collect p) cells tags)
+      collect_down h = down b f (Collect p) cells tags 11 (sym (pick_yes unswept 11 0 h) ∙ code_is) (λ x. omega (arith, x))
+
+      module _ (h : unswept ≡ false) where
+        none : 0 ≡ unswept_code
+        none = sym (pick_no unswept 11 0 h)
+
+        clear : first (collect_reasons (state_of b).core) ≡ 0
+        clear = sym (none ∙ rest_is)
+
+        effect_is : effect_on (state_of b) (Collect p) cells tags ≡ effect_of (collected (state_of b).core) collect_registers collect_mailboxes keep_memory empty
+        unfolding effect collect_of
+        effect_is =
+            ap (λ (x : Core). effect_of x collect_registers collect_mailboxes keep_memory empty)
+            (pick_yes _ (collected (state_of b).core) (state_of b).core (eq-eqb (first (collect_reasons (state_of b).core)) 0 clear))
+
+        done_here : leaving (answer 0 empty) (collected_arrays b (cached_range b)) cells tags ≡ left_of (ruled (state_of b) (Collect p) cells tags)
+        done_here =
+            let run = not-false (running (state_of b).core) (collect_clear (state_of b).core clear).0 in
+            wrote 0 empty (collected_state (state_of b)) _ cells tags (put_collected run)
+            ∙ ap left_of (ruled_done (state_of b) (Collect p) cells tags 0 (none ∙ code_is) refl _
+            (done_collect (state_of b) (collected (state_of b).core) cells tags ∙ sym (ap (λ y. done (state_of b) y cells tags) effect_is)))
+
+      pub collect_done : unswept ≡ false → (range : Range) → range ≡ cached_range b → (marks mail flags rows pages : List ℕ)
+          → marks ≡ collected_marks range b.words b.marks → mail ≡ collected_mail range b.mail b.flags → flags ≡ collected_marks range b.mail b.flags
+          → rows ≡ collected_rows b.rows b.nums.count → pages ≡ collected_pages b.rows b.nums.count b.pages
+          → leaving (answer 0 empty) (arrays (numbers_collected b.nums) b.words marks mail flags rows pages b.frames b.principals b.counts) cells tags
+          ≡ left_of (ruled (state_of b) (Collect p) cells tags)
+      collect_done h range eg marks mail flags rows pages em el ef ew ep = rw (em, el, ef, ew, ep, eg) (done_here h)

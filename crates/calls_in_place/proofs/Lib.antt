@@ -7,6 +7,7 @@ pub mod Tabling
 pub mod Revoking
 pub mod Sweeping
 pub mod Cached
+pub mod Numbering
 pub mod Narrowing
 pub mod Mailing
 pub mod Storing

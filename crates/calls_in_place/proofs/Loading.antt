@@ -1,14 +1,15 @@
 -- 0B in place. Assumes nothing.
+use Rattle.std.specs.Prelude.{Option, unwrap_or}
 use Prim.Native.Nat.{ℕ, ◌+◌, ◌*◌}
 use native.Mathlib.Omega.{arith}
 use mathlib.Core.Bool.{Bool, not, ◌&&◌}
 use mathlib.Core.List.{List}
-use mathlib.Core.Path.{◌≡◌, sym, ap, ◌∙◌}
+use mathlib.Core.Path.{◌≡◌, refl, sym, ap, ◌∙◌}
 use lib.ListN.{set}
 use Rattle.capabilities.specs.Capability.{base_of, permits}
-use Rattle.capabilities.specs.Refusals.{first}
-use Rattle.capabilities.proofs.Refusals.{first_clear}
-use Rattle.pages.specs.declared.Place.{Place}
+use Rattle.capabilities.specs.declared.refusal.Refusal.{Refusal}
+use Rattle.capabilities.specs.Refusals.{number_of, first}
+use Rattle.capabilities.proofs.Refusals.{number_some, first_clear}
 use Rattle.calls.specs.declared.Call.{Call}
 use Rattle.calls.specs.declared.Call.TheVariants.{Load}
 use Rattle.words.specs.declared.Slot.{Slot}
@@ -25,10 +26,10 @@ use Rattle.arrays.specs.Steps.{answer, leaving, left_of, with_words}
 use Rattle.arrays.proofs.Ruling.{down, registered}
 use Rattle.words.specs.Lent.{register_in}
 use Rattle.calls_in_place.specs.Parts.{lookup_in, dies_in}
-use Rattle.calls_in_place.proofs.Reading.{register_read, addressed_by}
+use Rattle.calls_in_place.proofs.Reading.{register_read, addressed_by, unwrapped}
 use Rattle.calls_in_place.proofs.Cached.{dies_cached}
 
-module _ (b : Arrays) (f : Formed b) (n : Numbers) (pages : List ℕ) (en : b.nums ≡ n) (ep : b.pages ≡ pages) (p a off d : ℕ) (from : Slot) (place : Place)
+module _ (b : Arrays) (f : Formed b) (n : Numbers) (pages : List ℕ) (en : b.nums ≡ n) (ep : b.pages ≡ pages) (p a off d : ℕ) (from : Slot) (place : Option ℕ)
     (e1 : from ≡ register_in b.words b.marks p a) (e2 : place ≡ lookup_in n.v pages (base_of from.cell + off)) where
   abbrev call : Call
   call = Load p a off d
@@ -55,13 +56,17 @@ module _ (b : Arrays) (f : Formed b) (n : Numbers) (pages : List ℕ) (en : b.nu
       (found_fetched k cells tags w off free
       ∙ sym (ex ∙ ap (λ y. loaded k y (word_at cells tags (place_number place))) from_is ∙ ap (λ q. loaded k w (word_at cells tags (place_number q))) place_is))
 
-  module _ (k : ℕ) (e : k ≡ first (load_reasons p a d from off place)) (cells tags : List ℕ) where
-    pub load_down : (k ≡ 0 → ⊥) → leaving (answer k empty) b cells tags ≡ left_of (ruled (state_of b) call cells tags)
-    load_down = down b f call cells tags k (e ∙ code_is cells tags)
+  module _ (cells tags : List ℕ) where
+    pub load_down : (r : Refusal) → number_of r ≡ first (load_reasons p a d from off place)
+        → leaving (answer (number_of r) empty) b cells tags ≡ left_of (ruled (state_of b) call cells tags)
+    load_down r e = down b f call cells tags (number_of r) (e ∙ code_is cells tags) (number_some r)
 
-    pub load_done : k ≡ 0 → (w x : Slot) → w ≡ word_at cells tags (place_number place) → x ≡ keep_tag w (permits from.cell 4 && not (dies_in n w.cell))
-        → leaving (answer 0 x) (with_words b (set b.words (8 * p + d) x.cell) (set b.marks (8 * p + d) (byte_of x.tag))) cells tags
-        ≡ left_of (ruled (state_of b) call cells tags)
-    load_done z w x ew ex =
-        registered b f call cells tags k (e ∙ code_is cells tags) p d x x z
-        (effect_is cells tags (sym e ∙ z) x (ex ∙ ap (λ (q : Bool). keep_tag w (permits from.cell 4 && not q)) (dies_cached b f n en w.cell) ∙ ap (loaded (state_of b).core from) ew))
+    pub load_done : 0 ≡ first (load_reasons p a d from off place) → (at : ℕ) → at ≡ unwrap_or place 0 → (w : Slot) → w ≡ word_at cells tags at
+        → (dying : Bool) → dying ≡ dies_in n w.cell → (x : Slot) → x ≡ keep_tag w (permits from.cell 4 && not dying)
+        → (words marks : List ℕ) → words ≡ set b.words (8 * p + d) x.cell → marks ≡ set b.marks (8 * p + d) (byte_of x.tag)
+        → leaving (answer 0 x) (with_words b words marks) cells tags ≡ left_of (ruled (state_of b) call cells tags)
+    load_done e at ea w eh dying ed x ex words marks ew em =
+        let here : w ≡ word_at cells tags (place_number place) = eh ∙ ap (word_at cells tags) (ea ∙ unwrapped place) in
+        rw (ew, em)
+        (registered b f call cells tags 0 (e ∙ code_is cells tags) p d x x refl
+        (effect_is cells tags (sym e) x (ex ∙ ap (λ (q : Bool). keep_tag w (permits from.cell 4 && not q)) (ed ∙ dies_cached b f n en w.cell) ∙ ap (loaded (state_of b).core from) here)))

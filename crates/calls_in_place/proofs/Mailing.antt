@@ -1,9 +1,11 @@
 -- 0F and 10 in place. Assumes nothing.
 use Prim.Native.Nat.{ℕ, ◌+◌, ◌*◌}
 use mathlib.Core.List.{List}
-use mathlib.Core.Path.{◌≡◌, sym, ap, ◌∙◌}
+use mathlib.Core.Path.{◌≡◌, refl, sym, ap, ◌∙◌}
 use lib.ListN.{set}
-use Rattle.capabilities.specs.Refusals.{first}
+use Rattle.capabilities.specs.declared.refusal.Refusal.{Refusal}
+use Rattle.capabilities.specs.Refusals.{number_of, first}
+use Rattle.capabilities.proofs.Refusals.{number_some}
 use Rattle.calls.specs.declared.Call.{Call}
 use Rattle.calls.specs.declared.Call.TheVariants.{Grant, Receive}
 use Rattle.words.specs.declared.Slot.{Slot}
@@ -38,14 +40,15 @@ module _ (b : Arrays) (f : Formed b) (p s to : ℕ) (from here : Slot)
   unfolding effect
   granted_is cells tags = sym (ap (λ w. effect_of (state_of b).core keep_registers (put_mailbox to w) keep_memory empty) from_is)
 
-  module _ (k : ℕ) (e : k ≡ first (grant_reasons p s to from here)) (cells tags : List ℕ) where
-    pub grant_down : (k ≡ 0 → ⊥) → leaving (answer k empty) b cells tags ≡ left_of (ruled (state_of b) granting cells tags)
-    grant_down = down b f granting cells tags k (e ∙ grant_is cells tags)
+  module _ (cells tags : List ℕ) where
+    pub grant_down : (r : Refusal) → number_of r ≡ first (grant_reasons p s to from here)
+        → leaving (answer (number_of r) empty) b cells tags ≡ left_of (ruled (state_of b) granting cells tags)
+    grant_down r e = down b f granting cells tags (number_of r) (e ∙ grant_is cells tags) (number_some r)
 
-    pub grant_done : k ≡ 0
-        → leaving (answer 0 empty) (with_mail b (set b.mail to from.cell) (set b.flags to (byte_of from.tag))) cells tags
-        ≡ left_of (ruled (state_of b) granting cells tags)
-    grant_done z = mailed b f granting cells tags k (e ∙ grant_is cells tags) to from empty z (granted_is cells tags)
+    pub grant_done : 0 ≡ first (grant_reasons p s to from here)
+        → (mail flags : List ℕ) → mail ≡ set b.mail to from.cell → flags ≡ set b.flags to (byte_of from.tag)
+        → leaving (answer 0 empty) (with_mail b mail flags) cells tags ≡ left_of (ruled (state_of b) granting cells tags)
+    grant_done e mail flags em ef = rw (em, ef) (mailed b f granting cells tags 0 (e ∙ grant_is cells tags) to from empty refl (granted_is cells tags))
 
 -- 10: the mailbox goes into a register and is empty.
 module _ (b : Arrays) (f : Formed b) (p d : ℕ) (here : Slot) (e1 : here ≡ word_at b.mail b.flags p) where
@@ -63,11 +66,14 @@ module _ (b : Arrays) (f : Formed b) (p d : ℕ) (here : Slot) (e1 : here ≡ wo
   unfolding effect
   received_is cells tags = sym (ap (λ w. effect_of (state_of b).core (put_register p d w) (put_mailbox p empty) keep_memory w) here_is)
 
-  module _ (k : ℕ) (e : k ≡ first (receive_reasons p d here)) (cells tags : List ℕ) where
-    pub receive_down : (k ≡ 0 → ⊥) → leaving (answer k empty) b cells tags ≡ left_of (ruled (state_of b) receiving cells tags)
-    receive_down = down b f receiving cells tags k (e ∙ receive_is cells tags)
+  module _ (cells tags : List ℕ) where
+    pub receive_down : (r : Refusal) → number_of r ≡ first (receive_reasons p d here)
+        → leaving (answer (number_of r) empty) b cells tags ≡ left_of (ruled (state_of b) receiving cells tags)
+    receive_down r e = down b f receiving cells tags (number_of r) (e ∙ receive_is cells tags) (number_some r)
 
-    pub receive_done : k ≡ 0
-        → leaving (answer 0 here) (with_mails b (set b.words (8 * p + d) here.cell) (set b.marks (8 * p + d) (byte_of here.tag)) (set b.mail p 0) (set b.flags p 0)) cells tags
-        ≡ left_of (ruled (state_of b) receiving cells tags)
-    receive_done z = moved b f receiving cells tags k (e ∙ receive_is cells tags) p d here p empty here z (received_is cells tags)
+    pub receive_done : 0 ≡ first (receive_reasons p d here)
+        → (words marks : List ℕ) → words ≡ set b.words (8 * p + d) here.cell → marks ≡ set b.marks (8 * p + d) (byte_of here.tag)
+        → (none : Slot) → none ≡ empty → (mail flags : List ℕ) → mail ≡ set b.mail p none.cell → flags ≡ set b.flags p (byte_of none.tag)
+        → leaving (answer 0 here) (with_mails b words marks mail flags) cells tags ≡ left_of (ruled (state_of b) receiving cells tags)
+    receive_done e words marks ew em none en mail flags el ef =
+        rw (ew, em, el, ef, en) (moved b f receiving cells tags 0 (e ∙ receive_is cells tags) p d here p empty here refl (received_is cells tags))

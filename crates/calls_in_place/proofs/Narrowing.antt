@@ -2,10 +2,12 @@
 use Prim.Native.Nat.{ℕ, ◌+◌, ◌*◌}
 use mathlib.Core.Bool.{true}
 use mathlib.Core.List.{List}
-use mathlib.Core.Path.{◌≡◌, sym, ap, ◌∙◌}
+use mathlib.Core.Path.{◌≡◌, refl, sym, ap, ◌∙◌}
 use lib.ListN.{set}
 use Rattle.capabilities.specs.Capability.{narrowed}
-use Rattle.capabilities.specs.Refusals.{first}
+use Rattle.capabilities.specs.declared.refusal.Refusal.{Refusal}
+use Rattle.capabilities.specs.Refusals.{number_of, first}
+use Rattle.capabilities.proofs.Refusals.{number_some}
 use Rattle.calls.specs.declared.Call.{Call}
 use Rattle.calls.specs.declared.Call.TheVariants.{Narrow}
 use Rattle.words.specs.declared.Slot.{Slot}
@@ -36,13 +38,13 @@ module _ (b : Arrays) (f : Formed b) (p s off len mask d : ℕ) (from : Slot) (e
   unfolding effect
   effect_is cells tags = sym (ap (λ w. effect_of (state_of b).core (put_register p d (slot (narrowed w.cell off len mask) true)) keep_mailboxes keep_memory empty) from_is)
 
-  module _ (k : ℕ) (e : k ≡ first (narrow_reasons p s d from off len)) (cells tags : List ℕ) where
-    pub narrow_down : (k ≡ 0 → ⊥) → leaving (answer k empty) b cells tags ≡ left_of (ruled (state_of b) call cells tags)
-    narrow_down = down b f call cells tags k (e ∙ code_is cells tags)
+  module _ (cells tags : List ℕ) where
+    pub narrow_down : (r : Refusal) → number_of r ≡ first (narrow_reasons p s d from off len)
+        → leaving (answer (number_of r) empty) b cells tags ≡ left_of (ruled (state_of b) call cells tags)
+    narrow_down r e = down b f call cells tags (number_of r) (e ∙ code_is cells tags) (number_some r)
 
-    pub narrow_done : k ≡ 0 → (n : ℕ) → n ≡ narrowed from.cell off len mask
-        → leaving (answer 0 empty) (with_words b (set b.words (8 * p + d) n) (set b.marks (8 * p + d) 1)) cells tags
-        ≡ left_of (ruled (state_of b) call cells tags)
-    narrow_done z n x =
-        ap (λ (y : ℕ). leaving (answer 0 empty) (with_words b (set b.words (8 * p + d) y) (set b.marks (8 * p + d) 1)) cells tags) x
-        ∙ registered b f call cells tags k (e ∙ code_is cells tags) p d (slot (narrowed from.cell off len mask) true) empty z (effect_is cells tags)
+    pub narrow_done : 0 ≡ first (narrow_reasons p s d from off len) → (n : ℕ) → n ≡ narrowed from.cell off len mask
+        → (words marks : List ℕ) → words ≡ set b.words (8 * p + d) n → marks ≡ set b.marks (8 * p + d) 1
+        → leaving (answer 0 empty) (with_words b words marks) cells tags ≡ left_of (ruled (state_of b) call cells tags)
+    narrow_done e n x words marks ew em =
+        rw (ew, em, x) (registered b f call cells tags 0 (e ∙ code_is cells tags) p d (slot (narrowed from.cell off len mask) true) empty refl (effect_is cells tags))

@@ -1,14 +1,15 @@
 -- What stands in the arrays is what stands in the state read. Assumes nothing.
+use Rattle.std.specs.Prelude.{Option, Some, None, unwrap_or}
 use Prim.Native.Nat.{ℕ, ◌+◌, ◌*◌}
 use mathlib.Core.Bool.{◌&&◌}
 use mathlib.Core.List.{List, []}
-use mathlib.Core.Path.{◌≡◌, sym, ap, ◌∙◌}
+use mathlib.Core.Path.{◌≡◌, refl, sym, ap, ◌∙◌}
 use Rattle.capabilities.specs.Lists.{pick}
 use Rattle.capabilities.specs.Capability.{base_of}
 use Rattle.pages.specs.Mapping.{lookup_of}
 use Rattle.pages.proofs.OnNumbers as layer
 use Rattle.words.specs.declared.Slot.{Slot}
-use Rattle.words.specs.Words.{empty, named, register_of, mailbox_of, word_at}
+use Rattle.words.specs.Words.{empty, named, register_of, mailbox_of, word_at, place_number}
 use Rattle.words.specs.Lent.{register_in}
 use Rattle.words.proofs.Lent.{slots_get}
 use Rattle.machine.specs.Reasons.{addressed}
@@ -17,6 +18,11 @@ use Rattle.arrays.specs.declared.Numbers.{Numbers}
 use Rattle.arrays.specs.Reading.{core_of, state_of, Formed}
 use Rattle.arrays.proofs.Facts.{lengths}
 use Rattle.calls_in_place.specs.Parts.{lookup_in}
+
+-- The number of a place, or 0.
+pub unwrapped : (place : Option ℕ) → unwrap_or place 0 ≡ place_number place
+unwrapped (Some at) = refl
+unwrapped None = refl
 
 pub register_read : (a : Arrays) → Formed a → (p r : ℕ) → register_of (state_of a).registers p r ≡ register_in a.words a.marks p r
 unfolding register_of register_in state_of

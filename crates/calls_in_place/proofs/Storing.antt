@@ -1,12 +1,14 @@
 -- 0C in place. Assumes nothing.
+use Rattle.std.specs.Prelude.{Option, unwrap_or}
 use Prim.Native.Nat.{ℕ, ◌+◌}
 use mathlib.Core.Bool.{Bool, not}
 use mathlib.Core.List.{List, [], ◌∷◌}
-use mathlib.Core.Path.{◌≡◌, sym, ap, ◌∙◌}
+use mathlib.Core.Path.{◌≡◌, refl, sym, ap, ◌∙◌}
 use lib.ListN.{set}
 use Rattle.capabilities.specs.Capability.{base_of}
-use Rattle.capabilities.specs.Refusals.{first}
-use Rattle.pages.specs.declared.Place.{Place}
+use Rattle.capabilities.specs.declared.refusal.Refusal.{Refusal}
+use Rattle.capabilities.specs.Refusals.{number_of, first}
+use Rattle.capabilities.proofs.Refusals.{number_some}
 use Rattle.calls.specs.declared.Call.{Call}
 use Rattle.calls.specs.declared.Call.TheVariants.{Store}
 use Rattle.words.specs.declared.Slot.{Slot}
@@ -22,12 +24,12 @@ use Rattle.arrays.specs.Reading.{state_of, Formed}
 use Rattle.arrays.specs.Steps.{answer, leaving, left_of}
 use Rattle.arrays.proofs.Ruling.{down, written}
 use Rattle.calls_in_place.specs.Parts.{lookup_in, dies_in}
-use Rattle.calls_in_place.proofs.Reading.{register_read, addressed_by}
+use Rattle.calls_in_place.proofs.Reading.{register_read, addressed_by, unwrapped}
 use Rattle.calls_in_place.proofs.Cached.{dies_cached}
 
 module _ (b : Arrays) (f : Formed b) (n : Numbers) (pages words marks : List ℕ)
     (en : b.nums ≡ n) (ep : b.pages ≡ pages) (ew : b.words ≡ words) (em : b.marks ≡ marks)
-    (p a off s : ℕ) (to from : Slot) (place : Place)
+    (p a off s : ℕ) (to from : Slot) (place : Option ℕ)
     (e1 : to ≡ register_in words marks p a) (e2 : from ≡ register_in words marks p s) (e3 : place ≡ lookup_in n.v pages (base_of to.cell + off)) where
   abbrev call : Call
   call = Store p a off s
@@ -57,10 +59,14 @@ module _ (b : Arrays) (f : Formed b) (n : Numbers) (pages words marks : List ℕ
       sym (ap (λ w. effect_of (state_of b).core keep_registers keep_mailboxes (write_words (write (place_number place) w ∷ [])) empty) word_is
       ∙ ap (λ q. effect_of (state_of b).core keep_registers keep_mailboxes (write_words (write (place_number q) (stored (state_of b).core (register_of (state_of b).registers p s)) ∷ [])) empty) place_is)
 
-  module _ (k : ℕ) (e : k ≡ first (store_reasons p a s to from off place)) (cells tags : List ℕ) where
-    pub store_down : (k ≡ 0 → ⊥) → leaving (answer k empty) b cells tags ≡ left_of (ruled (state_of b) call cells tags)
-    store_down = down b f call cells tags k (e ∙ code_is cells tags)
+  module _ (cells tags : List ℕ) where
+    pub store_down : (r : Refusal) → number_of r ≡ first (store_reasons p a s to from off place)
+        → leaving (answer (number_of r) empty) b cells tags ≡ left_of (ruled (state_of b) call cells tags)
+    store_down r e = down b f call cells tags (number_of r) (e ∙ code_is cells tags) (number_some r)
 
-    pub store_done : k ≡ 0
-        → leaving (answer 0 empty) b (set cells (place_number place) word.cell) (set tags (place_number place) (byte_of word.tag)) ≡ left_of (ruled (state_of b) call cells tags)
-    store_done z = written b f call cells tags k (e ∙ code_is cells tags) (place_number place) word z (effect_is cells tags)
+    pub store_done : 0 ≡ first (store_reasons p a s to from off place) → (at : ℕ) → at ≡ unwrap_or place 0
+        → (dying : Bool) → dying ≡ dies_in n from.cell → (x : Slot) → x ≡ keep_tag from (not dying)
+        → (cells' tags' : List ℕ) → cells' ≡ set cells at x.cell → tags' ≡ set tags at (byte_of x.tag)
+        → leaving (answer 0 empty) b cells' tags' ≡ left_of (ruled (state_of b) call cells tags)
+    store_done e at ea dying ed x ex cells' tags' ec et =
+        rw (ec, et, ex, ed, ea, unwrapped place) (written b f call cells tags 0 (e ∙ code_is cells tags) (place_number place) word refl (effect_is cells tags))

@@ -1,6 +1,5 @@
 -- 01 to 04 and 11 in place: the numbers that the table's call leaves are what the rule's table is written as. Assumes nothing.
 use Prim.Native.Nat.{ℕ, ◌+◌, ◌*◌}
-use native.Mathlib.Omega.{arith}
 use mathlib.Core.Bool.{Bool, true, false, ◌||◌}
 use mathlib.Core.List.{List}
 use mathlib.Core.Path.{◌≡◌, refl, sym, ap, subst, ◌∙◌}
@@ -9,8 +8,10 @@ use lib.Dec.{eqb}
 use borrow.Author.Tests.{eqb-true, eqb-false, eq-eqb}
 use Rattle.capabilities.specs.Capability.{capability, permitted}
 use Rattle.capabilities.specs.Lists.{pick}
-use Rattle.capabilities.specs.Refusals.{first}
+use Rattle.capabilities.specs.Refusals.{first, number_of}
+use Rattle.capabilities.specs.declared.refusal.Refusal.{Refusal}
 use Rattle.capabilities.proofs.Choice.{pick_yes, pick_no}
+use Rattle.capabilities.proofs.Refusals.{number_some}
 use Rattle.table.specs.Table.{Table}
 use Rattle.table.specs.Table.{Tabled}
 use Rattle.table.specs.Rows.{live}
@@ -34,6 +35,7 @@ use Rattle.machine.proofs.Keeps.{facts}
 use Rattle.machine.proofs.Masking.{plain_ruled}
 use Rattle.table.specs.Numbers.{table_of, all_written}
 use Rattle.table.specs.Lent.{Leaves, fitting, tabled_of}
+use Rattle.table.specs.Numbered.{split_rule, merge_rule}
 use Rattle.table.proofs.RoundTrip.{kept_written, left_numbers}
 use Rattle.arrays.specs.declared.Arrays.{Arrays}
 use Rattle.arrays.specs.Reading.{core_of, state_of, arrays_of, Formed}
@@ -41,6 +43,7 @@ use Rattle.arrays.specs.Steps.{Leaving, answer, leaving, left_of, with_words, wi
 use Rattle.arrays.proofs.Facts.{lengths}
 use Rattle.arrays.proofs.Writing.{put_table}
 use Rattle.arrays.proofs.Ruling.{down, cored, core_registered}
+use Rattle.calls_in_place.proofs.Early.{Checked, known, unknown as unnamed_first}
 
 -- A call that 4 refuses or else a rule on the table judges; refused, the table stays, and the Revoking reservations always do.
 pub record Judges (s : State) (call : Call) (unknown : Bool) (rule : Tabled) : Type 0 where
@@ -52,16 +55,20 @@ own_written : (b : Arrays) → Formed b → all_written b.rows ≡ true
 unfolding arrays_of state_of core_of
 own_written b f = kept_written b.rows b.nums.count (ap (λ (a : Arrays). a.rows) f.kept)
 
-module _ (b : Arrays) (f : Formed b) (call : Call) (unknown : Bool) (rule : Tabled) (j : Judges (state_of b) call unknown rule) (cells tags : List ℕ) where
-  pub unknown_down : unknown ≡ true → leaving (answer 4 empty) b cells tags ≡ left_of (ruled (state_of b) call cells tags)
-  unknown_down e = down b f call cells tags 4 (sym (j.told cells tags ∙ pick_yes unknown 4 rule.code e)) (λ z. omega arith)
+-- So many rows are in use, which is what the arrays say.
+module _ (b : Arrays) (f : Formed b) (call : Call) (unknown : Bool) (rule : Tabled) (j : Judges (state_of b) call unknown rule) (count : ℕ) (ec : b.nums.count ≡ count) (cells tags : List ℕ) where
+  pub unknown_down : (r : Refusal) → Checked (number_of r) unknown
+      → leaving (answer (number_of r) empty) (with_table b (counted b.nums count) b.rows) cells tags ≡ left_of (ruled (state_of b) call cells tags)
+  unknown_down r e =
+      ap (λ k. leaving (answer (number_of r) empty) (with_table b (counted b.nums k) b.rows) cells tags) (sym ec)
+      ∙ down b f call cells tags (number_of r) (unnamed_first unknown r rule.code e ∙ sym (j.told cells tags)) (number_some r)
 
-  module _ (rows : List ℕ) (code n : ℕ) (d : Leaves b.rows rows code n rule) (known : unknown ≡ false) where
+  module _ (rows : List ℕ) (code n : ℕ) (d : Leaves b.rows rows code n rule) (passed : Checked 0 unknown) where
     abbrev new : Core
     new = coreTable (state_of b).core rule.table
 
     code_is : code ≡ first (reasons_on (state_of b) call cells tags)
-    code_is = d.answers ∙ sym (j.told cells tags ∙ pick_no unknown 4 rule.code known)
+    code_is = d.answers ∙ sym (j.told cells tags ∙ pick_no unknown 4 rule.code (known unknown passed))
 
     rows_are : with_table b (counted b.nums n) rows ≡ arrays_of (with_core (state_of b) new)
     rows_are =
@@ -130,80 +137,87 @@ module _ (b : Arrays) (f : Formed b) where
   give_judges p base to =
       record { told = λ cells tags. refl; kept = refused _ _ refl _ t; still = give_still (16 * (state_of b).core.pages.v) t sound p base to }
 
--- 11.
-module _ (b : Arrays) (f : Formed b) (count : ℕ) (ec : b.nums.count ≡ count) (p base reg mask : ℕ) (cells tags : List ℕ) where
-  abbrev took : Call
-  took = TakeMasked p base reg mask
+module _ (b : Arrays) (f : Formed b) (count : ℕ) (ec : b.nums.count ≡ count) (p base : ℕ) (cells tags : List ℕ) where
+  -- 11.
+  module _ (reg mask : ℕ) where
+    abbrev took : Call
+    took = TakeMasked p base reg mask
 
-  pub take_unknown : (unnamed p || unnamed reg) ≡ true → leaving (answer 4 empty) b cells tags ≡ left_of (ruled (state_of b) took cells tags)
-  take_unknown = unknown_down b f took _ _ (take_judges b f p base reg mask) cells tags
+    pub take_unknown : (r : Refusal) → Checked (number_of r) (unnamed p || unnamed reg)
+        → leaving (answer (number_of r) empty) (with_rows b b.rows) cells tags ≡ left_of (ruled (state_of b) took cells tags)
+    take_unknown r e =
+        ap (λ k. leaving (answer (number_of r) empty) (with_table b (counted b.nums k) b.rows) cells tags) ec
+        ∙ unknown_down b f took _ _ (take_judges b f p base reg mask) count ec cells tags r e
 
-  module _ (known : (unnamed p || unnamed reg) ≡ false) (rows : List ℕ) (code : ℕ) (d : Leaves b.rows rows code count (tabled_of (take_of (table_of b.rows count) p base))) where
-    own : Leaves b.rows rows code count (tabled_of (take_of (state_of b).core.table p base))
-    own = subst (λ u. Leaves b.rows rows code count (tabled_of (take_of u p base))) (table_is b f count ec) d
+    module _ (passed : Checked 0 (unnamed p || unnamed reg)) (rows : List ℕ) where
+      own : (code : ℕ) → Leaves b.rows rows code count (tabled_of (take_of (table_of b.rows count) p base)) → Leaves b.rows rows code count (tabled_of (take_of (state_of b).core.table p base))
+      own code d = subst (λ u. Leaves b.rows rows code count (tabled_of (take_of u p base))) (table_is b f count ec) d
 
-    pub take_down : (code ≡ 0 → ⊥) → leaving (answer code empty) (with_rows b rows) cells tags ≡ left_of (ruled (state_of b) took cells tags)
-    take_down h =
-        ap (λ k. leaving (answer code empty) (with_table b (counted b.nums k) rows) cells tags) ec
-        ∙ table_down b f took _ _ (take_judges b f p base reg mask) cells tags rows code count own known h
+      pub take_down : (r : Refusal) → Leaves b.rows rows (number_of r) count (tabled_of (take_of (table_of b.rows count) p base))
+          → leaving (answer (number_of r) empty) (with_rows b rows) cells tags ≡ left_of (ruled (state_of b) took cells tags)
+      take_down r d =
+          ap (λ k. leaving (answer (number_of r) empty) (with_table b (counted b.nums k) rows) cells tags) ec
+          ∙ table_down b f took _ _ (take_judges b f p base reg mask) count ec cells tags rows (number_of r) count (own (number_of r) d) passed (number_some r)
 
-    effect_is : effect_on (state_of b) took cells tags
-        ≡ effect_of (coreTable (state_of b).core (take_of (state_of b).core.table p base).table)
-        (put_register p reg (slot (capability base (take_of (state_of b).core.table p base).length (permitted mask)) true)) keep_mailboxes keep_memory (slot (take_of (state_of b).core.table p base).length false)
-    unfolding effect
-    effect_is = refl
+      effect_is : effect_on (state_of b) took cells tags
+          ≡ effect_of (coreTable (state_of b).core (take_of (state_of b).core.table p base).table)
+          (put_register p reg (slot (capability base (take_of (state_of b).core.table p base).length (permitted mask)) true)) keep_mailboxes keep_memory (slot (take_of (state_of b).core.table p base).length false)
+      unfolding effect
+      effect_is = refl
 
-    -- The arrays after a granted take of so many cells.
-    abbrev taken : ℕ → ℕ → Leaving
-    taken n len =
-        leaving (answer 0 (slot len false))
-        (with_words (with_table b (counted b.nums n) rows) (set b.words (8 * p + reg) (capability base len (permitted mask))) (set b.marks (8 * p + reg) (byte_of true))) cells tags
+      -- The arrays after a granted take of so many cells.
+      abbrev taken : ℕ → ℕ → Leaving
+      taken n len =
+          leaving (answer 0 (slot len false))
+          (with_words (with_table b (counted b.nums n) rows) (set b.words (8 * p + reg) (capability base len (permitted mask))) (set b.marks (8 * p + reg) (byte_of true))) cells tags
 
-    pub take_done : (len : ℕ) → len ≡ (take_of (table_of b.rows count) p base).length → code ≡ 0 → taken b.nums.count len ≡ left_of (ruled (state_of b) took cells tags)
-    take_done len e z =
-        let own-length = (take_of (state_of b).core.table p base).length in
-        ap (taken b.nums.count) (e ∙ ap (λ u. (take_of u p base).length) (table_is b f count ec)) ∙ ap (λ n. taken n own-length) ec
-        ∙ table_registered b f took _ _ (take_judges b f p base reg mask) cells tags rows code count own known p reg
-        (slot (capability base own-length (permitted mask)) true) (slot own-length false) z effect_is
+      pub take_done : (len : ℕ) → len ≡ (take_of (table_of b.rows count) p base).length → Leaves b.rows rows 0 count (tabled_of (take_of (table_of b.rows count) p base))
+          → taken b.nums.count len ≡ left_of (ruled (state_of b) took cells tags)
+      take_done len e d =
+          let own-length = (take_of (state_of b).core.table p base).length in
+          ap (taken b.nums.count) (e ∙ ap (λ u. (take_of u p base).length) (table_is b f count ec)) ∙ ap (λ n. taken n own-length) ec
+          ∙ table_registered b f took _ _ (take_judges b f p base reg mask) count ec cells tags rows 0 count (own 0 d) passed p reg
+          (slot (capability base own-length (permitted mask)) true) (slot own-length false) refl effect_is
+
+  -- 02, 03.
+  pub split_unknown : (len : ℕ) (r : Refusal) → Checked (number_of r) (unnamed p)
+      → leaving (answer (number_of r) empty) (with_table b (counted b.nums count) b.rows) cells tags ≡ left_of (ruled (state_of b) (Split p base len) cells tags)
+  split_unknown len = unknown_down b f (Split p base len) _ _ (split_judges b f p base len) count ec cells tags
+
+  pub split_judged : (len : ℕ) → Checked 0 (unnamed p) → (rows : List ℕ) (code n : ℕ) → Leaves b.rows rows code n (split_rule b.rows count p base len)
+      → leaving (answer code empty) (with_table b (counted b.nums n) rows) cells tags ≡ left_of (ruled (state_of b) (Split p base len) cells tags)
+  unfolding effect
+  split_judged len passed rows code n d =
+      table_judged b f (Split p base len) _ _ (split_judges b f p base len) count ec cells tags rows code n
+      (subst (Leaves b.rows rows code n) (fits b f count _ ∙ ap (λ u. split_of u p base len) (table_is b f count ec)) d) passed refl
+
+  pub merge_unknown : (r : Refusal) → Checked (number_of r) (unnamed p)
+      → leaving (answer (number_of r) empty) (with_table b (counted b.nums count) b.rows) cells tags ≡ left_of (ruled (state_of b) (Merge p base) cells tags)
+  merge_unknown = unknown_down b f (Merge p base) _ _ (merge_judges b f p base) count ec cells tags
+
+  pub merge_judged : Checked 0 (unnamed p) → (rows : List ℕ) (code n : ℕ) → Leaves b.rows rows code n (merge_rule b.rows count p base)
+      → leaving (answer code empty) (with_table b (counted b.nums n) rows) cells tags ≡ left_of (ruled (state_of b) (Merge p base) cells tags)
+  unfolding effect
+  merge_judged passed rows code n d =
+      table_judged b f (Merge p base) _ _ (merge_judges b f p base) count ec cells tags rows code n
+      (subst (Leaves b.rows rows code n) (fits b f count _ ∙ ap (λ u. merge_of u p base) (table_is b f count ec)) d) passed refl
+
+  -- 04.
+  pub give_unknown : (to : ℕ) (r : Refusal) → Checked (number_of r) (unnamed p || unnamed to)
+      → leaving (answer (number_of r) empty) (with_rows b b.rows) cells tags ≡ left_of (ruled (state_of b) (Give p base to) cells tags)
+  give_unknown to r e =
+      ap (λ k. leaving (answer (number_of r) empty) (with_table b (counted b.nums k) b.rows) cells tags) ec
+      ∙ unknown_down b f (Give p base to) _ _ (give_judges b f p base to) count ec cells tags r e
+
+  pub give_judged : (to : ℕ) → Checked 0 (unnamed p || unnamed to) → (rows : List ℕ) (code : ℕ) → Leaves b.rows rows code count (give_of (table_of b.rows count) p base to)
+      → leaving (answer code empty) (with_rows b rows) cells tags ≡ left_of (ruled (state_of b) (Give p base to) cells tags)
+  unfolding effect
+  give_judged to passed rows code d =
+      ap (λ k. leaving (answer code empty) (with_table b (counted b.nums k) rows) cells tags) ec
+      ∙ table_judged b f (Give p base to) _ _ (give_judges b f p base to) count ec cells tags rows code count
+      (subst (λ u. Leaves b.rows rows code count (give_of u p base to)) (table_is b f count ec) d) passed refl
 
 -- 01 is 11 with mask 3.
 pub take_plain : (s : State) (p base reg : ℕ) (cells tags : List ℕ) (x : Leaving) → x ≡ left_of (ruled s (TakeMasked p base reg 3) cells tags)
     → x ≡ left_of (ruled s (Take p base reg) cells tags)
 take_plain s p base reg cells tags x e = e ∙ ap left_of (plain_ruled s p base reg cells tags)
-
--- 02, 03.
-module _ (b : Arrays) (f : Formed b) (p base : ℕ) (cells tags : List ℕ) where
-  pub split_unknown : (len : ℕ) → unnamed p ≡ true → leaving (answer 4 empty) b cells tags ≡ left_of (ruled (state_of b) (Split p base len) cells tags)
-  split_unknown len = unknown_down b f (Split p base len) _ _ (split_judges b f p base len) cells tags
-
-  pub split_judged : (len : ℕ) → unnamed p ≡ false → (rows : List ℕ) (code n : ℕ)
-      → Leaves b.rows rows code n (fitting b.rows b.nums.count (split_of (table_of b.rows b.nums.count) p base len))
-      → leaving (answer code empty) (with_table b (counted b.nums n) rows) cells tags ≡ left_of (ruled (state_of b) (Split p base len) cells tags)
-  unfolding effect
-  split_judged len known rows code n d =
-      table_judged b f (Split p base len) _ _ (split_judges b f p base len) cells tags rows code n
-      (subst (Leaves b.rows rows code n) (fits b f b.nums.count _ ∙ ap (λ u. split_of u p base len) (table_is b f b.nums.count refl)) d) known refl
-
-  pub merge_unknown : unnamed p ≡ true → leaving (answer 4 empty) b cells tags ≡ left_of (ruled (state_of b) (Merge p base) cells tags)
-  merge_unknown = unknown_down b f (Merge p base) _ _ (merge_judges b f p base) cells tags
-
-  pub merge_judged : unnamed p ≡ false → (rows : List ℕ) (code n : ℕ)
-      → Leaves b.rows rows code n (fitting b.rows b.nums.count (merge_of (table_of b.rows b.nums.count) p base))
-      → leaving (answer code empty) (with_table b (counted b.nums n) rows) cells tags ≡ left_of (ruled (state_of b) (Merge p base) cells tags)
-  unfolding effect
-  merge_judged known rows code n d =
-      table_judged b f (Merge p base) _ _ (merge_judges b f p base) cells tags rows code n
-      (subst (Leaves b.rows rows code n) (fits b f b.nums.count _ ∙ ap (λ u. merge_of u p base) (table_is b f b.nums.count refl)) d) known refl
-
--- 04.
-module _ (b : Arrays) (f : Formed b) (count : ℕ) (ec : b.nums.count ≡ count) (p base to : ℕ) (cells tags : List ℕ) where
-  pub give_unknown : (unnamed p || unnamed to) ≡ true → leaving (answer 4 empty) b cells tags ≡ left_of (ruled (state_of b) (Give p base to) cells tags)
-  give_unknown = unknown_down b f (Give p base to) _ _ (give_judges b f p base to) cells tags
-
-  pub give_judged : (unnamed p || unnamed to) ≡ false → (rows : List ℕ) (code : ℕ) → Leaves b.rows rows code count (give_of (table_of b.rows count) p base to)
-      → leaving (answer code empty) (with_rows b rows) cells tags ≡ left_of (ruled (state_of b) (Give p base to) cells tags)
-  unfolding effect
-  give_judged known rows code d =
-      ap (λ k. leaving (answer code empty) (with_table b (counted b.nums k) rows) cells tags) ec
-      ∙ table_judged b f (Give p base to) _ _ (give_judges b f p base to) cells tags rows code count
-      (subst (λ u. Leaves b.rows rows code count (give_of u p base to)) (table_is b f count ec) d) known refl

@@ -1,21 +1,19 @@
 -- What stands in the arrays, entry by entry, and what a call on some of them promises. Assumes nothing.
-use Rattle.std.specs.Prelude.{ℕ, ◌*◌, Bool, List, [], ◌≡◌, length}
+use Rattle.std.specs.Prelude.{ℕ, ◌*◌, Bool, List, [], ◌≡◌, length, Option}
 use Rattle.capabilities.specs.declared.Range.{Range}
 use Rattle.capabilities.specs.Death.{dies}
-use Rattle.pages.specs.declared.Place.{Place}
 use Rattle.pages.specs.Mapping.{lookup_of}
 use Rattle.calls.specs.declared.Call.{Call}
 use Rattle.machine.specs.Step.{ruled}
 use Rattle.arrays.specs.declared.Arrays.{Arrays}
 use Rattle.arrays.specs.declared.Answer.{Answer}
 use Rattle.arrays.specs.declared.Numbers.{Numbers}
-use Rattle.calls_in_place.specs.declared.Stepped.{Stepped}
 use Rattle.pages.specs.Numbers.{layer_of}
 use Rattle.arrays.specs.Reading.{arrays, Formed, state_of}
-use Rattle.arrays.specs.Steps.{Does, leaving, left_of, with_words, with_rows, with_pages, with_mails, with_table, with_claims}
+use Rattle.arrays.specs.Steps.{Does, leaving, left_of, with_words, with_rows, with_pages, with_mails, with_table, with_claims, counted}
 
 -- The place of a virtual cell in lent memory; F and the frames do not matter.
-abbrev pub lookup_in : ℕ → List ℕ → ℕ → Place
+abbrev pub lookup_in : ℕ → List ℕ → ℕ → Option ℕ
 lookup_in v pages cell = lookup_of (layer_of v 0 pages []) cell
 
 -- The revoked range as the small numbers have it, empty where no revocation runs; and whether a capability dies with it.
@@ -54,14 +52,15 @@ OnFrames f r frames cells tags frames' cells' tags' c =
 abbrev pub OnRows : ℕ → Answer → List ℕ → List ℕ → Call → Type 0
 OnRows count r rows rows' c = (m : Arrays) → m.nums.count ≡ count → Does r (with_rows m rows) (with_rows m rows') c
 
--- One on the rows, the registers and the small numbers.
-abbrev pub OnRowsAndWords : Numbers → Stepped → List ℕ → List ℕ → List ℕ → List ℕ → List ℕ → List ℕ → Call → Type 0
-OnRowsAndWords n r rows words marks rows' words' marks' c =
-    (m : Arrays) → Does r.answer (with_table (with_words m words marks) n rows) (with_table (with_words m words' marks') r.nums rows') c
+-- One on the rows, of which so many are in use, and the registers.
+abbrev pub OnRowsAndWords : ℕ → Answer → List ℕ → List ℕ → List ℕ → List ℕ → List ℕ → List ℕ → Call → Type 0
+OnRowsAndWords count r rows words marks rows' words' marks' c =
+    (m : Arrays) → m.nums.count ≡ count → Does r (with_rows (with_words m words marks) rows) (with_rows (with_words m words' marks') rows') c
 
--- One on the rows and the small numbers.
-abbrev pub OnTable : Numbers → Stepped → List ℕ → List ℕ → Call → Type 0
-OnTable n r rows rows' c = (m : Arrays) → Does r.answer (with_table m n rows) (with_table m r.nums rows') c
+-- One on the rows and how many are in use.
+abbrev pub OnTable : ℕ → Answer → List ℕ → ℕ → List ℕ → Call → Type 0
+OnTable count r rows count' rows' c =
+    (m : Arrays) → m.nums.count ≡ count → Does r (with_rows m rows) (with_table m (counted m.nums count') rows') c
 
 -- One that reads the small numbers, pages and lent memory, and changes the registers.
 abbrev pub OnMemory : Numbers → List ℕ → Answer → List ℕ → List ℕ → List ℕ → List ℕ → List ℕ → List ℕ → Call → Type 0
@@ -85,21 +84,21 @@ abbrev pub around : Arrays → Numbers → List ℕ → List ℕ → Arrays
 around m n rows pages = arrays n m.words m.marks m.mail m.flags rows pages m.frames m.principals m.counts
 
 -- A call that changes the small numbers, rows and pages.
-abbrev pub OnRange : Numbers → Stepped → List ℕ → List ℕ → List ℕ → List ℕ → Call → Type 0
-OnRange n r rows pages rows' pages' c = (m : Arrays) → Does r.answer (around m n rows pages) (around m r.nums rows' pages') c
+abbrev pub OnRange : Numbers → Answer → Numbers → List ℕ → List ℕ → List ℕ → List ℕ → Call → Type 0
+OnRange n r n' rows pages rows' pages' c = (m : Arrays) → Does r (around m n rows pages) (around m n' rows' pages') c
 
 -- Arrays with other small numbers.
 abbrev pub with_numbers : Arrays → Numbers → Arrays
 with_numbers m n = arrays n m.words m.marks m.mail m.flags m.rows m.pages m.frames m.principals m.counts
 
 -- A call that reads frames and sweeps lent memory of the right size; of the arrays it changes the small numbers alone.
-abbrev pub OnSweep : Numbers → List ℕ → Stepped → List ℕ → List ℕ → List ℕ → Call → Type 0
-OnSweep n frames r cells tags tags' c =
+abbrev pub OnSweep : Numbers → List ℕ → Answer → Numbers → List ℕ → List ℕ → List ℕ → Call → Type 0
+OnSweep n frames r n' cells tags tags' c =
     (m : Arrays) → m.frames ≡ frames → length cells ≡ 16 * n.f → length tags ≡ 16 * n.f → Formed (with_numbers m n)
-    → leaving r.answer (with_numbers m r.nums) cells tags' ≡ left_of (ruled (state_of (with_numbers m n)) c cells tags)
+    → leaving r (with_numbers m n') cells tags' ≡ left_of (ruled (state_of (with_numbers m n)) c cells tags)
 
 -- A call that reads the registers' cells and changes all but these, the frames and the claims.
-abbrev pub OnCollect : Numbers → List ℕ → Stepped → List ℕ → List ℕ → List ℕ → List ℕ → List ℕ → List ℕ → List ℕ → List ℕ → List ℕ → List ℕ → Call → Type 0
-OnCollect n words r marks mail flags rows pages marks' mail' flags' rows' pages' c =
+abbrev pub OnCollect : Numbers → List ℕ → Answer → Numbers → List ℕ → List ℕ → List ℕ → List ℕ → List ℕ → List ℕ → List ℕ → List ℕ → List ℕ → List ℕ → Call → Type 0
+OnCollect n words r n' marks mail flags rows pages marks' mail' flags' rows' pages' c =
     (frames principals counts : List ℕ)
-    → Does r.answer (arrays n words marks mail flags rows pages frames principals counts) (arrays r.nums words marks' mail' flags' rows' pages' frames principals counts) c
+    → Does r (arrays n words marks mail flags rows pages frames principals counts) (arrays n' words marks' mail' flags' rows' pages' frames principals counts) c

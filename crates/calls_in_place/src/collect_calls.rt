@@ -1,19 +1,18 @@
 // 07: a revocation ends.
 ghost use Rattle.calls.specs.declared.Call.TheVariants.{Collect};
+ghost use Rattle.arrays.specs.Steps.{done};
 ghost use Rattle.calls_in_place.specs.Parts.{OnCollect};
 
-use crate::Stepped;
-use crate::word_calls::{coded, granted};
+use crate::revoked_range;
 use arrays::Numbers;
-use capabilities::Range;
-use capabilities::refusal::first;
-use words::codes::manager_code;
+use capabilities::refusal::Refusal;
+use words::codes::manager_check;
 use words::collecting::{collect_mail, collect_words};
-use words::empty;
 
 // 07. The revoked range is kept beside the table; afterwards none is.
+#[tactic(auto, using(crate::proofs::Collecting::collect_early, crate::proofs::Collecting::collect_down, crate::proofs::Collecting::collect_done))]
 pub fn collect(
-    mut nums: Numbers,
+    nums: &mut Numbers,
     rows: &mut [u64],
     pages: &mut [u16],
     words: &[u64],
@@ -21,26 +20,23 @@ pub fn collect(
     mail: &mut [u64],
     flags: &mut [u8],
     party: u8,
-) -> Stepped
-    ensures { OnCollect nums words.now result marks.old mail.old flags.old rows.old pages.old marks.new mail.new flags.new rows.new pages.new (Collect party) }
+) -> Result<(), Refusal>
+    ensures { OnCollect nums.old words.now (done result) nums.new marks.old mail.old flags.old rows.old pages.old marks.new mail.new flags.new rows.new pages.new (Collect party) }
 {
+    manager_check(party)?;
     let end = 16 * (nums.f as u32);
-    let none = nums.length == 0;
-    let code = manager_code(party, first(11, none | !(end <= nums.place), 0));
-    if code != 0 {
-        let answer = coded(code);
-        return Stepped { answer, nums };
+    if (nums.length == 0) | !(end <= nums.place) {
+        return Err(Refusal::Revocation);
     }
-    let range = Range {
-        base: nums.base,
-        length: nums.length,
-    };
+    let range = revoked_range(*nums);
     collect_words(range, words, marks);
     collect_mail(range, mail, flags);
     reservations::lent::collect(rows, nums.count, pages);
-    nums.base = 0;
-    nums.length = 0;
-    nums.place = 0;
-    let answer = granted(empty());
-    Stepped { answer, nums }
+    *nums = Numbers {
+        base: 0,
+        length: 0,
+        place: 0,
+        ..*nums
+    };
+    Ok(())
 }

@@ -1,8 +1,13 @@
 // The calls in place, over lent arrays of numbers: each kind of call is done by one function here. Whoever calls one knows that the
 // arrays are well formed; on others it answers too, and promises nothing, so none of these is an entry.
+// Each is lent the parts that it reads or changes and no more, not a whole `Machine`: its promise (`specs/Parts`) then holds whatever the rest is.
 #![tactic(auto)]
 
-use arrays::{Answer, Numbers};
+ghost use Rattle.std.specs.Prelude.{◌≡◌};
+ghost use Rattle.calls_in_place.specs.Parts.{range_in};
+
+use arrays::Numbers;
+use capabilities::Range;
 
 pub mod claim_calls;
 pub mod collect_calls;
@@ -12,9 +17,12 @@ pub mod sweep_calls;
 pub mod table_calls;
 pub mod word_calls;
 
-// What a call in place hands back: its answer, and the small numbers. The arrays are changed where they lie.
-#[derive(Clone, Copy)]
-pub struct Stepped {
-    pub answer: Answer,
-    pub nums: Numbers,
+// The range that is being revoked, which is empty where no revocation runs.
+fn revoked_range(nums: Numbers) -> Range
+    ensures { result ≡ range_in nums }
+{
+    Range {
+        base: nums.base,
+        length: nums.length,
+    }
 }

@@ -1,37 +1,36 @@
 // 05: a revocation begins.
 ghost use Rattle.calls.specs.declared.Call.TheVariants.{Revoke};
+ghost use Rattle.arrays.specs.Steps.{done};
 ghost use Rattle.calls_in_place.specs.Parts.{OnRange};
 
-use crate::Stepped;
-use crate::word_calls::{coded, granted};
 use arrays::Numbers;
-use reservations::lent::revoke_code;
-use table::find::find;
-use words::codes::manager_code;
-use words::empty;
+use capabilities::refusal::Refusal;
+use reservations::lent::check_revoke;
+use table::LentRows;
+use words::codes::manager_check;
 
 // 05. A revocation runs if the range that is kept is not empty.
+#[tactic(auto, using(crate::proofs::Revoking::revoke_early, crate::proofs::Revoking::revoke_down, crate::proofs::Revoking::revoke_done))]
 pub fn revoke(
-    mut nums: Numbers,
+    nums: &mut Numbers,
     rows: &mut [u64],
     pages: &mut [u16],
     party: u8,
     base: u16,
-) -> Stepped
-    ensures { OnRange nums result rows.old pages.old rows.new pages.new (Revoke party base) }
+) -> Result<(), Refusal>
+    ensures { OnRange nums.old (done result) nums.new rows.old pages.old rows.new pages.new (Revoke party base) }
 {
+    manager_check(party)?;
     let count = nums.count;
-    let found = find(rows, count, party, base);
-    let runs = !(nums.length == 0);
-    let code = manager_code(party, revoke_code(rows, count, pages, found, runs));
-    if code != 0 {
-        let answer = coded(code);
-        return Stepped { answer, nums };
-    }
+    let table = LentRows { rows, count };
+    let found = table.find(party, base);
+    check_revoke(table, pages, found, nums.length != 0)?;
     let range = reservations::lent::revoke(rows, count, pages, found);
-    nums.base = range.base;
-    nums.length = range.length;
-    nums.place = 0;
-    let answer = granted(empty());
-    Stepped { answer, nums }
+    *nums = Numbers {
+        base: range.base,
+        length: range.length,
+        place: 0,
+        ..*nums
+    };
+    Ok(())
 }

@@ -1,22 +1,36 @@
 // Calls 01 to 04 and 11, on the reservation table. Refusal 4 is judged here, the others by the table's own calls.
 ghost use Rattle.std.specs.Prelude.{◌≡◌};
+ghost use Rattle.capabilities.specs.Lists.{pick};
+ghost use Rattle.capabilities.specs.Refusals.{code};
+ghost use Rattle.words.specs.WordReasons.{unnamed};
 ghost use Rattle.calls.specs.declared.Call.TheVariants.{Split, Merge, Give, TakeMasked};
+ghost use Rattle.arrays.specs.Steps.{told, done};
 ghost use Rattle.calls_in_place.specs.Parts.{OnRows, OnTable, OnRowsAndWords};
 
-use crate::Stepped;
-use crate::word_calls::{coded, granted};
-use arrays::{Answer, Numbers};
+use crate::word_calls::put_register;
 use capabilities::capability::{capability, permitted};
+use capabilities::refusal::Refusal;
 use table::{operations, rows};
 use words::Slot;
-use words::registers::put_word;
 
 // The mask with which 11 is 01.
 pub const PLAIN: u8 = 3;
 
+// A party's or a register's number is below 8.
+pub(crate) fn known(number: u8) -> Result<(), Refusal>
+    ensures { code result ≡ pick (unnamed number) 4 0 }
+{
+    if number >= 8 {
+        return Err(Refusal::Unnamed);
+    }
+    Ok(())
+}
+
 // 11, and by the mask PLAIN 01: the register gets a capability for what was taken, and the length is answered.
+#[tactic(auto, using(crate::proofs::Tabling::take_unknown, crate::proofs::Early::first_unknown, crate::proofs::Early::second_unknown))]
+#[inline(always)]
 pub fn take(
-    nums: Numbers,
+    count: usize,
     rows: &mut [u64],
     words: &mut [u64],
     marks: &mut [u8],
@@ -24,67 +38,57 @@ pub fn take(
     base: u16,
     reg: u8,
     mask: u8,
-) -> Stepped
-    ensures { OnRowsAndWords nums result rows.old words.old marks.old rows.new words.new marks.new (TakeMasked party base reg mask) }
+) -> Result<Slot, Refusal>
+    ensures { OnRowsAndWords count (told result) rows.old words.old marks.old rows.new words.new marks.new (TakeMasked party base reg mask) }
 {
-    if !(party < 8) | !(reg < 8) {
-        let answer = coded(4);
-        return Stepped { answer, nums };
-    }
-    let taken = operations::take(rows, nums.count, party, base);
-    if taken.code != 0 {
-        let answer = coded(taken.code);
-        return Stepped { answer, nums };
-    }
-    let at = 8 * (party as usize) + reg as usize;
+    known(party)?;
+    known(reg)?;
+    let length = operations::take(rows, count, party, base)?;
     let word = Slot {
-        cell: capability(base, taken.length, permitted(mask)),
+        cell: capability(base, length, permitted(mask)),
         tag: true,
     };
-    put_word(words, marks, at, word);
-    let number = taken.length as u64;
-    let length = Slot {
-        cell: number,
+    put_register(words, marks, party, reg, word);
+    Ok(Slot {
+        cell: length as u64,
         tag: false,
-    };
-    let answer = granted(length);
-    Stepped { answer, nums }
+    })
 }
 
 // 02.
-pub fn split(mut nums: Numbers, rows: &mut [u64], party: u8, base: u16, len: u16) -> Stepped
-    ensures { OnTable nums result rows.old rows.new (Split party base len) }
+#[tactic(auto, using(crate::proofs::Tabling::split_unknown))]
+pub fn split(
+    count: &mut usize,
+    rows: &mut [u64],
+    party: u8,
+    base: u16,
+    len: u16,
+) -> Result<(), Refusal>
+    ensures { OnTable count.old (done result) rows.old count.new rows.new (Split party base len) }
 {
-    if !(party < 8) {
-        let answer = coded(4);
-        return Stepped { answer, nums };
-    }
-    let moved = rows::split(rows, nums.count, party, base, len);
-    nums.count = moved.count;
-    let answer = coded(moved.code);
-    Stepped { answer, nums }
+    known(party)?;
+    let moved = rows::split(rows, *count, party, base, len)?;
+    *count = moved.count;
+    Ok(())
 }
 
 // 03.
-pub fn merge(mut nums: Numbers, rows: &mut [u64], party: u8, base: u16) -> Stepped
-    ensures { OnTable nums result rows.old rows.new (Merge party base) }
+#[tactic(auto, using(crate::proofs::Tabling::merge_unknown))]
+pub fn merge(count: &mut usize, rows: &mut [u64], party: u8, base: u16) -> Result<(), Refusal>
+    ensures { OnTable count.old (done result) rows.old count.new rows.new (Merge party base) }
 {
-    if !(party < 8) {
-        let answer = coded(4);
-        return Stepped { answer, nums };
-    }
-    let moved = rows::merge(rows, nums.count, party, base);
-    nums.count = moved.count;
-    let answer = coded(moved.code);
-    Stepped { answer, nums }
+    known(party)?;
+    let moved = rows::merge(rows, *count, party, base)?;
+    *count = moved.count;
+    Ok(())
 }
 
 // 04.
-pub fn give(count: usize, rows: &mut [u64], party: u8, base: u16, to: u8) -> Answer
-    ensures { OnRows count result rows.old rows.new (Give party base to) }
+#[tactic(auto, using(crate::proofs::Tabling::give_unknown, crate::proofs::Early::first_unknown, crate::proofs::Early::second_unknown))]
+pub fn give(count: usize, rows: &mut [u64], party: u8, base: u16, to: u8) -> Result<(), Refusal>
+    ensures { OnRows count (done result) rows.old rows.new (Give party base to) }
 {
-    if !(party < 8) | !(to < 8) {
-        return coded(4);
-    }
-    coded(operations::give(rows, count, party, base, to))
+    known(party)?;
+    known(to)?;
+    operations::give(rows, count, party, base, to)
 }

@@ -1,70 +1,68 @@
 // Calls on registers, mailboxes and single words of lent memory.
-ghost use Rattle.std.specs.Prelude.{◌≡◌};
-ghost use Rattle.words.specs.Words.{empty};
+ghost use Rattle.std.specs.Prelude.{◌+◌, ◌*◌, ◌≡◌, set};
+ghost use Rattle.capabilities.specs.Capability.{base_of};
+ghost use Rattle.words.specs.Words.{byte_of};
 ghost use Rattle.calls.specs.declared.Call.TheVariants.{Load, Store, Narrow, Number, Grant, Receive};
-ghost use Rattle.arrays.specs.Steps.{answer};
-ghost use Rattle.calls_in_place.specs.Parts.{OnWords, OnMemory, OnStore, OnMail, dies_in};
+ghost use Rattle.arrays.specs.Steps.{told, done};
+ghost use Rattle.calls_in_place.specs.Parts.{OnWords, OnMemory, OnStore, OnMail, dies_in, lookup_in};
 
-use crate::page_calls::lookup;
-use arrays::{Answer, Numbers};
-use capabilities::Range;
+use crate::revoked_range;
+use arrays::Numbers;
 use capabilities::capability::{base_of, narrowed};
-use capabilities::refusal::first;
-use words::codes::{grant_code, load_code, narrow_code, receive_code, store_code};
-use words::memory::{place_number, word_at};
+use capabilities::refusal::Refusal;
+use pages::lent::lookup;
+use words::codes::{grant_check, load_check, narrow_check, receive_check, store_check};
+use words::memory::word_at;
 use words::registers::{put_word, register_in};
 use words::{Slot, empty, loaded, stored};
 
-// The answer of a call that names no word: 0, or the refusal's number.
-pub fn coded(code: u8) -> Answer
-    ensures { result ≡ answer code empty }
+// A party's register gets a word.
+pub(crate) fn put_register(words: &mut [u64], marks: &mut [u8], party: u8, reg: u8, word: Slot)
+    ensures words_after { words.new ≡ set words.old (8 * party + reg) word.cell }
+    ensures marks_after { marks.new ≡ set marks.old (8 * party + reg) (byte_of word.tag) }
 {
-    Answer {
-        code,
-        number: 0,
-        tag: false,
-    }
+    let at = 8 * (party as usize) + reg as usize;
+    put_word(words, marks, at, word);
 }
 
-pub fn granted(word: Slot) -> Answer
-    ensures { result ≡ answer 0 word }
+// 0E: a register gets a number.
+#[tactic(auto, using(crate::proofs::Numbering::number_down, crate::proofs::Numbering::number_done))]
+pub fn number(
+    words: &mut [u64],
+    marks: &mut [u8],
+    party: u8,
+    d: u8,
+    value: u64,
+) -> Result<(), Refusal>
+    ensures { OnWords (done result) words.old marks.old words.new marks.new (Number party d value) }
 {
-    Answer {
-        code: 0,
-        number: word.cell,
-        tag: word.tag,
+    if !(party < 8) | !(d < 8) {
+        return Err(Refusal::Unnamed);
     }
-}
-
-// 0E.
-pub fn number(words: &mut [u64], marks: &mut [u8], party: u8, d: u8, value: u64) -> Answer
-    ensures { OnWords result words.old marks.old words.new marks.new (Number party d value) }
-{
-    let code = first(4, !(party < 8) | !(d < 8), 0);
-    if code != 0 {
-        return coded(code);
-    }
-    let at = 8 * (party as usize) + d as usize;
     let word = Slot {
         cell: value,
         tag: false,
     };
-    put_word(words, marks, at, word);
-    granted(empty())
+    put_register(words, marks, party, d, word);
+    Ok(())
 }
 
-// Whether a capability dies with the range of the small numbers, the revoked one, which is empty where no revocation runs.
+// Whether a capability dies with the revocation that runs, if one does.
 fn dies(nums: Numbers, cell: u64) -> bool
     ensures { result ≡ dies_in nums cell }
 {
-    let range = Range {
-        base: nums.base,
-        length: nums.length,
-    };
-    capabilities::death::dies(range, cell)
+    capabilities::death::dies(revoked_range(nums), cell)
 }
 
-// 0B.
+// The place of lent memory that a word addresses at an offset.
+fn addressed(nums: Numbers, pages: &[u16], word: Slot, off: u16) -> Option<usize>
+    ensures { result ≡ lookup_in nums.v pages.now (base_of word.cell + off) }
+{
+    lookup(nums.v, pages, base_of(word.cell) as u32 + off as u32)
+}
+
+// 0B: a register gets the word that another addresses.
+#[tactic(auto, using(crate::proofs::Loading::load_down, crate::proofs::Loading::load_done))]
 pub fn load(
     words: &mut [u64],
     marks: &mut [u8],
@@ -76,23 +74,20 @@ pub fn load(
     d: u8,
     cells: &[u64],
     tags: &[u8],
-) -> Answer
-    ensures { OnMemory nums pages.now result words.old marks.old words.new marks.new cells.now tags.now (Load party a off d) }
+) -> Result<Slot, Refusal>
+    ensures { OnMemory nums pages.now (told result) words.old marks.old words.new marks.new cells.now tags.now (Load party a off d) }
 {
     let from = register_in(words, marks, party, a);
-    let place = lookup(nums.v, pages, base_of(from.cell) as u32 + off as u32);
-    let code = load_code(party, a, d, from, off, place);
-    if code != 0 {
-        return coded(code);
-    }
-    let fetched = word_at(cells, tags, place_number(place));
+    let place = addressed(nums, pages, from, off);
+    load_check(party, a, d, from, off, place)?;
+    let fetched = word_at(cells, tags, place.unwrap_or(0));
     let word = loaded(from, fetched, dies(nums, fetched.cell));
-    let at = 8 * (party as usize) + d as usize;
-    put_word(words, marks, at, word);
-    granted(word)
+    put_register(words, marks, party, d, word);
+    Ok(word)
 }
 
-// 0C.
+// 0C: the word in a register is written where another addresses.
+#[tactic(auto, using(crate::proofs::Storing::store_down, crate::proofs::Storing::store_done))]
 pub fn store(
     words: &[u64],
     marks: &[u8],
@@ -104,26 +99,20 @@ pub fn store(
     s: u8,
     cells: &mut [u64],
     tags: &mut [u8],
-) -> Answer
-    ensures { OnStore nums pages.now words.now marks.now result cells.old tags.old cells.new tags.new (Store party a off s) }
+) -> Result<(), Refusal>
+    ensures { OnStore nums pages.now words.now marks.now (done result) cells.old tags.old cells.new tags.new (Store party a off s) }
 {
     let to = register_in(words, marks, party, a);
     let from = register_in(words, marks, party, s);
-    let place = lookup(nums.v, pages, base_of(to.cell) as u32 + off as u32);
-    let code = store_code(party, a, s, to, from, off, place);
-    if code != 0 {
-        return coded(code);
-    }
-    put_word(
-        cells,
-        tags,
-        place_number(place),
-        stored(from, dies(nums, from.cell)),
-    );
-    granted(empty())
+    let place = addressed(nums, pages, to, off);
+    store_check(party, a, s, to, from, off, place)?;
+    let word = stored(from, dies(nums, from.cell));
+    put_word(cells, tags, place.unwrap_or(0), word);
+    Ok(())
 }
 
-// 0D.
+// 0D: a register gets a part of the capability in another.
+#[tactic(auto, using(crate::proofs::Narrowing::narrow_down, crate::proofs::Narrowing::narrow_done))]
 pub fn narrow(
     words: &mut [u64],
     marks: &mut [u8],
@@ -133,24 +122,21 @@ pub fn narrow(
     len: u16,
     mask: u8,
     d: u8,
-) -> Answer
-    ensures { OnWords result words.old marks.old words.new marks.new (Narrow party s off len mask d) }
+) -> Result<(), Refusal>
+    ensures { OnWords (done result) words.old marks.old words.new marks.new (Narrow party s off len mask d) }
 {
     let from = register_in(words, marks, party, s);
-    let code = narrow_code(party, s, d, from, off, len);
-    if code != 0 {
-        return coded(code);
-    }
-    let at = 8 * (party as usize) + d as usize;
+    narrow_check(party, s, d, from, off, len)?;
     let word = Slot {
         cell: narrowed(from.cell, off, len, mask),
         tag: true,
     };
-    put_word(words, marks, at, word);
-    granted(empty())
+    put_register(words, marks, party, d, word);
+    Ok(())
 }
 
-// 0F.
+// 0F: a mailbox that is empty gets the capability in a register.
+#[tactic(auto, using(crate::proofs::Mailing::grant_down, crate::proofs::Mailing::grant_done))]
 pub fn grant(
     words: &[u64],
     marks: &[u8],
@@ -159,20 +145,18 @@ pub fn grant(
     party: u8,
     s: u8,
     to: u8,
-) -> Answer
-    ensures { OnMail result words.now marks.now mail.old flags.old words.now marks.now mail.new flags.new (Grant party s to) }
+) -> Result<(), Refusal>
+    ensures { OnMail (done result) words.now marks.now mail.old flags.old words.now marks.now mail.new flags.new (Grant party s to) }
 {
     let from = register_in(words, marks, party, s);
     let here = word_at(mail, flags, to as usize);
-    let code = grant_code(party, s, to, from, here);
-    if code != 0 {
-        return coded(code);
-    }
+    grant_check(party, s, to, from, here)?;
     put_word(mail, flags, to as usize, from);
-    granted(empty())
+    Ok(())
 }
 
-// 10.
+// 10: a register gets the capability in the mailbox, which is then empty.
+#[tactic(auto, using(crate::proofs::Mailing::receive_down, crate::proofs::Mailing::receive_done))]
 pub fn receive(
     words: &mut [u64],
     marks: &mut [u8],
@@ -180,16 +164,12 @@ pub fn receive(
     flags: &mut [u8],
     party: u8,
     d: u8,
-) -> Answer
-    ensures { OnMail result words.old marks.old mail.old flags.old words.new marks.new mail.new flags.new (Receive party d) }
+) -> Result<Slot, Refusal>
+    ensures { OnMail (told result) words.old marks.old mail.old flags.old words.new marks.new mail.new flags.new (Receive party d) }
 {
     let here = word_at(mail, flags, party as usize);
-    let code = receive_code(party, d, here);
-    if code != 0 {
-        return coded(code);
-    }
-    let at = 8 * (party as usize) + d as usize;
-    put_word(words, marks, at, here);
+    receive_check(party, d, here)?;
+    put_register(words, marks, party, d, here);
     put_word(mail, flags, party as usize, empty());
-    granted(here)
+    Ok(here)
 }

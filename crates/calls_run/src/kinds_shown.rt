@@ -1,32 +1,61 @@
 // Made by tools/kinds from the enum of calls: not to be changed here.
-use crate::show::shown;
 use calls::Call;
-use std::io;
+use std::fmt;
 
-// A call's word and its operands, in the order of their bytes. In the last arm only the last command is left.
-pub(crate) fn call(rt: &impl Print, c: Call) -> io::Result<()> {
-    let numbers = operands::numbers_of(c);
-    match numbers[0] {
-        1 => shown(rt, b"take", &numbers[1..4]),
-        2 => shown(rt, b"split", &numbers[1..4]),
-        3 => shown(rt, b"merge", &numbers[1..3]),
-        4 => shown(rt, b"give", &numbers[1..4]),
-        5 => shown(rt, b"revoke", &numbers[1..3]),
-        6 => shown(rt, b"sweep", &numbers[1..3]),
-        7 => shown(rt, b"collect", &numbers[1..2]),
-        8 => shown(rt, b"map", &numbers[1..4]),
-        9 => shown(rt, b"unmap", &numbers[1..3]),
-        10 => shown(rt, b"zero", &numbers[1..3]),
-        11 => shown(rt, b"load", &numbers[1..5]),
-        12 => shown(rt, b"store", &numbers[1..5]),
-        13 => shown(rt, b"narrow", &numbers[1..7]),
-        14 => shown(rt, b"number", &numbers[1..4]),
-        15 => shown(rt, b"grant", &numbers[1..4]),
-        16 => shown(rt, b"receive", &numbers[1..3]),
-        17 => shown(rt, b"take", &numbers[1..5]),
-        18 => shown(rt, b"create", &numbers[1..6]),
-        19 => shown(rt, b"claim", &numbers[1..4]),
-        20 => shown(rt, b"release", &numbers[1..4]),
-        _ => shown(rt, b"destroy", &numbers[1..3]),
+// A call as its word and its operands, in the order of their bytes.
+#[derive(Clone, Copy)]
+pub(crate) struct Shown(pub Call);
+
+impl fmt::Display for Shown {
+    fn fmt<W: fmt::Write>(&self, f: &mut fmt::Formatter<W>) -> fmt::Result {
+        match self.0 {
+            Call::Take { party, base, reg } => write!(f, "take {party} {base} {reg}"),
+            Call::Split { party, base, len } => write!(f, "split {party} {base} {len}"),
+            Call::Merge { party, base } => write!(f, "merge {party} {base}"),
+            Call::Give { party, base, to } => write!(f, "give {party} {base} {to}"),
+            Call::Revoke { party, base } => write!(f, "revoke {party} {base}"),
+            Call::Sweep { party, n } => write!(f, "sweep {party} {n}"),
+            Call::Collect { party } => write!(f, "collect {party}"),
+            Call::Map { party, page, frame } => write!(f, "map {party} {} {}", page.0, frame.0),
+            Call::Unmap { party, page } => write!(f, "unmap {party} {}", page.0),
+            Call::Zero { party, frame } => write!(f, "zero {party} {}", frame.0),
+            Call::Load { party, a, off, d } => write!(f, "load {party} {a} {off} {d}"),
+            Call::Store { party, a, off, s } => write!(f, "store {party} {a} {off} {s}"),
+            Call::Narrow {
+                party,
+                s,
+                off,
+                len,
+                mask,
+                d,
+            } => write!(f, "narrow {party} {s} {off} {len} {mask} {d}"),
+            Call::Number { party, d, value } => write!(f, "number {party} {d} {value}"),
+            Call::Grant { party, s, to } => write!(f, "grant {party} {s} {to}"),
+            Call::Receive { party, d } => write!(f, "receive {party} {d}"),
+            Call::TakeMasked {
+                party,
+                base,
+                reg,
+                mask,
+            } => write!(f, "take {party} {base} {reg} {mask}"),
+            Call::Create {
+                party,
+                parent,
+                child,
+                limit,
+                holder,
+            } => write!(f, "create {party} {parent} {child} {limit} {holder}"),
+            Call::Claim {
+                party,
+                principal,
+                page,
+            } => write!(f, "claim {party} {principal} {}", page.0),
+            Call::Release {
+                party,
+                principal,
+                page,
+            } => write!(f, "release {party} {principal} {}", page.0),
+            Call::Destroy { party, principal } => write!(f, "destroy {party} {principal}"),
+        }
     }
 }

@@ -6,9 +6,9 @@
 ghost use Rattle.std.specs.Prelude.{◌≤◌, IfOk, length};
 
 mod kinds_shown;
-mod show;
 
-use calls::{Call, Reading, Written};
+use calls::Call;
+use kinds_shown::Shown;
 use std::io;
 use std::io::Read;
 
@@ -18,105 +18,66 @@ const INPUT: usize = 4096;
 // What the lent buffers hold before, so that a byte that is kept shows.
 const KEPT: u8 = 0xEE;
 
-fn reading_code(reading: Reading) -> u8 {
-    match reading {
-        Reading::Read { call: _, used: _ } => 0,
-        Reading::Refused => 3,
-    }
-}
-
-fn writing_code(written: Written) -> u8 {
-    match written {
-        Written::Wrote { len: _ } => 0,
-        Written::TooShort => 3,
-    }
+// 0, or refusal 3 where nothing was read or written.
+fn code<T: Drop>(done: Option<T>) -> u8 {
+    if done.is_some() { 0 } else { 3 }
 }
 
 // The code of reading `len` bytes from a place on; 9 where there are fewer.
 fn cut_code(input: &[u8], at: usize, len: usize) -> u8 {
-    if input.len() < at {
-        return 9;
-    }
-    if input.len() - at < len {
-        return 9;
-    }
-    reading_code(calls::read_call(&input[at..at + len]))
-}
-
-fn all_kept(buffer: &[u8]) -> bool {
-    let mut i = 0;
-    while i < buffer.len() {
-        if buffer[i] != KEPT {
-            return false;
-        }
-        i += 1;
-    }
-    true
+    let rest = input.get(at..).unwrap_or(&[]);
+    rest.get(..len)
+        .map_or(9, |part| code(calls::read_call(part)))
 }
 
 // The code of writing to the first `len` bytes of a buffer; 9 where there are fewer.
 fn part_code(call: Call, out: &mut [u8], len: usize) -> u8 {
-    if out.len() < len {
-        return 9;
-    }
-    writing_code(calls::write_call(call, &mut out[0..len]))
+    out.get_mut(..len)
+        .map_or(9, |part| code(calls::write_call(call, part)))
 }
 
 // The code of writing to a buffer of `len` bytes; 9 where a byte of it changed.
 fn short_code(call: Call, len: usize) -> u8 {
     let mut buffer = [KEPT; 12];
     let code = part_code(call, &mut buffer, len);
-    if all_kept(&buffer) { code } else { 9 }
+    if buffer == [KEPT; 12] { code } else { 9 }
 }
 
 // Two codes for each length below a call's own: of reading that many bytes, and of writing to a buffer of as many.
 fn show_cut(rt: &impl Print, input: &[u8], at: usize, call: Call, used: usize) -> io::Result<()> {
-    let mut len = 0;
-    while len < used {
+    for len in 0..used {
         let cut = cut_code(input, at, len);
         let short = short_code(call, len);
         print!(rt; "{cut}{short}")?;
-        len += 1;
     }
     Ok(())
 }
 
 fn show_written(rt: &impl Print, call: Call) -> io::Result<()> {
     let mut buffer = [KEPT; 12];
-    let code = writing_code(calls::write_call(call, &mut buffer));
-    show::number(rt, code as u64)?;
-    show::space(rt)?;
-    show::hex(rt, &buffer)
+    let code = code(calls::write_call(call, &mut buffer));
+    print!(rt; " {code} ")?;
+    for byte in buffer {
+        print!(rt; "{byte:02x}")?;
+    }
+    Ok(())
 }
 
 fn show_at(rt: &impl Print, input: &[u8], at: usize) -> io::Result<()> {
-    print!(rt; "{at}")?;
     match calls::read_at(input, at) {
-        Reading::Refused => show::number(rt, 3)?,
-        Reading::Read { call, used } => {
-            show::space(rt)?;
-            kinds_shown::call(rt, call)?;
-            show::number(rt, used as u64)?;
+        None => println!(rt; "{at} 3"),
+        Some((call, used)) => {
+            print!(rt; "{at} {} {used}", Shown(call))?;
             show_written(rt, call)?;
-            show::space(rt)?;
+            print!(rt; " ")?;
             show_cut(rt, input, at, call, used)?;
+            println!(rt;)
         }
     }
-    show::line_end(rt)
 }
 
-// Every place of the input, its end and one past it.
-fn show_all(rt: &impl Print, input: &[u8]) -> io::Result<()> {
-    let mut at = 0;
-    while at < input.len() {
-        show_at(rt, input, at)?;
-        at += 1;
-    }
-    show_at(rt, input, at)?;
-    show_at(rt, input, at + 1)
-}
-
-// Reads, in pieces as they come, until the buffer is full or the input ends, and answers how many bytes came.
+// Reads, in pieces as they come, until the buffer is full or the input ends, and answers how many bytes came. A loop by hand, since
+// `read_to_end` needs a heap.
 fn read_full(reader: &mut impl Read, buf: &mut [u8]) -> io::Result<usize>
     ensures { IfOk result (λ n. n ≤ length buf.new) }
 {
@@ -131,8 +92,12 @@ fn read_full(reader: &mut impl Read, buf: &mut [u8]) -> io::Result<usize>
     Ok(len)
 }
 
+// Every place of the input, its end and one past it.
 fn main(rt: HostRuntime) -> io::Result<()> {
     let mut input = [0; INPUT];
     let len = read_full(&mut rt.reader(), &mut input)?;
-    show_all(&rt, &input[..len])
+    for at in 0..len + 2 {
+        show_at(&rt, &input[..len], at)?;
+    }
+    Ok(())
 }

@@ -2,6 +2,8 @@
 -- in cells, 32 to 39 its permissions. The rest are 0 in those the machine makes." Assumes nothing.
 use Rattle.std.specs.Prelude.{ℕ, ◌+◌, ◌*◌, ◌/◌, ◌%◌, Bool, eqb}
 use Rattle.std.specs.Int.Bits.{bit_and}
+use Rattle.capabilities.specs.declared.capability.Permission.{Permission}
+use Rattle.capabilities.specs.declared.capability.Permission.TheVariants.{Load, Store, LoadCapability, StoreCapability}
 
 abbrev pub base_of : ℕ → ℕ
 base_of c = c % 65536
@@ -13,6 +15,12 @@ abbrev pub permissions_of : ℕ → ℕ
 permissions_of c = c / 4294967296 % 256
 
 -- "Permission 1 is load, 2 store, 4 load capability, 8 store capability."
+abbrev pub bit_of : Permission → ℕ
+bit_of Load = 1
+bit_of Store = 2
+bit_of LoadCapability = 4
+bit_of StoreCapability = 8
+
 abbrev pub permits : ℕ → ℕ → Bool
 permits c permission = eqb (permissions_of c / permission % 2) 1
 

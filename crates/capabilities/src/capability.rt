@@ -1,6 +1,24 @@
 // A capability is a number: its base in bits 0 to 15, its length in 16 to 31, its permissions in 32 to 39.
-ghost use Rattle.std.specs.Prelude.{◌≡◌};
-ghost use Rattle.capabilities.specs.Capability.{base_of, length_of, permissions_of, permits, capability, narrowed, permitted};
+ghost use Rattle.std.specs.Prelude.{◌≡◌, ◌<◌};
+ghost use Rattle.capabilities.specs.Capability.{base_of, length_of, permissions_of, permits, bit_of, capability, narrowed, permitted};
+
+// What a capability lets its holder do; its number is its bit among the permissions.
+#[derive(Clone, Copy, PartialEq, Eq, Debug)]
+pub enum Permission {
+    Load = 1,
+    Store = 2,
+    LoadCapability = 4,
+    StoreCapability = 8,
+}
+
+impl Permission {
+    fn bit(self) -> u8
+        ensures value { result ≡ bit_of self }
+        ensures some { 0 < result }
+    {
+        self as u8
+    }
+}
 
 pub fn base_of(cell: u64) -> u16
     ensures { result ≡ base_of cell }
@@ -20,28 +38,10 @@ pub fn permissions_of(cell: u64) -> u8
     (cell / 4294967296 % 256) as u8
 }
 
-pub fn may_load(cell: u64) -> bool
-    ensures { result ≡ permits cell 1 }
+pub fn permits(cell: u64, permission: Permission) -> bool
+    ensures { result ≡ permits cell (bit_of permission) }
 {
-    cell / 4294967296 % 256 / 1 % 2 == 1
-}
-
-pub fn may_store(cell: u64) -> bool
-    ensures { result ≡ permits cell 2 }
-{
-    cell / 4294967296 % 256 / 2 % 2 == 1
-}
-
-pub fn may_load_capability(cell: u64) -> bool
-    ensures { result ≡ permits cell 4 }
-{
-    cell / 4294967296 % 256 / 4 % 2 == 1
-}
-
-pub fn may_store_capability(cell: u64) -> bool
-    ensures { result ≡ permits cell 8 }
-{
-    cell / 4294967296 % 256 / 8 % 2 == 1
+    permissions_of(cell) / permission.bit() % 2 == 1
 }
 
 pub fn capability(base: u16, length: u16, permissions: u8) -> u64

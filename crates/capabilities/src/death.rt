@@ -1,5 +1,5 @@
 // Which capabilities die with a revocation.
-ghost use Rattle.std.specs.Prelude.{not, ◌≡◌, ℕ, ◌<◌, ◌-◌};
+ghost use Rattle.std.specs.Prelude.{not, ◌≡◌, ℕ, ◌<◌};
 ghost use Rattle.capabilities.specs.Capability.{base_of};
 ghost use Rattle.capabilities.specs.Death.{dies, last_of};
 
@@ -13,19 +13,12 @@ pub fn dies(range: Range, cell: u64) -> bool
     inside(range, base_of(cell) as u32)
 }
 
-// One less, or 0.
-fn one_less(n: u16) -> u16
-    ensures { result ≡ n - 1 }
-{
-    if n == 0 { 0 } else { n - 1 }
-}
-
 // The last base that dies with a range that is not empty.
 pub fn last_of(range: Range) -> u16
     ensures { result ≡ last_of range }
 {
-    let last = range.base as u32 + one_less(range.length) as u32;
-    if last < 65535 { last as u16 } else { 65535 }
+    let last = range.base as u32 + range.length.saturating_sub(1) as u32;
+    last.min(65535) as u16
 }
 
 // That a capability does not die, by its base and the last one that does: numbers of 16 bits, of which a loop takes eight at once.

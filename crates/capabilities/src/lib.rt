@@ -5,6 +5,7 @@ pub mod capability;
 pub mod death;
 pub mod ranges;
 pub mod refusal;
+pub mod slices;
 
 // A range of virtual cells: `length` of them from `base` on.
 #[derive(Clone, Copy)]

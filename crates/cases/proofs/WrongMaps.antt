@@ -13,7 +13,7 @@ use Rattle.capabilities.proofs.Lists.{every}
 use Rattle.table.specs.declared.Reservation.{Reservation}
 use Rattle.maps.specs.declared.Question.{Question}
 use Rattle.maps.specs.declared.Question.TheVariants.{Sharing, Within, Nearest}
-use Rattle.maps.specs.declared.Answer.{Answer}
+use Rattle.maps.specs.Questions.{Answer}
 use Rattle.maps.specs.Cells.{shares, within, distance, beyond}
 use Rattle.maps.specs.Records.{tile_from, cells_of, bad_records}
 use Rattle.maps.specs.Questions.{is_listed, bases_of, candidate, nearer, nearest, answer, found, bad_question, Response, response, put, granted_answer, is_refused, ask_of}

@@ -2,7 +2,7 @@
 -- 02's requests. Each is the rule with one thing changed, has the type of the rule that it replaces, and stands with a state, lent memory and a call for which it
 -- leaves something else than the rule. Since every contract is an equation with the rule for every input, no such program can be
 -- proved. Assumes nothing.
-use Rattle.std.specs.Prelude.{ℕ, zero, suc, ◌+◌, ◌-◌, ◌*◌, Bool, not, ◌&&◌, List, [], ◌∷◌, ◌++◌, map, set, replicate, leb, eqb}
+use Rattle.std.specs.Prelude.{ℕ, zero, suc, ◌+◌, ◌-◌, ◌*◌, Bool, not, ◌&&◌, List, [], ◌∷◌, ◌++◌, map, set, replicate, leb, eqb, Option, Some}
 use Rattle.std.specs.Int.Bits.{bit_and}
 use Rattle.capabilities.specs.declared.Range.{Range}
 use Rattle.capabilities.specs.Capability.{permitted, permits}
@@ -17,8 +17,6 @@ use Rattle.pages.specs.Numbers.{page_code, frame_code}
 use Rattle.sweep.specs.Sweep.{Passed, swept, passing, sweep_of}
 use Rattle.table.specs.Table.{Table, Tabled}
 use Rattle.table.specs.Table.{Taken as Took}
-use Rattle.table.specs.declared.Found.{Found}
-use Rattle.table.specs.declared.Found.TheVariants.{At}
 use Rattle.table.specs.Rows.{no_taker, several_takers, reservation, range_of}
 use Rattle.table.specs.Find.{find_of, next_of, revoking_of, row_of, with_row}
 use Rattle.table.specs.Operations.{tabled, take_of, split_of, merge_of}
@@ -78,7 +76,7 @@ abbrev pub still_all : ℕ
 still_all = 15
 
 -- Document 02, 2026-04. A table with another taker in one row.
-abbrev pub with_taker : Table → Found → ℕ → Table
+abbrev pub with_taker : Table → Option ℕ → ℕ → Table
 with_taker t f taker =
     let r = row_of t f in
     with_row t f (reservation r.base r.length r.state r.holder taker)
@@ -115,7 +113,7 @@ joins_own t party base =
     pick (eqb (row_of t f).taker (row_of t (next_of t f)).taker) (merge_of t party base) (tabled 7 t t)
 
 -- A revoke and a collect that leave the taker as it was: 9 in the one that was Open, the party's in the one that is.
-abbrev pub leaves_in : Core → Found → Cored → Cored
+abbrev pub leaves_in : Core → Option ℕ → Cored → Cored
 leaves_in c f r =
     record { code = r.code; core = with_table r.core (with_taker r.core.table f (row_of c.table f).taker) }
 
@@ -132,7 +130,7 @@ loads_dying c a w = keep_tag w (permits a.cell 4)
 -- One that filters when no revocation runs: by the first reservation, where none is Revoking.
 unfoldable pub filters_at_rest : Core → Slot → Slot → Slot
 filters_at_rest c a w =
-    let range = range_of (row_of c.table (pick (running c) (revoking_of c.table) (At 0))) in
+    let range = range_of (row_of c.table (pick (running c) (revoking_of c.table) (Some 0))) in
     keep_tag w (permits a.cell 4 && not (dies range w.cell))
 
 -- One that drops the number of a dying capability with its tag.

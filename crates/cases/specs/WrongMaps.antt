@@ -4,7 +4,7 @@ use Rattle.capabilities.specs.Lists.{pick, Every, filter}
 use Rattle.capabilities.specs.declared.Range.{Range}
 use Rattle.table.specs.declared.Reservation.{Reservation}
 use Rattle.table.specs.Rows.{is_open, is_taken, range_of}
-use Rattle.maps.specs.declared.Answer.{Answer}
+use Rattle.maps.specs.Questions.{Answer}
 use Rattle.maps.specs.declared.Question.{Question}
 use Rattle.maps.specs.declared.Question.TheVariants.{Sharing, Within, Nearest}
 use Rattle.maps.specs.Cells.{span, shares, within, distance, beyond}

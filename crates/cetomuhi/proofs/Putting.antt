@@ -1,5 +1,13 @@
 -- What is put of an answer, by whether its code is 0.
-use mathlib.Core.Path.{◌≡◌, sym, ◌∙◌, ap}
+use Rattle.std.specs.Prelude.{Result, Ok, Err}
+use Rattle.std.specs.Result.{result_unwrap_or}
+use mathlib.Core.Path.{◌≡◌, refl, sym, ◌∙◌, ap}
+use Rattle.capabilities.specs.declared.refusal.Refusal.{Refusal}
+use Rattle.capabilities.specs.Refusals.{code}
+use Rattle.claims.specs.Cost.{cost}
+use Rattle.machine.specs.Cost.{costed}
+use Rattle.cost.specs.declared.Cost.{Cost}
+use Rattle.cost.specs.Told.{told}
 use Prim.Native.Nat.{ℕ}
 use mathlib.Core.List.{List, [], map}
 use lib.Dec.{eqb}
@@ -8,7 +16,7 @@ use Rattle.capabilities.proofs.Choice.{pick_yes, kept}
 use Rattle.table.specs.Numbers.{row_from}
 use Rattle.maps.specs.declared.Question.{Question}
 use Rattle.maps.specs.declared.Question.TheVariants.{Nearest}
-use Rattle.maps.specs.declared.Answer.{Answer}
+use Rattle.maps.specs.Questions.{Answer}
 use Rattle.maps.specs.Questions.{Response, response, ask_of}
 use Rattle.maps.proofs.Asking.{no_slice}
 use Rattle.cetomuhi.specs.Maps.{list_answer, put_if, listed_by, list_lent, Sited, sited, nearest_lent}
@@ -43,3 +51,8 @@ module _ (rows : List ℕ) (cell cells found base : ℕ) (bases : List ℕ) (a :
   pub nearest_refused : (a.code ≡ 0 → ⊥) → sited a.code found base ≡ nearest_lent rows cell cells found base
   unfolding nearest_lent
   nearest_refused z = (λ i. sited a.code (put_refused a.code a.count found z i) (put_refused a.code a.base base z i)) ∙ ap by same
+
+-- A cost that was asked, as it is put: 0 and 0 where it is refused.
+pub told_is : (r : Result Cost Refusal) (k : ℕ) (c : Cost) → k ≡ code r → c ≡ result_unwrap_or r (record { share = 0; remainder = 0 }) → costed k (cost c.share c.remainder) ≡ told r
+told_is (Ok x) k c e d = rw (e, d) refl
+told_is (Err x) k c e d = rw (e, d) refl

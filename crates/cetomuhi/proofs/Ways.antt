@@ -96,14 +96,11 @@ module _ (l : Lent) where
 
     -- A refusal where no byte is left.
     pub command_turned : 4 ≤ length answers → length input ≤ at → (n : Numbers) → n ≡ numbers_from l.numbers
-        → (good : Bool) → good ≡ formed_of (with_numbers n)
-        → (k : ℕ) → k ≡ 1 → (answers' : List ℕ) → answers' ≡ refused_first (end_code good n.f cells tags)
-        → done k l cells tags answers' ≡ command_lent l input at cells tags answers
-    command_turned h m n e good d k q answers' p =
-        ap (λ (x : ℕ). done x l cells tags answers') q
-        ∙ ap (λ (x : List ℕ). done 1 l cells tags x)
-        (p ∙ ap (λ (x : Bool). refused_first (end_code x n.f cells tags)) d
-        ∙ ap (λ (x : Numbers). refused_first (end_code (formed_of (with_numbers x)) x.f cells tags)) e)
+        → (answers' : List ℕ) → answers' ≡ refused_first (end_code (formed_of (with_numbers n)) n.f cells tags)
+        → done 1 l cells tags answers' ≡ command_lent l input at cells tags answers
+    command_turned h m n e answers' p =
+        ap (λ (x : List ℕ). done 1 l cells tags x)
+        (p ∙ ap (λ (x : Numbers). refused_first (end_code (formed_of (with_numbers x)) x.f cells tags)) e)
         ∙ ap (λ (x : Lent). done 1 x cells tags (refused_first (end_code (formed_of (arrays_in l)) (arrays_in l).nums.f cells tags))) (sym (lent_back l))
         ∙ ap (λ (x : RanOn). done_one x l answers) (command_ended (arrays_in l) input at cells tags m)
         ∙ one h

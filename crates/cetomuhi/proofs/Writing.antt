@@ -1,11 +1,11 @@
 -- What is lent, read and written: the six small numbers, an answer's four, the arrays. Assumes nothing.
-use Prim.Native.Nat.{ℕ, ◌≤◌}
+use Prim.Native.Nat.{ℕ}
 use native.Mathlib.Omega.{arith}
 use mathlib.Core.Bool.{Bool, true, false}
-use mathlib.Core.List.{List, [], ◌∷◌, ◌++◌}
+use mathlib.Core.List.{List, [], ◌∷◌}
 use mathlib.Core.Logic.{◌≢◌}
 use mathlib.Core.Path.{◌≡◌, refl, sym, ap, ◌∙◌}
-use lib.ListN.{length, get_or, set, drop}
+use lib.ListN.{length, get_or}
 use lib.Dec.{eqb}
 use borrow.Author.Tests.{eqb-true, eq-eqb, ne_eqb}
 use Rattle.capabilities.specs.Lists.{pick}
@@ -30,27 +30,13 @@ pub from_other : (l : List ℕ) → length l ≢ 6 → small 0 0 0 0 0 0 ≡ num
 unfolding numbers_from
 from_other l h = sym (pick_no (eqb (length l) 6) (read l) (small 0 0 0 0 0 0) (ne_eqb (length l) 6 h))
 
-over_six : (n : Numbers) (l : List ℕ) → length l ≡ 6 → six n ≡ numbers_over n l
+pub over_six : (n : Numbers) (l : List ℕ) → length l ≡ 6 → six n ≡ numbers_over n l
 unfolding numbers_over
 over_six n l h = sym (pick_yes (eqb (length l) 6) (six n) l (eq-eqb (length l) 6 h))
 
 pub over_other : (n : Numbers) (l : List ℕ) → length l ≢ 6 → l ≡ numbers_over n l
 unfolding numbers_over
 over_other n l h = sym (pick_no (eqb (length l) 6) (six n) l (ne_eqb (length l) 6 h))
-
--- Of six numbers each is one that was put, and there is no other.
-all_put : (n : Numbers) (l : List ℕ) → length l ≡ 6 → set (set (set (set (set (set l 0 n.v) 1 n.f) 2 n.count) 3 n.place) 4 n.base) 5 n.length ≡ six n
-all_put n [] h = let z : ⊥ = omega arith in absurd z
-all_put n (x₀ ∷ []) h = let z : ⊥ = omega arith in absurd z
-all_put n (x₀ ∷ x₁ ∷ []) h = let z : ⊥ = omega arith in absurd z
-all_put n (x₀ ∷ x₁ ∷ x₂ ∷ []) h = let z : ⊥ = omega arith in absurd z
-all_put n (x₀ ∷ x₁ ∷ x₂ ∷ x₃ ∷ []) h = let z : ⊥ = omega arith in absurd z
-all_put n (x₀ ∷ x₁ ∷ x₂ ∷ x₃ ∷ x₄ ∷ []) h = let z : ⊥ = omega arith in absurd z
-all_put n (x₀ ∷ x₁ ∷ x₂ ∷ x₃ ∷ x₄ ∷ x₅ ∷ []) h = refl
-all_put n (x₀ ∷ x₁ ∷ x₂ ∷ x₃ ∷ x₄ ∷ x₅ ∷ x₆ ∷ l) h = let z : ⊥ = omega arith in absurd z
-
-pub put_six : (n : Numbers) (l : List ℕ) → length l ≡ 6 → set (set (set (set (set (set l 0 n.v) 1 n.f) 2 n.count) 3 n.place) 4 n.base) 5 n.length ≡ numbers_over n l
-put_six n l h = all_put n l h ∙ over_six n l h
 
 -- Small numbers written over six are read back.
 pub written_read : (n : Numbers) (l : List ℕ) → length l ≡ 6 → numbers_from (numbers_over n l) ≡ n
@@ -74,14 +60,6 @@ read_written l = go (eqb (length l) 6) refl
     go : (b : Bool) → eqb (length l) 6 ≡ b → pick (eqb (length l) 6) (six (numbers_from l)) l ≡ l
     go true e = let h = eqb-true (length l) 6 e in pick_yes (eqb (length l) 6) (six (numbers_from l)) l e ∙ ap six (sym (from_six l h)) ∙ all_there l h
     go false e = pick_no (eqb (length l) 6) (six (numbers_from l)) l e
-
--- Four numbers put first in a list that has room for them.
-pub put_four : (a b c d : ℕ) (l : List ℕ) → 4 ≤ length l → set (set (set (set l 0 a) 1 b) 2 c) 3 d ≡ (a ∷ b ∷ c ∷ d ∷ []) ++ drop 4 l
-put_four a b c d [] h = let z : ⊥ = omega arith in absurd z
-put_four a b c d (x₀ ∷ []) h = let z : ⊥ = omega arith in absurd z
-put_four a b c d (x₀ ∷ x₁ ∷ []) h = let z : ⊥ = omega arith in absurd z
-put_four a b c d (x₀ ∷ x₁ ∷ x₂ ∷ []) h = let z : ⊥ = omega arith in absurd z
-put_four a b c d (x₀ ∷ x₁ ∷ x₂ ∷ x₃ ∷ l) h = refl
 
 -- Arrays written over what is lent are read back; those that were read change nothing.
 pub arrays_back : (a : Arrays) (l : Lent) → length l.numbers ≡ 6 → arrays_in (arrays_over a l) ≡ a

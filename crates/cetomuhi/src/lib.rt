@@ -1,24 +1,26 @@
-// What a server links: the machine over memory that the server owns. Only numbers and slices of numbers cross the boundary; every
-// function answers for all bytes, numbers and lengths.
+// What a server links: the machine over memory that the server owns. Only numbers and slices of numbers cross the boundary, as C has no
+// more, so that each function makes its machine or view of them; every function answers for all bytes, numbers and lengths.
 #![tactic(auto)]
 
 ghost use Rattle.std.specs.Prelude.{◌≡◌, ◌++◌, ◌<◌, ◌≤◌, length, drop};
+ghost use Rattle.capabilities.specs.Refusals.{code};
 ghost use Rattle.words.specs.Words.{empty};
-ghost use Rattle.arrays.specs.Reading.{arrays};
+ghost use Rattle.arrays.specs.Lent.{held};
+ghost use Rattle.arrays.specs.Steps.{answer as answering};
 ghost use Rattle.claims.specs.Cost.{cost};
 ghost use Rattle.machine.specs.Cost.{costed};
-ghost use Rattle.arrays.specs.Steps.{answer as answering};
+ghost use Rattle.formed.specs.Test.{formed_of};
 ghost use Rattle.entries.specs.Runs.{answer_numbers};
 ghost use Rattle.operands.specs.Numbers.{answered, write_numbers, read_numbers};
 ghost use Rattle.cetomuhi.specs.Lent.{lent, numbers_over};
 ghost use Rattle.cetomuhi.specs.Exports.{size_of, started, start_lent, formed_lent, cost_lent, done, end_code, command_lent, reached, commands_lent};
 
 use crate::numbers::numbers_from;
-use arrays::{Answer, Numbers};
-use calls_in_place::word_calls::coded;
-use capabilities::refusal::first;
-use cost::page_cost;
-use entries::runs::commands_in;
+use arrays::{Answer, Machine, Numbers, View};
+use capabilities::refusal::Refusal;
+use cost::{Cost, page_cost};
+use entries::fit;
+use entries::runs::{commands_in, numbers};
 use formed::formed;
 use formed::fresh::start_in;
 use operands::{read_numbers, write_numbers};
@@ -27,42 +29,39 @@ mod numbers;
 pub mod questions;
 
 // Writes the small numbers over those that are lent.
-fn put_numbers(numbers: &mut [u16], nums: Numbers)
+fn put_numbers(lent: &mut [u16], nums: Numbers)
     requires { (nums.count < 65536) × (nums.place < 65536) }
-    ensures { numbers.new ≡ numbers_over nums numbers.old }
+    ensures { lent.new ≡ numbers_over nums lent.old }
 {
-    if numbers.len() == 6 {
-        numbers[0] = nums.v;
-        numbers[1] = nums.f;
-        numbers[2] = nums.count as u16;
-        numbers[3] = nums.place as u16;
-        numbers[4] = nums.base;
-        numbers[5] = nums.length;
+    if lent.len() == 6 {
+        lent.copy_from_slice(&[
+            nums.v,
+            nums.f,
+            nums.count as u16,
+            nums.place as u16,
+            nums.base,
+            nums.length,
+        ]);
     }
 }
 
-// Puts an answer first among the answers.
-fn put_answer(answers: &mut [u64], answer: Answer, used: usize)
-    requires { 4 ≤ length answers.old }
-    ensures { answers.new ≡ answer_numbers answer used ++ drop 4 answers.old }
+// What a caller in C is told: 0, or the refusal's number.
+fn code_of<T: Drop>(asked: Result<T, Refusal>) -> u8
+    ensures { result ≡ code asked }
 {
-    answers[0] = answer.code as u64;
-    answers[1] = answer.number;
-    answers[2] = answer.tag as u64;
-    answers[3] = used as u64;
+    match asked {
+        Ok(_) => 0,
+        Err(refusal) => refusal.number(),
+    }
 }
 
-// The answer of a command where no byte is left, refusal 1, 2 or 3, is put first among the answers; answers that one was done.
-fn put_end(answers: &mut [u64], good: bool, f: u16, cells: &[u64], tags: &[u8]) -> usize
+// The answer of a command where no byte is left, refusal 1, 2 or 3, is put first among the answers.
+fn put_end(machine: &Machine<'_>, answers: &mut [u64])
     requires { 4 ≤ length answers.old }
-    ensures value { result ≡ 1 }
-    ensures answers_after { answers.new ≡ answer_numbers (answering (end_code good f cells.now tags.now) empty) 0 ++ drop 4 answers.old }
+    ensures { answers.new ≡ answer_numbers (answering (end_code (formed_of (held machine.now)) machine.now.nums.f machine.now.cells.now machine.now.tags.now) empty) 0 ++ drop 4 answers.old }
 {
-    let size = 16 * (f as usize);
-    let fits = (cells.len() == size) & (tags.len() == size);
-    let code = first(1, !good, first(2, !fits, 3));
-    put_answer(answers, coded(code), 0);
-    1
+    let refusal = fit(machine).err().unwrap_or(Refusal::Command);
+    answers[..4].copy_from_slice(&numbers(Answer::refused(refusal), 0));
 }
 
 // The number of this boundary; another layout has another one, and so have rules under which a call that was there does something else.
@@ -106,13 +105,23 @@ pub fn cetomuhi_start(
     if numbers.len() != 6 {
         return 1;
     }
-    let nums = numbers_from(numbers);
-    let begun = start_in(
-        v, f, nums, words, marks, mail, flags, rows, pages, frames, principals, counts,
-    );
-    let next = begun.nums;
-    put_numbers(numbers, next);
-    begun.code
+    let mut machine = Machine {
+        nums: numbers_from(numbers),
+        words,
+        marks,
+        mail,
+        flags,
+        rows,
+        pages,
+        frames,
+        principals,
+        counts,
+        cells: &mut [],
+        tags: &mut [],
+    };
+    let started = start_in(&mut machine, v, f);
+    put_numbers(numbers, machine.nums);
+    code_of(started)
 }
 
 // Whether what is lent is a well-formed state.
@@ -130,10 +139,19 @@ pub fn cetomuhi_well_formed(
 ) -> bool
     ensures { result ≡ formed_lent (lent numbers.now words.now marks.now mail.now flags.now rows.now pages.now frames.now principals.now counts.now) }
 {
-    let nums = numbers_from(numbers);
-    formed(
-        nums, words, marks, mail, flags, rows, pages, frames, principals, counts,
-    )
+    let view = View {
+        nums: numbers_from(numbers),
+        words,
+        marks,
+        mail,
+        flags,
+        rows,
+        pages,
+        frames,
+        principals,
+        counts,
+    };
+    formed(view)
 }
 
 // What those who claim a page pay for it: its code is answered, and share and remainder are put, 0 and 0 where it is refused.
@@ -154,13 +172,26 @@ pub fn cetomuhi_page_cost(
 ) -> u8
     ensures { costed result (cost share.new remainder.new) ≡ cost_lent (lent numbers.now words.now marks.now mail.now flags.now rows.now pages.now frames.now principals.now counts.now) page }
 {
-    let nums = numbers_from(numbers);
-    let asked = page_cost(
-        nums, words, marks, mail, flags, rows, pages, frames, principals, counts, page,
-    );
-    *share = asked.share as u64;
-    *remainder = asked.remainder as u64;
-    asked.code
+    let view = View {
+        nums: numbers_from(numbers),
+        words,
+        marks,
+        mail,
+        flags,
+        rows,
+        pages,
+        frames,
+        principals,
+        counts,
+    };
+    let asked = page_cost(view, page);
+    let cost = asked.unwrap_or(Cost {
+        share: 0,
+        remainder: 0,
+    });
+    *share = cost.share as u64;
+    *remainder = cost.remainder as u64;
+    code_of(asked)
 }
 
 // One command of the bytes at a place, on any state, memory and input: a run of one, so that a command's code stands in the archive once.
@@ -188,32 +219,27 @@ pub fn cetomuhi_command(
     if answers.len() < 4 {
         return 0;
     }
-    let nums = numbers_from(numbers);
+    let mut machine = Machine {
+        nums: numbers_from(numbers),
+        words,
+        marks,
+        mail,
+        flags,
+        rows,
+        pages,
+        frames,
+        principals,
+        counts,
+        cells,
+        tags,
+    };
     if at < input.len() {
-        let ran = commands_in(
-            nums,
-            input,
-            at,
-            words,
-            marks,
-            mail,
-            flags,
-            rows,
-            pages,
-            frames,
-            principals,
-            counts,
-            cells,
-            tags,
-            &mut answers[..4],
-        );
-        put_numbers(numbers, ran.nums);
+        let ran = commands_in(&mut machine, input, at, &mut answers[..4]);
+        put_numbers(numbers, machine.nums);
         return ran.done;
     }
-    let good = formed(
-        nums, words, marks, mail, flags, rows, pages, frames, principals, counts,
-    );
-    put_end(answers, good, nums.f, cells, tags)
+    put_end(&machine, answers);
+    1
 }
 
 // The commands from a place of an input on, as many as there is room for, with four answers each; the state is tested once. Answers how
@@ -237,14 +263,23 @@ pub fn cetomuhi_commands(
 ) -> usize
     ensures { reached at.new (done result (lent numbers.new words.new marks.new mail.new flags.new rows.new pages.new frames.new principals.new counts.new) cells.new tags.new answers.new) ≡ commands_lent (lent numbers.old words.old marks.old mail.old flags.old rows.old pages.old frames.old principals.old counts.old) input.now at.old cells.old tags.old answers.old }
 {
-    let nums = numbers_from(numbers);
+    let mut machine = Machine {
+        nums: numbers_from(numbers),
+        words,
+        marks,
+        mail,
+        flags,
+        rows,
+        pages,
+        frames,
+        principals,
+        counts,
+        cells,
+        tags,
+    };
     let begin = *at;
-    let ran = commands_in(
-        nums, input, begin, words, marks, mail, flags, rows, pages, frames, principals, counts,
-        cells, tags, answers,
-    );
-    let next = ran.nums;
-    put_numbers(numbers, next);
+    let ran = commands_in(&mut machine, input, begin, answers);
+    put_numbers(numbers, machine.nums);
     *at = ran.at;
     ran.done
 }

@@ -10,11 +10,13 @@ use maps::numbers::ask_numbers;
 fn put_list(rows: &[u64], question: Question, bases: &mut [u16], count: &mut u64) -> u8
     ensures { list_answer result count.new bases.new ≡ list_lent rows.now question count.old bases.old }
 {
-    let answer = ask_numbers(rows, question, bases);
-    if answer.code == 0 {
-        *count = answer.count as u64;
+    match ask_numbers(rows, question, bases) {
+        Ok(found) => {
+            *count = found.count as u64;
+            0
+        }
+        Err(refusal) => refusal.number(),
     }
-    answer.code
 }
 
 // The bases of the reservations that share a cell with `cells` cells from `first` on, and how many they are: code 0, or 25.
@@ -47,11 +49,12 @@ pub fn cetomuhi_within(
 pub fn cetomuhi_nearest(rows: &[u64], cell: u64, cells: u64, found: &mut u64, base: &mut u64) -> u8
     ensures { sited result found.new base.new ≡ nearest_lent rows.now cell cells found.old base.old }
 {
-    let mut none = [0u16; 1];
-    let answer = ask_numbers(rows, Question::Nearest { cell, cells }, &mut none);
-    if answer.code == 0 {
-        *found = answer.count as u64;
-        *base = answer.base as u64;
+    match ask_numbers(rows, Question::Nearest { cell, cells }, &mut []) {
+        Ok(nearest) => {
+            *found = nearest.count as u64;
+            *base = nearest.nearest.unwrap_or(0) as u64;
+            0
+        }
+        Err(refusal) => refusal.number(),
     }
-    answer.code
 }

@@ -5,11 +5,11 @@ use mathlib.Core.List.{List, []}
 use mathlib.Core.Path.{◌≡◌, refl, sym, ap, ◌∙◌}
 use lib.ListN.{length, get_or, get_or-map}
 use lib.Dec.{eqb, leb, ltb}
-use borrow.Author.Tests.{eqb-true}
+use borrow.Author.Tests.{eqb-true, eq-eqb}
 use Rattle.capabilities.specs.Lists.{pick}
 use Rattle.capabilities.specs.Refusals.{first}
 use Rattle.capabilities.proofs.Lists.{map_each_at}
-use Rattle.capabilities.proofs.Choice.{and_left, and_right}
+use Rattle.capabilities.proofs.Choice.{pick_yes, both, and_left, and_right}
 use Rattle.claims.specs.declared.Principal.{Principal}
 use Rattle.claims.specs.Claims.{Claims, principal_at, parent_of, counts_of, count_of, above, limit_of}
 use Rattle.claims.specs.Operations.{create_reasons, claim_reasons, release_reasons, destroy_reasons}
@@ -25,6 +25,9 @@ module _ (numbers counts : List ℕ) (sized : sized_in numbers counts ≡ true) 
 
   pub of_counts : length counts ≡ 8192
   of_counts = eqb-true (length counts) 8192 (and_right (eqb (length numbers) 32) (eqb (length counts) 8192) sized)
+
+pub sized_choice : (numbers counts : List ℕ) (x : ℕ) → length numbers ≡ 32 → length counts ≡ 8192 → pick (sized_in numbers counts) x 1 ≡ x
+sized_choice numbers counts x n k = pick_yes (sized_in numbers counts) x 1 (both (eqb (length numbers) 32) (eqb (length counts) 8192) (eq-eqb (length numbers) 32 n) (eq-eqb (length counts) 8192 k))
 
 module _ (numbers counts : List ℕ) (p : ℕ) where
   pub principal_read : principal_at (claims_in numbers counts) p ≡ principal_in numbers p

@@ -6,8 +6,8 @@ ghost use Rattle.claims.specs.Numbers.{principal_from, written, claims_in, sound
 ghost use Rattle.claims.specs.Lent.{principal_in};
 
 use crate::Principal;
-use crate::lent::{above, lesser, limit_of, principal_in};
-use crate::number::{is_written, principal_of};
+use crate::lent::{above, limit_of, principal_in};
+use crate::number::is_written;
 use crate::tree::leads_up;
 
 // How many counts of a principal are above 0, and how many of them are for pages at V and above.
@@ -17,15 +17,15 @@ struct Spent {
     high: u16,
 }
 
+#[tactic(auto, using(crate::proofs::Looping::parts_above, crate::proofs::Looping::part_high, crate::proofs::Counting::above_length))]
 fn spent_of(v: u16, window: &[u16]) -> Spent
-    requires { length window.now ≤ 256 }
+    requires { length window.now ≤ 65535 }
     ensures { (result.all ≡ above window.now) × (result.high ≡ above (drop v window.now)) }
 {
-    let n = lesser(v as usize, window.len());
-    let low = above(&window[..n]);
+    let n = (v as usize).min(window.len());
     let high = above(&window[n..]);
     Spent {
-        all: low + high,
+        all: above(&window[..n]) + high,
         high,
     }
 }
@@ -34,14 +34,14 @@ fn spent_of(v: u16, window: &[u16]) -> Spent
 fn entry_sound(number: u64, spent: Spent) -> bool
     ensures { result ≡ (written 0 number && (((principal_from number).being || eqb spent.all 0) && eqb spent.high 0)) }
 {
-    let q = principal_of(number);
+    let q = Principal::from(number);
     is_written(number) & ((q.being | (spent.all == 0)) & (spent.high == 0))
 }
 
 fn is_nobody(q: Principal) -> bool
     ensures { result ≡ is_nobody q }
 {
-    !q.being & ((q.holder == 0) & ((q.parent == 0) & (q.unspent == 0)))
+    q == Principal::default()
 }
 
 fn is_root(q: Principal) -> bool
@@ -50,6 +50,7 @@ fn is_root(q: Principal) -> bool
     q.being & ((q.holder == 0) & (q.parent == 0))
 }
 
+#[tactic(auto, using(crate::proofs::Testing::being_tested, crate::proofs::Testing::nobody_tested))]
 fn principal_sound(principals: &[u64], p: usize) -> bool
     ensures { (counts : List ℕ) → result ≡ principal_sound (claims_in principals.now counts) p (principal_in principals.now p) }
 {
@@ -71,15 +72,11 @@ pub fn claims_sound(v: u16, principals: &[u64], counts: &[u16]) -> bool
     }
     let mut sound = is_root(principal_in(principals, 0));
     let mut total: u32 = 0;
-    let mut p: usize = 0;
-    while p < 32 {
-        let start = 256 * p;
-        let end = start + 256;
-        let here = spent_of(v, &counts[start..end]);
+    for p in 0..32 {
+        let here = spent_of(v, &counts[256 * p..256 * p + 256]);
         let number = principals[p];
         sound = sound & (entry_sound(number, here) & principal_sound(principals, p));
-        total = total + limit_of(number, here.all);
-        p += 1;
+        total += limit_of(number, here.all);
     }
     sound & (total == 8192)
 }

@@ -6,12 +6,12 @@ ghost use Rattle.claims.specs.Numbers.{claims_in};
 use crate::lent::principal_in;
 
 // Whether parents lead from a principal up to `top`. One that is its own parent leads no further.
+#[tactic(auto, using(crate::proofs::Descent::leads_there, crate::proofs::Descent::leads_on, crate::proofs::Descent::leads_nowhere, crate::proofs::Reading::parent_read), unfolding(crate::specs::Tree::leads_within))]
 pub fn leads_up(principals: &[u64], top: usize, p: usize) -> bool
     ensures { (counts : List ℕ) → result ≡ leads_up (claims_in principals.now counts) top p }
 {
     let mut at = p;
-    let mut left: usize = 31;
-    while 0 < left {
+    for _turn in 0..31_usize {
         if at == top {
             return true;
         }
@@ -21,7 +21,6 @@ pub fn leads_up(principals: &[u64], top: usize, p: usize) -> bool
             return false;
         }
         at = parent;
-        left -= 1;
     }
     at == top
 }

@@ -1,9 +1,11 @@
 // A session from standard input to standard output. What fails is said on standard error.
 #![tactic(auto)]
 
-ghost use Rattle.std.specs.Prelude.{◌≡◌, ◌≤◌, length};
+ghost use Rattle.std.specs.Prelude.{◌≡◌, ◌≤◌, length, IfOk};
 
+use std::error::Error;
 use std::io::Read;
+use std::{fmt, io};
 
 // A session looks at no more.
 const INPUT: usize = 32768;
@@ -11,74 +13,62 @@ const INPUT: usize = 32768;
 // The lines of every session fit: 13 bytes for each byte of its input.
 const OUTPUT: usize = 425984;
 
-// How many bytes were read, and whether no read failed.
-#[derive(Clone, Copy)]
-pub struct Taken {
-    pub len: usize,
-    pub whole: bool,
+// Why the lines of a session were not printed.
+#[derive(Clone, Copy, PartialEq, Eq, Debug)]
+pub enum Failure {
+    Unread,
+    TooLong,
+    Unwritten,
 }
 
-fn input_buffer() -> [u8; INPUT]
-    ensures { 32768 ≡ length result }
-{
-    [0; INPUT]
+impl fmt::Display for Failure {
+    fn fmt<W: fmt::Write>(&self, f: &mut fmt::Formatter<W>) -> fmt::Result {
+        f.write_str(match self {
+            Failure::Unread => "desk: standard input could not be read",
+            Failure::TooLong => "desk: the lines do not fit",
+            Failure::Unwritten => "desk: standard output could not be written",
+        })
+    }
 }
 
-fn output_buffer() -> [u8; OUTPUT]
-    ensures { 425984 ≡ length result }
-{
-    [0; OUTPUT]
-}
+impl Error for Failure {}
 
-// Reads, in pieces as they come, until the buffer is full or the input ends.
-fn take(reader: &mut impl Read, buf: &mut [u8]) -> Taken
-    ensures { result.len ≤ length buf.new }
+// Reads, in pieces as they come, until the buffer is full or the input ends; answers how many bytes it read.
+fn take(reader: &mut impl Read, buf: &mut [u8]) -> io::Result<usize>
+    ensures { IfOk result (λ len. len ≤ length buf.new) }
 {
     let mut len: usize = 0;
     while len < buf.len() {
-        let Ok(more) = reader.read(&mut buf[len..]) else {
-            return Taken { len, whole: false };
-        };
+        let more = reader.read(&mut buf[len..])?;
         if more == 0 {
-            return Taken { len, whole: true };
+            break;
         }
         len += more;
     }
-    Taken { len, whole: true }
+    Ok(len)
 }
 
-fn say(rt: &impl Eprint, text: &str) {
-    let _ = rt.eprint(text);
-}
-
-// The lines of one input; 0 where all were written, 2 where they do not fit, 3 where a write failed.
-fn show(rt: &(impl Print + Eprint), input: &[u8]) -> u8
-    ensures { result ≤ 3 }
-{
-    let mut out = output_buffer();
+// The lines of one input.
+fn show(rt: &impl Print, input: &[u8]) -> Result<(), Failure> {
+    let mut out = [0; OUTPUT];
     let n = session::cetomuhi_session(input, &mut out);
     if n == 0 {
-        say(rt, "desk: the lines do not fit\n");
-        return 2;
+        return Err(Failure::TooLong);
     }
-    if rt.write_all(&out[..n]).is_err() {
-        say(rt, "desk: standard output could not be written\n");
-        return 3;
-    }
-    0
+    rt.write_all(&out[..n]).map_err(|_| Failure::Unwritten)
 }
 
-// A session, and how it went: 0, or the number of what was said on standard error; 1 is a failed read. No contract can speak
-// of what is read and written, so this is all that is promised.
-pub fn run(rt: &(impl Input + Print + Eprint)) -> u8
-    ensures { result ≤ 3 }
-{
-    let mut input = input_buffer();
-    let taken = take(&mut rt.reader(), &mut input);
-    let len = taken.len;
-    if taken.whole {
-        return show(rt, &input[..len]);
-    }
-    say(rt, "desk: standard input could not be read\n");
-    1
+// A session, from what is read to what is written. Both buffers are fixed: there is no heap.
+fn session_of(rt: &(impl Input + Print)) -> Result<(), Failure> {
+    let mut input = [0; INPUT];
+    let len = take(&mut rt.reader(), &mut input).map_err(|_| Failure::Unread)?;
+    show(rt, &input[..len])
+}
+
+// A session, and how it went, which is also said on standard error. No contract can speak of what is read and written, so all that is
+// promised is what the type says.
+pub fn run(rt: &(impl Input + Print + Eprint)) -> Result<(), Failure> {
+    session_of(rt).inspect_err(|failure| {
+        let _ = rt.eprintln(*failure);
+    })
 }

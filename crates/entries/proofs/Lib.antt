@@ -1,3 +1,4 @@
 pub mod Starting
 pub mod Repeating
 pub mod Composing
+pub mod Fitting

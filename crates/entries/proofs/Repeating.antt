@@ -2,14 +2,15 @@
 use Prim.Native.Nat.{ℕ, zero, suc, ◌+◌, ◌-◌, ◌*◌, ◌/◌, ◌≤◌, ◌<◌}
 use native.Mathlib.Omega.{arith}
 use mathlib.Core.Bool.{Bool, true, false, ◌&&◌}
-use mathlib.Core.List.{List, [], ◌∷◌, ◌++◌, append_assoc, append-nil}
+use mathlib.Core.List.{List, [], ◌++◌, append_assoc, append-nil}
 use mathlib.Core.Path.{◌≡◌, refl, sym, ap, subst, ◌∙◌}
-use lib.ListN.{length, drop, set}
+use lib.ListN.{length, take, drop, length-drop}
+use lib.Seq.{drop-drop, length-take-le}
+use borrow.Rule.Slice.PartMut.{put_mid, same_len_mid}
 use lib.Dec.{ltb, leb}
 use borrow.Author.Tests.{lt-ltb, le-ltb, ltb-true, ltb-false, leb-true, leb-false}
 use Rattle.capabilities.specs.Lists.{pick}
 use Rattle.capabilities.proofs.Choice.{pick_yes, pick_no, and_left, and_right}
-use Rattle.words.specs.Words.{byte_of}
 use Rattle.machine.specs.Command.{Ran, ran, command_of}
 use Rattle.machine.proofs.Commands.{command_sized}
 use Rattle.arrays.specs.declared.Arrays.{Arrays}
@@ -18,23 +19,21 @@ use Rattle.arrays.specs.Reading.{state_of, Formed}
 use Rattle.arrays.specs.Steps.{leaving}
 use Rattle.formed.proofs.Tested.{passing}
 use Rattle.lines.specs.Laid.{Laid}
-use Rattle.lines.proofs.Laying.{laid_none, laid_one, laid_three, laid_both}
+use Rattle.lines.proofs.Laying.{laid_none, laid_both}
 use Rattle.session_rules.specs.Session.{ends_session}
 use Rattle.session_rules.proofs.Sessions.{command_used}
 use Rattle.step.specs.Entries.{OnFormed, RanOn, ran_on, command_judged_on, command_on}
 use Rattle.entries.specs.Runs.{answer_numbers, Run, run_of, resting, preceded, run_on, run_in}
 use Rattle.step.proofs.Commanding.{command_formed}
-use Rattle.step.proofs.Running.{Kept, kept, commanded, ran_formed, ran_on_lem, ran_sized}
+use Rattle.step.proofs.Running.{commanded, ran_formed, ran_on_lem, ran_sized}
 
--- Four numbers stored.
-pub laid_answer : (r : Answer) (used place tag : ℕ) (buffer : List ℕ) → tag ≡ byte_of r.tag → place + 4 ≤ length buffer
-    → Laid (answer_numbers r used) place buffer (place + 4) (set (set (set (set buffer place r.code) (place + 1) r.number) (place + 2) tag) (place + 3) used)
-laid_answer r used place tag buffer e h =
-    let b = set (set (set buffer place r.code) (place + 1) r.number) (place + 2) tag in
-    let three : Laid (r.code ∷ r.number ∷ tag ∷ []) place buffer (place + 3) b = laid_three r.code r.number tag place buffer (omega arith) in
-    subst (λ (k : ℕ). Laid (r.code ∷ r.number ∷ k ∷ used ∷ []) place buffer (place + 4) (set b (place + 3) used)) e
-    (laid_both (r.code ∷ r.number ∷ tag ∷ []) (used ∷ []) place (place + 3) (place + 4) buffer b (set b (place + 3) used) three
-    (laid_one used (place + 3) (place + 4) b (omega arith) (omega (arith, three.size))))
+-- Numbers copied to a place.
+pub laid_copied : (new buffer : List ℕ) (place n end : ℕ) → n ≡ length new → end ≡ place + n → end ≤ length buffer → Laid new place buffer end (put_mid place n buffer new)
+laid_copied new buffer place n end e f h = record {
+  ends = f ∙ ap (λ k. place + k) e;
+  size = same_len_mid place n buffer new (sym e ∙ sym (length-take-le n (drop place buffer) (omega (arith, length-drop place buffer, f, h))));
+  fits = λ x. ap (λ l. take place buffer ++ (new ++ l)) (drop-drop n place buffer ∙ ap (λ k. drop (place + k) buffer) e);
+}
 
 -- Commands before commands.
 pub preceded_twice : (n m : ℕ) (xs ys : List ℕ) (r : Run) → preceded n xs (preceded m ys r) ≡ preceded (n + m) (xs ++ ys) r
@@ -131,11 +130,8 @@ module _ (a : Arrays) (input : List ℕ) (at : ℕ) (cells tags buffer : List �
 pub record Coming (input : List ℕ) (a₀ : Arrays) (at₀ : ℕ) (cells₀ tags₀ buffer : List ℕ) (room : ℕ) (a : Arrays) (cells tags answers : List ℕ) (at done : ℕ) : Type 0 where
   pub spaces : room ≡ length buffer / 4
   pub few : done ≤ room
-  pub first : Formed a₀
   pub formed : Formed a
   pub fits : (length cells ≡ 16 * a.nums.f) × (length tags ≡ 16 * a.nums.f)
-  pub of_cells : length cells ≡ length cells₀
-  pub of_tags : length tags ≡ length tags₀
   pub written : List ℕ
   pub is : run_on room a₀ input at₀ cells₀ tags₀ ≡ preceded done written (run_on (room - done) a input at cells tags)
   pub laid : Laid written 0 buffer (4 * done) answers
@@ -145,11 +141,8 @@ pub coming : (input : List ℕ) (a : Arrays) (at : ℕ) (cells tags buffer : Lis
 coming input a at cells tags buffer f m = record {
   spaces = refl;
   few = omega arith;
-  first = f;
   formed = f;
   fits = m;
-  of_cells = refl;
-  of_tags = refl;
   written = [];
   is =
       let all : length buffer / 4 ≡ length buffer / 4 - 0 = omega arith in
@@ -188,11 +181,8 @@ module _ {input : List ℕ} {a₀ : Arrays} {at₀ : ℕ} {cells₀ tags₀ buff
       told : ran_on (leaving r a' cells' tags') n ≡ command_on a input at cells tags
       told = command_formed a cells tags input at (passing a g.formed) (ran_on (leaving r a' cells' tags') n) e
 
-      pub formed_on : Formed a'
+      formed_on : Formed a'
       formed_on = ran_formed a g.formed input at cells tags r a' cells' tags' n e
-
-      pub kept_on : Kept a₀ a'
-      kept_on = kept g.first formed_on
 
       pub within_on : at + n ≤ length input
       within_on =
@@ -205,12 +195,6 @@ module _ {input : List ℕ} {a₀ : Arrays} {at₀ : ℕ} {cells₀ tags₀ buff
       tags_same : length tags' ≡ length tags
       tags_same = subst (λ (x : Ran). length x.tags ≡ length tags) (sym on) (command_sized (state_of a) input at cells tags).of_tags
 
-      pub cells_on : length cells' ≡ length cells₀
-      cells_on = cells_same ∙ g.of_cells
-
-      pub tags_on : length tags' ≡ length tags₀
-      tags_on = tags_same ∙ g.of_tags
-
       split : run_on room a₀ input at₀ cells₀ tags₀
           ≡ preceded (done + 1) (g.written ++ answer_numbers r n) (onward input at (room - (done + 1)) (ran_on (leaving r a' cells' tags') n))
       split =
@@ -222,9 +206,6 @@ module _ {input : List ℕ} {a₀ : Arrays} {at₀ : ℕ} {cells₀ tags₀ buff
           ∙ preceded_twice done 1 g.written (answer_numbers r n) (onward input at k (ran_on (leaving r a' cells' tags') n))
 
       module _ {answers' : List ℕ} (put : Laid (answer_numbers r n) (4 * done) answers (4 * done + 4) answers') where
-        pub size_on : length answers' ≡ length buffer
-        size_on = put.size ∙ g.laid.size
-
         laid : Laid (g.written ++ answer_numbers r n) 0 buffer (4 * (done + 1)) answers'
         laid =
             let four : 4 * done + 4 ≡ 4 * (done + 1) = omega arith in
@@ -246,11 +227,8 @@ module _ {input : List ℕ} {a₀ : Arrays} {at₀ : ℕ} {cells₀ tags₀ buff
             record {
               spaces = g.spaces;
               few = omega (arith, roomy);
-              first = g.first;
               formed = formed_on;
               fits = (cells_same ∙ g.fits.0 ∙ ap (λ (x : ℕ). 16 * x) (sym f_same), tags_same ∙ g.fits.1 ∙ ap (λ (x : ℕ). 16 * x) (sym f_same));
-              of_cells = cells_on;
-              of_tags = tags_on;
               written = g.written ++ answer_numbers r n;
               is =
                   split

@@ -6,12 +6,6 @@ use Rattle.arrays.specs.declared.Arrays.{Arrays}
 use Rattle.arrays.specs.declared.Answer.{Answer}
 use Rattle.arrays.specs.Reading.{arrays_of}
 use Rattle.arrays.specs.Steps.{answer}
-use Rattle.entries.specs.declared.State.{State}
-use Rattle.entries.specs.declared.Commanded.{Commanded}
-
--- A command by value: its answer, the bytes used and the state.
-abbrev pub commanding : Answer → ℕ → State → Commanded
-commanding r n s = record { answer = r; used = n; state = s }
 
 -- A start: its answer, and the arrays that the state is written as.
 pub record Begun : Type 0 where

@@ -4,9 +4,7 @@ use Rattle.capabilities.specs.Lists.{pick}
 use Rattle.words.specs.Words.{byte_of}
 use Rattle.arrays.specs.declared.Answer.{Answer}
 use Rattle.arrays.specs.declared.Arrays.{Arrays}
-use Rattle.arrays.specs.declared.Numbers.{Numbers}
 use Rattle.session_rules.specs.Session.{ends_session}
-use Rattle.entries.specs.declared.runs.Ran.{Ran}
 use Rattle.step.specs.Entries.{command_on}
 
 -- A command's answer as four numbers: code, number, tag as 0 or 1, bytes used.
@@ -60,7 +58,3 @@ last_code answers = get_or answers (length answers - 4) 0
 unfoldable pub gone_on : List ℕ → ℕ → ℕ → Run → Run
 gone_on input m n r =
     pick (eqb r.done m && not (ends_session (last_code r.answers))) (preceded r.done r.answers (run_on n r.arrays input r.at r.cells r.tags)) r
-
--- What a run hands back: the small numbers, how many commands it did, and the place reached.
-abbrev pub ran_to : Numbers → ℕ → ℕ → Ran
-ran_to nums done at = record { nums = nums; done = done; at = at }

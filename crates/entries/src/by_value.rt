@@ -1,57 +1,38 @@
-// The state by value: it holds the arrays, lends them to a call and hands them back.
+// The state by value: it holds the arrays, lends them to a call and hands them back. The machine over them is written out each time: a
+// function that lent them would return nine borrows of one value, for which no clause is known, and one that took the call as a closure
+// would have to say of it which lists it keeps.
 ghost use Rattle.std.specs.Prelude.{◌≡◌, replicate};
 ghost use Rattle.arrays.specs.Reading.{arrays};
 ghost use Rattle.arrays.specs.Steps.{leaving};
-ghost use Rattle.claims.specs.Cost.{cost};
-ghost use Rattle.machine.specs.Cost.{costed};
 ghost use Rattle.formed.specs.Test.{formed_of};
 ghost use Rattle.cost.specs.Asked.{cost_on};
+ghost use Rattle.cost.specs.Told.{told};
 ghost use Rattle.step.specs.Entries.{step_on, ran_on, command_on};
-ghost use Rattle.entries.specs.ByValue.{beginning, commanding, start_on};
+ghost use Rattle.entries.specs.ByValue.{beginning, start_on};
 
 use crate::{Answered, Commanded, State, call_in, command_in};
-use arrays::{Answer, Arrays, Numbers};
+use arrays::{Answer, Arrays, Machine, Numbers};
 use calls::Call;
-use calls_in_place::word_calls::{coded, granted};
-use cost::{Costed, page_cost};
+use capabilities::refusal::Refusal;
+use cost::{Cost, page_cost};
 use formed::formed;
-use pages::layer::in_range;
-use words::empty;
+use formed::fresh::start_in;
 
-// A state with nothing in it but its small numbers, its rows and its principals.
-fn bare(nums: Numbers, rows: [u64; 64], principals: [u64; 32]) -> State
-    ensures { result.arrays ≡ arrays nums (replicate 64 0) (replicate 64 0) (replicate 8 0) (replicate 8 0) rows (replicate 256 0) (replicate 128 0) principals (replicate 8192 0) }
+// Arrays of zeros.
+fn zeros() -> Arrays
+    ensures { result ≡ arrays (record { v = 0; f = 0; count = 0; place = 0; base = 0; length = 0 }) (replicate 64 0) (replicate 64 0) (replicate 8 0) (replicate 8 0) (replicate 64 0) (replicate 256 0) (replicate 128 0) (replicate 32 0) (replicate 8192 0) }
 {
-    let arrays = Arrays {
-        nums,
+    Arrays {
+        nums: Numbers::default(),
         words: [0; 64],
         marks: [0; 64],
         mail: [0; 8],
         flags: [0; 8],
-        rows,
+        rows: [0; 64],
         pages: [0; 256],
         frames: [0; 128],
-        principals,
+        principals: [0; 32],
         counts: [0; 8192],
-    };
-    State { arrays }
-}
-
-fn answered(answer: Answer, arrays: Arrays) -> Answered
-    ensures { (result.answer ≡ answer) × (result.state.arrays ≡ arrays) }
-{
-    let state = State { arrays };
-    Answered { answer, state }
-}
-
-fn commanded(answer: Answer, used: usize, arrays: Arrays) -> Commanded
-    ensures { result ≡ commanding answer used (record { arrays = arrays }) }
-{
-    let state = State { arrays };
-    Commanded {
-        answer,
-        used,
-        state,
     }
 }
 
@@ -60,178 +41,92 @@ impl State {
     pub fn start(v: u16, f: u16) -> Answered
         ensures { beginning result.answer result.state.arrays ≡ start_on v f }
     {
-        let mut rows = [0u64; 64];
-        let mut principals = [0u64; 32];
-        if in_range(v, f) {
-            rows[0] = 1048576 * (v as u64) + 2533274790395904;
-            principals[0] = 4294975488;
-            let nums = Numbers {
-                v,
-                f,
-                count: 1,
-                place: 0,
-                base: 0,
-                length: 0,
-            };
-            let state = bare(nums, rows, principals);
-            let answer = granted(empty());
-            return Answered { answer, state };
-        }
-        let nums = Numbers {
-            v: 0,
-            f: 0,
-            count: 0,
-            place: 0,
-            base: 0,
-            length: 0,
+        let mut arrays = zeros();
+        let mut machine = Machine {
+            nums: arrays.nums,
+            words: &mut arrays.words,
+            marks: &mut arrays.marks,
+            mail: &mut arrays.mail,
+            flags: &mut arrays.flags,
+            rows: &mut arrays.rows,
+            pages: &mut arrays.pages,
+            frames: &mut arrays.frames,
+            principals: &mut arrays.principals,
+            counts: &mut arrays.counts,
+            cells: &mut [],
+            tags: &mut [],
         };
-        let state = bare(nums, rows, principals);
-        let answer = coded(1);
+        let started = start_in(&mut machine, v as u64, f as u64);
+        arrays.nums = machine.nums;
+        let answer = Answer::from(started);
+        let state = State { arrays };
         Answered { answer, state }
     }
 
     pub fn well_formed(self) -> bool
         ensures { result ≡ formed_of self.arrays }
     {
-        let a = self.arrays;
-        let nums = a.nums;
-        let words = a.words;
-        let marks = a.marks;
-        let mail = a.mail;
-        let flags = a.flags;
-        let rows = a.rows;
-        let pages = a.pages;
-        let frames = a.frames;
-        let principals = a.principals;
-        let counts = a.counts;
-        formed(
-            nums,
-            &words,
-            &marks,
-            &mail,
-            &flags,
-            &rows,
-            &pages,
-            &frames,
-            &principals,
-            &counts,
-        )
+        formed(self.arrays.view())
     }
 
     // What those who claim a page pay for it.
-    pub fn page_cost(self, page: u64) -> Costed
-        ensures { costed result.code (cost result.share result.remainder) ≡ cost_on self.arrays page }
+    pub fn page_cost(self, page: u64) -> Result<Cost, Refusal>
+        ensures { told result ≡ cost_on self.arrays page }
     {
-        let a = self.arrays;
-        let nums = a.nums;
-        let words = a.words;
-        let marks = a.marks;
-        let mail = a.mail;
-        let flags = a.flags;
-        let rows = a.rows;
-        let pages = a.pages;
-        let frames = a.frames;
-        let principals = a.principals;
-        let counts = a.counts;
-        page_cost(
-            nums,
-            &words,
-            &marks,
-            &mail,
-            &flags,
-            &rows,
-            &pages,
-            &frames,
-            &principals,
-            &counts,
-            page,
-        )
+        page_cost(self.arrays.view(), page)
     }
 
     // One call.
     pub fn call(self, call: Call, cells: &mut [u64], tags: &mut [u8]) -> Answered
         ensures { leaving result.answer result.state.arrays cells.new tags.new ≡ step_on self.arrays call cells.old tags.old }
     {
-        let mut a = self.arrays;
-        let mut words = a.words;
-        let mut marks = a.marks;
-        let mut mail = a.mail;
-        let mut flags = a.flags;
-        let mut rows = a.rows;
-        let mut pages = a.pages;
-        let mut frames = a.frames;
-        let mut principals = a.principals;
-        let mut counts = a.counts;
-        let done = call_in(
-            a.nums,
-            call,
-            &mut words,
-            &mut marks,
-            &mut mail,
-            &mut flags,
-            &mut rows,
-            &mut pages,
-            &mut frames,
-            &mut principals,
-            &mut counts,
+        let mut arrays = self.arrays;
+        let mut machine = Machine {
+            nums: arrays.nums,
+            words: &mut arrays.words,
+            marks: &mut arrays.marks,
+            mail: &mut arrays.mail,
+            flags: &mut arrays.flags,
+            rows: &mut arrays.rows,
+            pages: &mut arrays.pages,
+            frames: &mut arrays.frames,
+            principals: &mut arrays.principals,
+            counts: &mut arrays.counts,
             cells,
             tags,
-        );
-        let nums = done.nums;
-        a.nums = nums;
-        a.words = words;
-        a.marks = marks;
-        a.mail = mail;
-        a.flags = flags;
-        a.rows = rows;
-        a.pages = pages;
-        a.frames = frames;
-        a.principals = principals;
-        a.counts = counts;
-        answered(done.answer, a)
+        };
+        let answer = call_in(&mut machine, call);
+        arrays.nums = machine.nums;
+        let state = State { arrays };
+        Answered { answer, state }
     }
 
     // One command of bytes.
     pub fn command(self, input: &[u8], at: usize, cells: &mut [u64], tags: &mut [u8]) -> Commanded
         ensures { ran_on (leaving result.answer result.state.arrays cells.new tags.new) result.used ≡ command_on self.arrays input.now at cells.old tags.old }
     {
-        let mut a = self.arrays;
-        let mut words = a.words;
-        let mut marks = a.marks;
-        let mut mail = a.mail;
-        let mut flags = a.flags;
-        let mut rows = a.rows;
-        let mut pages = a.pages;
-        let mut frames = a.frames;
-        let mut principals = a.principals;
-        let mut counts = a.counts;
-        let done = command_in(
-            a.nums,
-            input,
-            at,
-            &mut words,
-            &mut marks,
-            &mut mail,
-            &mut flags,
-            &mut rows,
-            &mut pages,
-            &mut frames,
-            &mut principals,
-            &mut counts,
+        let mut arrays = self.arrays;
+        let mut machine = Machine {
+            nums: arrays.nums,
+            words: &mut arrays.words,
+            marks: &mut arrays.marks,
+            mail: &mut arrays.mail,
+            flags: &mut arrays.flags,
+            rows: &mut arrays.rows,
+            pages: &mut arrays.pages,
+            frames: &mut arrays.frames,
+            principals: &mut arrays.principals,
+            counts: &mut arrays.counts,
             cells,
             tags,
-        );
-        let nums = done.nums;
-        a.nums = nums;
-        a.words = words;
-        a.marks = marks;
-        a.mail = mail;
-        a.flags = flags;
-        a.rows = rows;
-        a.pages = pages;
-        a.frames = frames;
-        a.principals = principals;
-        a.counts = counts;
-        commanded(done.answer, done.used, a)
+        };
+        let ended = command_in(&mut machine, input, at);
+        arrays.nums = machine.nums;
+        let state = State { arrays };
+        Commanded {
+            answer: ended.answer,
+            used: ended.used,
+            state,
+        }
     }
 }

@@ -3,14 +3,13 @@
 #![tactic(auto)]
 
 ghost use Rattle.std.specs.Prelude.{◌≡◌};
-ghost use Rattle.arrays.specs.Reading.{arrays};
-ghost use Rattle.arrays.specs.Steps.{leaving};
+ghost use Rattle.arrays.specs.Lent.{held, left_in, SameLists};
 ghost use Rattle.step.specs.Entries.{step_on, ran_on, command_on};
+ghost use Rattle.entries.specs.Fit.{Fit};
 
-use arrays::{Answer, Arrays, Numbers};
+use arrays::{Answer, Arrays, Machine};
 use calls::Call;
-use calls_in_place::Stepped;
-use calls_in_place::word_calls::coded;
+use capabilities::refusal::Refusal;
 use formed::formed;
 use step::{Ended, command, step};
 
@@ -38,74 +37,40 @@ pub struct Commanded {
     pub state: State,
 }
 
-// One call on any arrays and lent memory: refusals 1 and 2, and then the step.
-pub fn call_in(
-    nums: Numbers,
-    call: Call,
-    words: &mut [u64],
-    marks: &mut [u8],
-    mail: &mut [u64],
-    flags: &mut [u8],
-    rows: &mut [u64],
-    pages: &mut [u16],
-    frames: &mut [u8],
-    principals: &mut [u64],
-    counts: &mut [u16],
-    cells: &mut [u64],
-    tags: &mut [u8],
-) -> Stepped
-    ensures { leaving result.answer (arrays result.nums words.new marks.new mail.new flags.new rows.new pages.new frames.new principals.new counts.new) cells.new tags.new ≡ step_on (arrays nums words.old marks.old mail.old flags.old rows.old pages.old frames.old principals.old counts.old) call cells.old tags.old }
+// Refusals 1 and 2: the state is well formed, and the lent memory is of its size.
+pub fn fit(machine: &Machine<'_>) -> Result<(), Refusal>
+    ensures { Fit result (held machine.now) machine.now.cells.now machine.now.tags.now }
 {
-    if !formed(
-        nums, words, marks, mail, flags, rows, pages, frames, principals, counts,
-    ) {
-        let answer = coded(1);
-        return Stepped { answer, nums };
+    if !formed(machine.view()) {
+        return Err(Refusal::State);
     }
-    let size = 16 * (nums.f as usize);
-    if !((cells.len() == size) & (tags.len() == size)) {
-        let answer = coded(2);
-        return Stepped { answer, nums };
+    if !machine.fits() {
+        return Err(Refusal::Memory);
     }
-    step(
-        nums, call, words, marks, mail, flags, rows, pages, frames, principals, counts, cells, tags,
-    )
+    Ok(())
+}
+
+// One call on any arrays and lent memory.
+pub fn call_in(machine: &mut Machine<'_>, call: Call) -> Answer
+    ensures lists { SameLists machine.new machine.old }
+    ensures called { left_in result machine.new ≡ step_on (held machine.old) call machine.old.cells.now machine.old.tags.now }
+{
+    match fit(machine) {
+        Ok(()) => step(machine, call),
+        Err(refusal) => Answer::refused(refusal),
+    }
 }
 
 // One command of bytes on any arrays and lent memory.
-pub fn command_in(
-    nums: Numbers,
-    input: &[u8],
-    at: usize,
-    words: &mut [u64],
-    marks: &mut [u8],
-    mail: &mut [u64],
-    flags: &mut [u8],
-    rows: &mut [u64],
-    pages: &mut [u16],
-    frames: &mut [u8],
-    principals: &mut [u64],
-    counts: &mut [u16],
-    cells: &mut [u64],
-    tags: &mut [u8],
-) -> Ended
-    ensures { ran_on (leaving result.answer (arrays result.nums words.new marks.new mail.new flags.new rows.new pages.new frames.new principals.new counts.new) cells.new tags.new) result.used ≡ command_on (arrays nums words.old marks.old mail.old flags.old rows.old pages.old frames.old principals.old counts.old) input.now at cells.old tags.old }
+pub fn command_in(machine: &mut Machine<'_>, input: &[u8], at: usize) -> Ended
+    ensures lists { SameLists machine.new machine.old }
+    ensures told { ran_on (left_in result.answer machine.new) result.used ≡ command_on (held machine.old) input.now at machine.old.cells.now machine.old.tags.now }
 {
-    if !formed(
-        nums, words, marks, mail, flags, rows, pages, frames, principals, counts,
-    ) {
-        let answer = coded(1);
-        let used = 0;
-        return Ended { answer, nums, used };
+    match fit(machine) {
+        Ok(()) => command(machine, input, at),
+        Err(refusal) => Ended {
+            answer: Answer::refused(refusal),
+            used: 0,
+        },
     }
-    let size = 16 * (nums.f as usize);
-    if !((cells.len() == size) & (tags.len() == size)) {
-        let answer = coded(2);
-        let used = 0;
-        return Ended { answer, nums, used };
-    }
-    command(
-        nums, input, at, words, marks, mail, flags, rows, pages, frames, principals, counts, cells,
-        tags,
-    )
 }

@@ -1,135 +1,97 @@
 // Many commands in place, with the state tested once: a step keeps it well formed, so that a second test would say nothing new.
-ghost use Rattle.std.specs.Prelude.{◌≡◌, ◌≤◌, ◌+◌, ◌*◌, length};
-ghost use Rattle.words.specs.Words.{empty};
-ghost use Rattle.arrays.specs.Reading.{arrays, Formed};
-ghost use Rattle.arrays.specs.Steps.{answer as answering};
+ghost use Rattle.std.specs.Prelude.{◌≡◌, ◌≤◌, ◌+◌, length};
+ghost use Rattle.arrays.specs.Lent.{held, Ready, SameLists};
 ghost use Rattle.lines.specs.Laid.{Laid};
-ghost use Rattle.entries.specs.Runs.{answer_numbers, run_of, run_in, ran_to};
+ghost use Rattle.entries.specs.Runs.{answer_numbers, run_of, run_in};
 
-use arrays::{Answer, Numbers};
-use calls_in_place::word_calls::coded;
-use formed::formed;
+use crate::fit;
+use arrays::{Answer, Machine};
 use session_rules::ends;
 use step::command;
 
-// What a run hands back: the small numbers, how many commands it did, and the place in the input that it reached. The arrays are
-// changed where they lie.
+// What a run hands back: how many commands it did, and the place in the input that it reached.
 #[derive(Clone, Copy)]
 pub struct Ran {
-    pub nums: Numbers,
     pub done: usize,
     pub at: usize,
 }
 
-// An answer's four numbers, put at a place that has room for them.
+// The four numbers of a command's answer.
+pub fn numbers(answer: Answer, used: usize) -> [u64; 4]
+    ensures { result ≡ answer_numbers answer used }
+{
+    [
+        answer.code as u64,
+        answer.number,
+        answer.tag as u64,
+        used as u64,
+    ]
+}
+
+// A command's answer, put at a place that has room for it.
 fn put_answer(answers: &mut [u64], place: usize, answer: Answer, used: usize)
     requires { place + 4 ≤ length answers.old }
     ensures { Laid (answer_numbers answer used) place answers.old (place + 4) answers.new }
 {
-    answers[place] = answer.code as u64;
-    answers[place + 1] = answer.number;
-    answers[place + 2] = answer.tag as u64;
-    answers[place + 3] = used as u64;
-}
-
-// A run that is one refused command, which uses no byte.
-fn refuse(nums: Numbers, at: usize, code: u8, answers: &mut [u64]) -> Ran
-    requires { 4 ≤ length answers.old }
-    ensures value { result ≡ ran_to nums 1 at }
-    ensures laid { Laid (answer_numbers (answering code empty) 0) 0 answers.old 4 answers.new }
-{
-    put_answer(answers, 0, coded(code), 0);
-    Ran { nums, done: 1, at }
+    answers[place..place + 4].copy_from_slice(&numbers(answer, used));
 }
 
 // The commands from a place on, on well-formed arrays and lent memory of the right size.
-fn run(
-    start: Numbers,
-    input: &[u8],
-    begin: usize,
-    words: &mut [u64],
-    marks: &mut [u8],
-    mail: &mut [u64],
-    flags: &mut [u8],
-    rows: &mut [u64],
-    pages: &mut [u16],
-    frames: &mut [u8],
-    principals: &mut [u64],
-    counts: &mut [u16],
-    cells: &mut [u64],
-    tags: &mut [u8],
-    answers: &mut [u64],
-) -> Ran
-    requires formed { Formed (arrays start words.old marks.old mail.old flags.old rows.old pages.old frames.old principals.old counts.old) }
-    requires cells_len { (length cells.old ≡ 16 * start.f) × (length tags.old ≡ 16 * start.f) }
-    ensures { run_of result.done result.at (arrays result.nums words.new marks.new mail.new flags.new rows.new pages.new frames.new principals.new counts.new) cells.new tags.new answers.new ≡ run_in (arrays start words.old marks.old mail.old flags.old rows.old pages.old frames.old principals.old counts.old) input.now begin cells.old tags.old answers.old }
+fn run(machine: &mut Machine<'_>, input: &[u8], begin: usize, answers: &mut [u64]) -> Ran
+    requires { Ready machine.old }
+    ensures lists { SameLists machine.new machine.old }
+    ensures ran { run_of result.done result.at (held machine.new) machine.new.cells.now machine.new.tags.now answers.new ≡ run_in (held machine.old) input.now begin machine.old.cells.now machine.old.tags.now answers.old }
 {
     let room = answers.len() / 4;
-    let mut nums = start;
     let mut at = begin;
     let mut done: usize = 0;
+    // No `for`: the place moves by as many bytes as the command used, and either end may come first.
     while (at < input.len()) & (done < room) {
-        let told = command(
-            nums, input, at, words, marks, mail, flags, rows, pages, frames, principals, counts,
-            cells, tags,
-        );
-        let answer = told.answer;
-        put_answer(answers, 4 * done, answer, told.used);
-        let next = told.nums;
-        nums = next;
+        let told = command(machine, input, at);
+        put_answer(answers, 4 * done, told.answer, told.used);
         at += told.used;
         done += 1;
-        if ends(answer.code) {
-            return Ran { nums, done, at };
+        if ends(told.answer.code) {
+            return Ran { done, at };
         }
     }
-    Ran { nums, done, at }
+    Ran { done, at }
 }
 
 // The commands from a place of the input on, on any arrays and lent memory, with the answers put first in a lent buffer: as many as
 // it has room for, four numbers each.
-pub fn commands_in(
-    nums: Numbers,
-    input: &[u8],
-    at: usize,
-    words: &mut [u64],
-    marks: &mut [u8],
-    mail: &mut [u64],
-    flags: &mut [u8],
-    rows: &mut [u64],
-    pages: &mut [u16],
-    frames: &mut [u8],
-    principals: &mut [u64],
-    counts: &mut [u16],
-    cells: &mut [u64],
-    tags: &mut [u8],
-    answers: &mut [u64],
-) -> Ran
-    ensures { run_of result.done result.at (arrays result.nums words.new marks.new mail.new flags.new rows.new pages.new frames.new principals.new counts.new) cells.new tags.new answers.new ≡ run_in (arrays nums words.old marks.old mail.old flags.old rows.old pages.old frames.old principals.old counts.old) input.now at cells.old tags.old answers.old }
+pub fn commands_in(machine: &mut Machine<'_>, input: &[u8], at: usize, answers: &mut [u64]) -> Ran
+    ensures lists { SameLists machine.new machine.old }
+    ensures ran { run_of result.done result.at (held machine.new) machine.new.cells.now machine.new.tags.now answers.new ≡ run_in (held machine.old) input.now at machine.old.cells.now machine.old.tags.now answers.old }
 {
     if !((at < input.len()) & (4 <= answers.len())) {
-        return Ran { nums, done: 0, at };
+        return Ran { done: 0, at };
     }
-    if !formed(
-        nums,
-        &words[..],
-        &marks[..],
-        &mail[..],
-        &flags[..],
-        &rows[..],
-        &pages[..],
-        &frames[..],
-        &principals[..],
-        &counts[..],
-    ) {
-        return refuse(nums, at, 1, answers);
+    match fit(machine) {
+        Ok(()) => {
+            // A machine of its own: nothing that is written through a list can then change where the lists lie, so that the loop keeps
+            // it in registers. With the lent one a short command takes nearly twice as long.
+            let mut own = Machine {
+                nums: machine.nums,
+                words: &mut *machine.words,
+                marks: &mut *machine.marks,
+                mail: &mut *machine.mail,
+                flags: &mut *machine.flags,
+                rows: &mut *machine.rows,
+                pages: &mut *machine.pages,
+                frames: &mut *machine.frames,
+                principals: &mut *machine.principals,
+                counts: &mut *machine.counts,
+                cells: &mut *machine.cells,
+                tags: &mut *machine.tags,
+            };
+            let ran = run(&mut own, input, at, answers);
+            machine.nums = own.nums;
+            ran
+        }
+        Err(refusal) => {
+            put_answer(answers, 0, Answer::refused(refusal), 0);
+            Ran { done: 1, at }
+        }
     }
-    let size = 16 * (nums.f as usize);
-    if !((cells.len() == size) & (tags.len() == size)) {
-        return refuse(nums, at, 2, answers);
-    }
-    run(
-        nums, input, at, words, marks, mail, flags, rows, pages, frames, principals, counts, cells,
-        tags, answers,
-    )
 }

@@ -1,4 +1,5 @@
 -- The test of the revocation, by whether one runs. Assumes nothing.
+use Rattle.std.specs.Prelude.{Option}
 use Prim.Native.Nat.{ℕ}
 use mathlib.Core.Bool.{Bool, true, false, not, ◌&&◌}
 use mathlib.Core.List.{List}
@@ -8,7 +9,6 @@ use Rattle.capabilities.proofs.Choice.{pick_yes, pick_no}
 use Rattle.pages.specs.Freed.{all_freed}
 use Rattle.pages.specs.Numbers.{layer_of}
 use Rattle.table.specs.declared.Reservation.{Reservation}
-use Rattle.table.specs.declared.Found.{Found}
 use Rattle.table.specs.Rows.{range_of}
 use Rattle.table.specs.Find.{missing, revoking_of, row_of}
 use Rattle.table.specs.Numbers.{table_of}
@@ -18,7 +18,7 @@ use Rattle.arrays.specs.declared.Numbers.{Numbers}
 use Rattle.arrays.specs.Reading.{core_of}
 use Rattle.formed.specs.Test.{cached}
 
-module _ (n : Numbers) (rows pages frames principals counts : List ℕ) (found : Found) (row : Reservation)
+module _ (n : Numbers) (rows pages frames principals counts : List ℕ) (found : Option ℕ) (row : Reservation)
     (e1 : found ≡ revoking_of (table_of rows n.count)) (e2 : row ≡ row_of (table_of rows n.count) found) where
   abbrev c : Core
   c = core_of n rows pages frames principals counts

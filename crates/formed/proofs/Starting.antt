@@ -18,12 +18,13 @@ use Rattle.arrays.proofs.Starting.{begun, fresh_in, fresh_out, first_number, roo
 use Rattle.formed.specs.Test.{sized}
 use Rattle.formed.specs.Fresh.{zeros, starting, start_in}
 
--- V and F in range are small.
-pub small_v : (v f : ℕ) → in_range v f ≡ true → v ≤ 256
-small_v v f e = leb-true v 256 (and_right (ltb 0 v) (leb v 256) (and_left (ltb 0 v && leb v 256) (ltb 0 f && leb f 128) e))
+-- The small numbers where no revocation runs.
+abbrev pub numbers : ℕ → ℕ → ℕ → Numbers
+numbers v f count = record { v = v; f = f; count = count; place = 0; base = 0; length = 0 }
 
-pub small_f : (v f : ℕ) → in_range v f ≡ true → f ≤ 128
-small_f v f e = leb-true f 128 (and_right (ltb 0 f) (leb f 128) (and_right (ltb 0 v && leb v 256) (ltb 0 f && leb f 128) e))
+-- Arrays with other small numbers.
+abbrev pub exchanged : Numbers → Arrays → Arrays
+exchanged n a = arrays n a.words a.marks a.mail a.flags a.rows a.pages a.frames a.principals a.counts
 
 module _ (v f : ℕ) (a : Arrays) where
   pub start_unfit : sized a ≡ false → starting 1 a ≡ start_in v f a
@@ -31,7 +32,7 @@ module _ (v f : ℕ) (a : Arrays) where
   start_unfit e = sym (pick_no (sized a) (starting (start_of v f).code (arrays_of (start_of v f).state)) (starting 1 a) e)
 
   abbrev with_numbers : Numbers → Arrays
-  with_numbers n = arrays n a.words a.marks a.mail a.flags a.rows a.pages a.frames a.principals a.counts
+  with_numbers n = exchanged n a
 
   -- The first row is that of all cells, and the first principal the root.
   abbrev with_first : Arrays → Arrays
@@ -78,19 +79,15 @@ module _ (v f : ℕ) (a : Arrays) where
     unfolding start_in start_of
     started = sym (pick_yes (sized a) (starting (start_of v f).code (arrays_of (start_of v f).state)) (starting 1 a) e)
 
-    pub start_refused : in_range v f ≡ false → (k : ℕ) → k ≡ 1 → (n : Numbers) → n ≡ record { v = 0; f = 0; count = 0; place = 0; base = 0; length = 0 }
-        → (b : Arrays) → b ≡ zeros (with_numbers n) → starting k b ≡ start_in v f a
-    start_refused r k kk n nn b d =
-        ap (λ (x : ℕ). starting x b) kk
-        ∙ ap (starting 1) (d ∙ ap (λ (x : Numbers). zeros (with_numbers x)) nn ∙ zeros_are _ _ _ ∙ ap (λ (x : ℕ). begun 0 0 0 (replicate x 0) (replicate (length a.principals) 0)) of_rows
+    pub start_refused : in_range v f ≡ false → (n : Numbers) → n ≡ numbers 0 0 0 → (b : Arrays) → b ≡ zeros (with_numbers n) → starting 1 b ≡ start_in v f a
+    start_refused r n nn b d =
+        ap (starting 1) (d ∙ ap (λ (x : Numbers). zeros (with_numbers x)) nn ∙ zeros_are _ _ _ ∙ ap (λ (x : ℕ). begun 0 0 0 (replicate x 0) (replicate (length a.principals) 0)) of_rows
         ∙ ap (λ (x : ℕ). begun 0 0 0 (replicate 64 0) (replicate x 0)) of_principals ∙ sym (fresh_out v f r))
         ∙ ap (λ (x : ℕ). starting x (arrays_of (fresh v f))) (sym (pick_no (in_range v f) 0 1 r)) ∙ started
 
-    pub start_granted : in_range v f ≡ true → (k : ℕ) → k ≡ 0 → (n : Numbers) → n ≡ record { v = v; f = f; count = 1; place = 0; base = 0; length = 0 }
-        → (b : Arrays) → b ≡ zeros (with_numbers n) → starting k (with_first b) ≡ start_in v f a
-    start_granted r k kk n nn b d =
-        ap (λ (x : ℕ). starting x (with_first b)) kk
-        ∙ ap (λ (x : Arrays). starting 0 (with_first x)) (d ∙ ap (λ (x : Numbers). zeros (with_numbers x)) nn)
+    pub start_granted : in_range v f ≡ true → (n : Numbers) → n ≡ numbers v f 1 → (b : Arrays) → b ≡ zeros (with_numbers n) → starting 0 (with_first b) ≡ start_in v f a
+    start_granted r n nn b d =
+        ap (λ (x : Arrays). starting 0 (with_first x)) (d ∙ ap (λ (x : Numbers). zeros (with_numbers x)) nn)
         ∙ ap (starting 0) (zeros_are _ _ _ ∙ ap (λ (x : ℕ). begun v f 1 (set (replicate x 0) 0 (first_number v)) (set (replicate (length a.principals) 0) 0 root_number)) of_rows
         ∙ ap (λ (x : ℕ). begun v f 1 (set (replicate 64 0) 0 (first_number v)) (set (replicate x 0) 0 root_number)) of_principals ∙ sym (fresh_in v f r))
         ∙ ap (λ (x : ℕ). starting x (arrays_of (fresh v f))) (sym (pick_yes (in_range v f) 0 1 r)) ∙ started

@@ -1,5 +1,5 @@
 -- A start over lent arrays. Assumes nothing.
-use Rattle.std.specs.Prelude.{ℕ, length, replicate}
+use Rattle.std.specs.Prelude.{ℕ, ◌+◌, ◌*◌, length, replicate, set}
 use Rattle.capabilities.specs.Lists.{pick}
 use Rattle.machine.specs.Formed.{start_of}
 use Rattle.arrays.specs.declared.Arrays.{Arrays}
@@ -11,6 +11,12 @@ abbrev pub zeros : Arrays → Arrays
 zeros a =
     arrays a.nums (replicate (length a.words) 0) (replicate (length a.marks) 0) (replicate (length a.mail) 0) (replicate (length a.flags) 0)
     (replicate (length a.rows) 0) (replicate (length a.pages) 0) (replicate (length a.frames) 0) (replicate (length a.principals) 0) (replicate (length a.counts) 0)
+
+-- The small numbers, the one row and the one principal of a fresh state, put over what stands there.
+abbrev pub opened : ℕ → ℕ → Arrays → Arrays
+opened v f a =
+    arrays (record { v = v; f = f; count = 1; place = 0; base = 0; length = 0 }) a.words a.marks a.mail a.flags
+    (set a.rows 0 (1048576 * v + 2533274790395904)) a.pages a.frames (set a.principals 0 4294975488) a.counts
 
 -- What a start leaves: its code and the arrays.
 pub record Start : Type 0 where

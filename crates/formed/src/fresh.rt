@@ -1,98 +1,92 @@
 // A start in place: a fresh state written over lent arrays.
-ghost use Rattle.std.specs.Prelude.{◌≡◌};
+ghost use Rattle.std.specs.Prelude.{◌≡◌, true, false};
+ghost use Rattle.std.specs.Result.{MatchResult};
+ghost use Rattle.capabilities.specs.declared.refusal.Refusal.TheVariants.{State};
 ghost use Rattle.pages.specs.Layer.{in_range};
-ghost use Rattle.arrays.specs.declared.Numbers.{Numbers};
-ghost use Rattle.arrays.specs.Reading.{arrays};
-ghost use Rattle.formed.specs.Fresh.{zeros, starting, start_in};
+ghost use Rattle.capabilities.specs.Refusals.{code};
+ghost use Rattle.arrays.specs.Lent.{held, SameLists, MemoryKept};
+ghost use Rattle.formed.specs.Fresh.{zeros, opened, starting, start_in};
+ghost use Rattle.formed.specs.Test.{sized};
 
-use arrays::Numbers;
-use pages::lent::{clear_cells, clear_pages, clear_tags};
+use arrays::{Machine, Numbers};
+use capabilities::refusal::Refusal;
+use capabilities::slices::put;
+use pages::layer::in_range;
 
-// What a start hands back: code 0, or 1 if it is refused, and the small numbers. The arrays are written where they lie.
-#[derive(Clone, Copy)]
-pub struct Begun {
-    pub code: u8,
-    pub nums: Numbers,
+// Whether the lists have the lengths of the machine.
+fn sized(machine: &Machine<'_>) -> bool
+    ensures { result ≡ sized (held machine.now) }
+{
+    let slots = ((machine.words.len() == 64) & (machine.marks.len() == 64))
+        & ((machine.mail.len() == 8) & (machine.flags.len() == 8));
+    let entries = (machine.rows.len() == 64)
+        & ((machine.pages.len() == 256) & (machine.frames.len() == 128));
+    let claims = (machine.principals.len() == 32) & (machine.counts.len() == 8192);
+    slots & (entries & claims)
 }
 
-fn in_range(v: u64, f: u64) -> bool
-    ensures { result ≡ in_range v f }
+// V and F as the state holds them.
+fn ranged(v: u64, f: u64) -> Result<(u16, u16), Refusal>
+    ensures { MatchResult result (λ x. (in_range v f ≡ true) × (x.0 ≡ v) × (x.1 ≡ f)) (λ e. (in_range v f ≡ false) × (e ≡ State)) }
 {
-    ((0 < v) & (v <= 256)) & ((0 < f) & (f <= 128))
+    let (Ok(v), Ok(f)) = (u16::try_from(v), u16::try_from(f)) else {
+        return Err(Refusal::State);
+    };
+    if in_range(v, f) {
+        Ok((v, f))
+    } else {
+        Err(Refusal::State)
+    }
 }
 
-fn handed(code: u8, v: u16, f: u16, count: usize) -> Begun
-    ensures code_value { result.code ≡ code }
-    ensures nums_value { result.nums ≡ record { v = v; f = f; count = count; place = 0; base = 0; length = 0 } }
+// Every number of the arrays is 0.
+fn clear(machine: &mut Machine<'_>)
+    ensures lists { SameLists machine.new machine.old }
+    ensures memory { MemoryKept machine.new machine.old }
+    ensures arrays { held machine.new ≡ zeros (held machine.old) }
 {
-    let nums = Numbers {
+    machine.words.fill(0);
+    machine.marks.fill(0);
+    machine.mail.fill(0);
+    machine.flags.fill(0);
+    machine.rows.fill(0);
+    machine.pages.fill(0);
+    machine.frames.fill(0);
+    machine.principals.fill(0);
+    machine.counts.fill(0);
+}
+
+// A fresh state for V and F over arrays of zeros: its small numbers, its one row and its one principal.
+pub fn open(machine: &mut Machine<'_>, v: u16, f: u16)
+    ensures lists { SameLists machine.new machine.old }
+    ensures memory { MemoryKept machine.new machine.old }
+    ensures opened { held machine.new ≡ opened v f (held machine.old) }
+{
+    machine.nums = Numbers {
         v,
         f,
-        count,
+        count: 1,
         place: 0,
         base: 0,
         length: 0,
     };
-    Begun { code, nums }
-}
-
-// Every number of the arrays is 0.
-fn clear(
-    words: &mut [u64],
-    marks: &mut [u8],
-    mail: &mut [u64],
-    flags: &mut [u8],
-    rows: &mut [u64],
-    pages: &mut [u16],
-    frames: &mut [u8],
-    principals: &mut [u64],
-    counts: &mut [u16],
-)
-    ensures { (n : Numbers) → arrays n words.new marks.new mail.new flags.new rows.new pages.new frames.new principals.new counts.new ≡ zeros (arrays n words.old marks.old mail.old flags.old rows.old pages.old frames.old principals.old counts.old) }
-{
-    clear_cells(words);
-    clear_tags(marks);
-    clear_cells(mail);
-    clear_tags(flags);
-    clear_cells(rows);
-    clear_pages(pages);
-    clear_tags(frames);
-    clear_cells(principals);
-    clear_pages(counts);
+    put(machine.rows, 0, 1048576 * (v as u64) + 2533274790395904);
+    put(machine.principals, 0, 4294975488);
 }
 
 // A fresh state for V and F over any arrays. Refused for V or F out of range, it leaves the all-zero state; refused for the length of
 // an array, it leaves every number as it was.
-pub fn start_in(
-    v: u64,
-    f: u64,
-    nums: Numbers,
-    words: &mut [u64],
-    marks: &mut [u8],
-    mail: &mut [u64],
-    flags: &mut [u8],
-    rows: &mut [u64],
-    pages: &mut [u16],
-    frames: &mut [u8],
-    principals: &mut [u64],
-    counts: &mut [u16],
-) -> Begun
-    ensures { starting result.code (arrays result.nums words.new marks.new mail.new flags.new rows.new pages.new frames.new principals.new counts.new) ≡ start_in v f (arrays nums words.old marks.old mail.old flags.old rows.old pages.old frames.old principals.old counts.old) }
+pub fn start_in(machine: &mut Machine<'_>, v: u64, f: u64) -> Result<(), Refusal>
+    ensures lists { SameLists machine.new machine.old }
+    ensures memory { MemoryKept machine.new machine.old }
+    ensures start { starting (code result) (held machine.new) ≡ start_in v f (held machine.old) }
 {
-    let slots = ((words.len() == 64) & (marks.len() == 64))
-        & ((mail.len() == 8) & (flags.len() == 8));
-    let entries = (rows.len() == 64) & ((pages.len() == 256) & (frames.len() == 128));
-    let claims = (principals.len() == 32) & (counts.len() == 8192);
-    if !(slots & (entries & claims)) {
-        return Begun { code: 1, nums };
+    if !sized(machine) {
+        return Err(Refusal::State);
     }
-    clear(
-        words, marks, mail, flags, rows, pages, frames, principals, counts,
-    );
-    if !in_range(v, f) {
-        return handed(1, 0, 0, 0);
-    }
-    rows[0] = 1048576 * v + 2533274790395904;
-    principals[0] = 4294975488;
-    handed(0, v as u16, f as u16, 1)
+    clear(machine);
+    machine.nums = Numbers::default();
+    let (v, f) = ranged(v, f)?;
+    open(machine, v, f);
+    Ok(())
 }

@@ -2,17 +2,15 @@
 #![tactic(auto)]
 
 ghost use Rattle.std.specs.Prelude.{◌≡◌};
-ghost use Rattle.arrays.specs.Reading.{arrays};
+ghost use Rattle.arrays.specs.Lent.{seen};
 ghost use Rattle.formed.specs.Test.{RevocationKept, formed_of};
 
-use arrays::Numbers;
+use arrays::{Numbers, View};
 use claims::sound::claims_sound;
 use pages::lent::all_freed;
 use pages::sound::layer_sound;
 use reservations::{range_of, whole_pages};
-use table::find::{revoking, row_in};
-use table::row::missing;
-use table::tiling::well_formed;
+use table::LentRows;
 use words::registers::{bits, mailboxes_sound};
 
 pub mod fresh;
@@ -23,40 +21,35 @@ fn revocation_kept(nums: Numbers, rows: &[u64], pages: &[u16]) -> bool
     ensures { RevocationKept result nums rows.now pages.now }
 {
     let count = nums.count;
-    let found = revoking(rows, count);
-    let row = row_in(rows, count, found);
+    let table = LentRows { rows, count };
+    let found = table.revoking();
+    let row = table.row(found);
     let kept = (nums.base == row.base) & (nums.length == row.length);
-    if missing(found) {
-        return kept & (nums.place == 0);
+    match found {
+        None => kept & (nums.place == 0),
+        Some(_) => kept & (whole_pages(row) & all_freed(pages, range_of(row))),
     }
-    kept & (whole_pages(row) & all_freed(pages, range_of(row)))
 }
 
 // Whether arrays are a well-formed state, each number as the state is written.
-pub fn formed(
-    nums: Numbers,
-    words: &[u64],
-    marks: &[u8],
-    mail: &[u64],
-    flags: &[u8],
-    rows: &[u64],
-    pages: &[u16],
-    frames: &[u8],
-    principals: &[u64],
-    counts: &[u16],
-) -> bool
-    ensures { result ≡ formed_of (arrays nums words.now marks.now mail.now flags.now rows.now pages.now frames.now principals.now counts.now) }
+pub fn formed(view: View<'_>) -> bool
+    ensures { result ≡ formed_of (seen view.entry) }
 {
-    let sized = ((words.len() == 64) & (marks.len() == 64))
-        & ((mail.len() == 8) & (flags.len() == 8));
-    let layer = layer_sound(nums.v, nums.f, pages, frames);
+    let nums = view.nums;
+    let sized = ((view.words.len() == 64) & (view.marks.len() == 64))
+        & ((view.mail.len() == 8) & (view.flags.len() == 8));
+    let layer = layer_sound(nums.v, nums.f, view.pages, view.frames);
     if !(sized & layer) {
         return false;
     }
-    let table = well_formed(rows, nums.count, 16 * (nums.v as u32));
+    let rows = LentRows {
+        rows: view.rows,
+        count: nums.count,
+    };
+    let table = rows.well_formed(16 * (nums.v as u32));
     let placed = nums.place <= 16 * (nums.f as u32);
-    let kept = revocation_kept(nums, rows, pages);
-    let tags = (bits(marks) & bits(flags)) & mailboxes_sound(mail, flags);
-    let claims = claims_sound(nums.v, principals, counts);
+    let kept = revocation_kept(nums, view.rows, view.pages);
+    let tags = (bits(view.marks) & bits(view.flags)) & mailboxes_sound(view.mail, view.flags);
+    let claims = claims_sound(nums.v, view.principals, view.counts);
     ((table & placed) & (kept & tags)) & claims
 }

@@ -1,4 +1,5 @@
 -- A start has the invariant, a step keeps it, so every history has it. Assumes nothing.
+use Rattle.std.specs.Prelude.{Some}
 use Prim.Native.Nat.{ℕ, ◌/◌}
 use native.Mathlib.Omega.{arith}
 use mathlib.Core.Bool.{Bool, true, false}
@@ -10,7 +11,6 @@ use Rattle.capabilities.specs.Lists.{pick}
 use Rattle.capabilities.proofs.Lists.{same_everywhere}
 use Rattle.pages.specs.declared.FrameState.TheVariants.{Dirty, Free}
 use Rattle.pages.specs.declared.PageState.TheVariants.{Unmapped, Mapped}
-use Rattle.pages.specs.declared.Place.TheVariants.{At}
 use Rattle.pages.specs.Entries.{page_entry, frame_entry}
 use Rattle.pages.specs.Layer.{page_at, frame_at, fresh_of, in_range, blank}
 use Rattle.pages.specs.Mapping.{lookup_of}
@@ -53,7 +53,7 @@ fresh_frame v f k = go (in_range v f)
     go true = ap (λ e. e.state) (same_everywhere 128 k (frame_entry Dirty))
     go false = ap (λ e. e.state) (same_everywhere 128 k (frame_entry Dirty))
 
-fresh_shows : (v f x at : ℕ) → lookup_of (fresh_of v f) x ≡ At at → ⊥
+fresh_shows : (v f x at : ℕ) → lookup_of (fresh_of v f) x ≡ Some at → ⊥
 fresh_shows v f x at e =
     let k = seen (fresh_of v f) x at e in
     let z : Unmapped ≡ Mapped k.frame = sym (fresh_page v f (x / 16)) ∙ k.page in

@@ -1,4 +1,5 @@
 -- Whatever a granted call does keeps the invariant. Assumes nothing.
+use Rattle.std.specs.Prelude.{Option, Some, None}
 use Prim.Native.Nat.{ℕ, ◌+◌, ◌*◌, ◌%◌, ◌<◌, ◌≤◌}
 use native.Mathlib.Omega.{arith}
 use mathlib.Core.Bool.{Bool, true, false, not, ◌&&◌, true≢false}
@@ -15,8 +16,6 @@ use Rattle.capabilities.specs.Refusals.{first}
 use Rattle.capabilities.proofs.Choice.{and_left, and_right}
 use Rattle.pages.specs.declared.Frame.{Frame}
 use Rattle.pages.specs.Pages.{Pages}
-use Rattle.pages.specs.declared.Place.{Place}
-use Rattle.pages.specs.declared.Place.TheVariants.{At, Nowhere}
 use Rattle.pages.specs.declared.VirtualPage.{VirtualPage}
 use Rattle.pages.specs.Mapping.{lookup_of, freed_of, released_of, map_reasons, unmap_reasons, dirty_reasons, mapped, unmapped, map_of, unmap_of}
 use Rattle.pages.proofs.Formed.{Sound as Layered, sound as layered}
@@ -280,14 +279,14 @@ module _ (s : State) (cells tags : List ℕ) (inv : Inv (machine s cells tags)) 
             go true e = none_sound u
             go false e = collect_sound t u k.row k.used k.now w x (λ h. out w.cell (sym (and_yes w.tag (dying c w.cell) h) ∙ e))
 
-        old : (v at : ℕ) → lookup_of after_pages v ≡ At at → lookup_of c.pages v ≡ At at
+        old : (v at : ℕ) → lookup_of after_pages v ≡ Some at → lookup_of c.pages v ≡ Some at
         old v at e = released_shows c.pages layer (revoked c) v at e
 
-        gone : (v : ℕ) → inside (range_of (row_at t k.row)) v ≡ true → (x : Place) → lookup_of after_pages v ≡ x → lookup_of after_pages v ≡ Nowhere
-        gone v e Nowhere q = q
-        gone v e (At at) q =
+        gone : (v : ℕ) → inside (range_of (row_at t k.row)) v ≡ true → (x : Option ℕ) → lookup_of after_pages v ≡ x → lookup_of after_pages v ≡ None
+        gone v e None q = q
+        gone v e (Some at) q =
             let none = none_shown c.pages layer (revoked c) (ap (λ r. r.base % 16) k.range ∙ k.whole_base) (ap (λ r. r.length % 16) k.range ∙ k.whole_length) k.freed v (ap (λ r. inside r v) k.range ∙ e) in
-            absurd (let z : ◌≡◌ {A = ℕ} 0 1 = let y : Nowhere ≡ At at = sym none ∙ old v at q in cc in omega arith)
+            absurd (let z : ◌≡◌ {A = ℕ} 0 1 = let y : None ≡ Some at = sym none ∙ old v at q in cc in omega arith)
 
     -- 07 collect.
     keep_collect : first (collect_reasons c) ≡ 0 → Inv (after (collecting c))

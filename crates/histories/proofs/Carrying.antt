@@ -1,10 +1,10 @@
 -- The table's own calls carry the lent reservations along. Assumes nothing.
+use Rattle.std.specs.Prelude.{Some}
 use Prim.Native.Nat.{ℕ, suc, ◌+◌, ◌*◌, ◌<◌, ◌≤◌}
 use native.Mathlib.Omega.{arith}
 use mathlib.Core.Bool.{true}
 use mathlib.Core.Path.{◌≡◌, ap, subst, ◌∙◌}
 use lib.ListN.{length}
-use Rattle.table.specs.declared.Found.TheVariants.{At}
 use Rattle.table.specs.Table.{Table}
 use Rattle.table.specs.Find.{row_of, find_of}
 use Rattle.table.specs.Operations.{take_of, split_reasons, split_of, merge_of, give_of}
@@ -45,7 +45,7 @@ module _ (c : Core) (ok : core_sound c ≡ true) where
   take_kept p base z = let (i, o, r) = take_after size t facts.rows p base z in take_carried t (take_of t p base).table p base i o r
 
   -- What a granted split cuts off is part of what it has found.
-  pub split_short : (p base len i : ℕ) → (split_of t p base len).code ≡ 0 → find_of t p base ≡ At i → i < length (live t) → len ≤ (row_at t i).length
+  pub split_short : (p base len i : ℕ) → (split_of t p base len).code ≡ 0 → find_of t p base ≡ Some i → i < length (live t) → len ≤ (row_at t i).length
   split_short p base len i z found h =
       subst (λ r. len ≤ r.length) (ap (row_of t) found ∙ row_live t i h)
       (split_fits (row_of t (find_of t p base)) len (split_clear t (find_of t p base) len (unfold split_of split_reasons in z)).fits)

@@ -1,4 +1,5 @@
 -- What the calls find and make: confined capabilities, the place of a cell, the end of a revocation. Assumes nothing.
+use Rattle.std.specs.Prelude.{None, Some, Option}
 use Prim.Native.Nat.{ℕ, ◌+◌, ◌*◌, ◌/◌, ◌%◌, ◌<◌, ◌≤◌}
 use native.Mathlib.Omega.{arith}
 use mathlib.Core.Bool.{true, false, ◌&&◌, true≢false}
@@ -15,8 +16,6 @@ use Rattle.capabilities.proofs.Choice.{pick_yes, and_left, and_right}
 use Rattle.pages.specs.Mapping.{freed_of, released_of, any_mapped}
 use Rattle.pages.specs.Freed.{all_freed}
 use Rattle.pages.proofs.AllFreed.{freed_none_mapped}
-use Rattle.table.specs.declared.Found.{Found}
-use Rattle.table.specs.declared.Found.TheVariants.{At as Row, Nowhere as NoRow}
 use Rattle.table.specs.declared.Reservation.{Reservation}
 use Rattle.table.specs.Table.{Table}
 use Rattle.table.specs.Find.{find_of, row_of, with_row, revoking_of, missing}
@@ -110,7 +109,7 @@ revoked_row c = refl
 -- The reservation that is Revoking while a revocation runs.
 pub record Revoked (c : Core) : Type 0 where
   pub row : ℕ
-  pub found : revoking_of c.table ≡ Row row
+  pub found : revoking_of c.table ≡ Some row
   pub used : row < length (live c.table)
   pub dies : is_revoking (row_at c.table row).state ≡ true
   pub is : row_of c.table (revoking_of c.table) ≡ row_at c.table row
@@ -119,13 +118,13 @@ pub record Revoked (c : Core) : Type 0 where
 pub revoked_while : (c : Core) → running c ≡ true → Revoked c
 revoked_while c run = go (revoking_of c.table) refl
   where
-    go : (f : Found) → revoking_of c.table ≡ f → Revoked c
-    go (Row i) e =
+    go : (f : Option ℕ) → revoking_of c.table ≡ f → Revoked c
+    go (Some i) e =
         let t = c.table in
         let here = found_at (λ r. is_revoking r.state) (live t) i blank (unfold revoking_of in e) in
         let row : row_of t (revoking_of t) ≡ row_at t i = ap (row_of t) e ∙ row_live t i here.0 in
         record { row = i; found = e; used = here.0; dies = here.1; is = row; range = revoked_row c ∙ ap (λ r. range_of r) row }
-    go NoRow e = absurd (true≢false (sym (ap (λ f. missing f) e) ∙ not-true (missing (revoking_of c.table)) (unfold running in run)))
+    go None e = absurd (true≢false (sym (ap (λ f. missing f) e) ∙ not-true (missing (revoking_of c.table)) (unfold running in run)))
 
 -- What a granted collect has found and leaves.
 pub record Ends (c : Core) : Type 0 where
@@ -170,7 +169,7 @@ ends c ok z =
       dies = k.dies;
       range = k.range;
       now =
-          ap (λ x. live x.table) (p ∙ collected_at c (Row i) k.found) ∙ ap (λ r. live (with_row t (Row i) (collected_row r))) (row_live t i k.used)
+          ap (λ x. live x.table) (p ∙ collected_at c (Some i) k.found) ∙ ap (λ r. live (with_row t (Some i) (collected_row r))) (row_live t i k.used)
           ∙ with_live (16 * c.pages.v) t (sound (16 * c.pages.v) t facts.rows) i k.used (collected_row (row_at t i));
       parts = p ∙ collected_parts c ∙ ap (λ x. unswept c (released_of c.pages (revoked c)) x.table) (sym p);
       over = clear.1;

@@ -1,4 +1,5 @@
 -- Live by frames: each place of a Mapped frame is the place of a virtual cell whose page is Mapped, and of one alone. Assumes nothing.
+use Rattle.std.specs.Prelude.{Some}
 use Prim.Native.Nat.{ℕ, suc, ◌+◌, ◌*◌, ◌/◌, ◌%◌, ◌<◌, ◌≤◌}
 use native.Mathlib.Omega.{arith}
 use mathlib.Core.Bool.{Bool, true, false, false≢true}
@@ -15,7 +16,6 @@ use Rattle.pages.specs.Pages.{PageEntry}
 use Rattle.pages.specs.declared.PageState.{PageState}
 use Rattle.pages.specs.declared.PageState.TheVariants.{Unmapped, Freed, Mapped}
 use Rattle.pages.specs.Pages.{Pages}
-use Rattle.pages.specs.declared.Place.TheVariants.{At}
 use Rattle.pages.specs.Entries.{is_shown, is_dirty, is_unmapped, maps, page_entry, frame_entry}
 use Rattle.pages.specs.Layer.{page_at, frame_at, mappings, page_sound, frame_sound}
 use Rattle.pages.specs.Mapping.{lookup_of}
@@ -72,7 +72,7 @@ module _ (s : Pages) (ok : Layered s) where
           absurd (let z : Unmapped ≡ Mapped f = sym (ap (λ x. x.state) d) ∙ e in let y : ◌≡◌ {A = ℕ} 0 1 = cc in omega arith)
 
   -- The virtual cell that has a place of a Mapped frame.
-  pub frame_cell : (k i : ℕ) → frame_at s k ≡ Shown → i < 16 → (v : ℕ) × (lookup_of s v ≡ At (16 * k + i))
+  pub frame_cell : (k i : ℕ) → frame_at s k ≡ Shown → i < 16 → (v : ℕ) × (lookup_of s v ≡ Some (16 * k + i))
   unfolding page_at
   frame_cell k i e b =
       let one = mapped_once s ok k (shown_low k e) in

@@ -1,5 +1,6 @@
 -- The invariant over each kind of change: a word put, a table, the pages, a word written, a frame cleared, cells swept, a
 -- revocation begun or ended. Assumes nothing.
+use Rattle.std.specs.Prelude.{Some, None}
 use Prim.Native.Nat.{ℕ, ◌+◌, ◌*◌, ◌/◌, ◌%◌, ◌<◌, ◌≤◌}
 use native.Mathlib.Omega.{arith}
 use mathlib.Core.Bool.{Bool, true, false, false≢true, and-true}
@@ -18,7 +19,6 @@ use Rattle.pages.specs.declared.Frame.{Frame}
 use Rattle.pages.specs.declared.FrameState.{FrameState}
 use Rattle.pages.specs.declared.FrameState.TheVariants.{Dirty, Free, Mapped as Shown}
 use Rattle.pages.specs.Pages.{Pages}
-use Rattle.pages.specs.declared.Place.TheVariants.{At, Nowhere}
 use Rattle.pages.specs.Entries.{is_shown}
 use Rattle.pages.specs.Layer.{frame_at, with_frame}
 use Rattle.pages.specs.Mapping.{cleared, lookup_of}
@@ -79,7 +79,7 @@ base_in t c k = inside_made (range_of (row_at t k.row)) (base_of c) k.within.fro
 
 module _ (c : Core) (cells tags : List ℕ) (m : Memory c cells tags) where
   -- C for a place.
-  pub place_sound : (v at : ℕ) → lookup_of c.pages v ≡ At at → Sound c.table (word_at cells tags at)
+  pub place_sound : (v at : ℕ) → lookup_of c.pages v ≡ Some at → Sound c.table (word_at cells tags at)
   place_sound v at e = subst (Sound c.table) (shown_at_lem c.pages cells tags v at e) (m.confined v)
 
   -- Another table.
@@ -105,7 +105,7 @@ module _ (c : Core) (cells tags : List ℕ) (m : Memory c cells tags) where
       }
 
   -- Other pages: what they show was shown, or is blank; what is Free was.
-  pub keep_pages : (p : Pages) → ((v at : ℕ) → lookup_of p v ≡ At at → (lookup_of c.pages v ≡ At at) ⊎ Blank cells tags at) → ((k : ℕ) → frame_at p k ≡ Free → frame_at c.pages k ≡ Free)
+  pub keep_pages : (p : Pages) → ((v at : ℕ) → lookup_of p v ≡ Some at → (lookup_of c.pages v ≡ Some at) ⊎ Blank cells tags at) → ((k : ℕ) → frame_at p k ≡ Free → frame_at c.pages k ≡ Free)
       → Memory (with_pages c p) cells tags
   unfolding dying running revoked
   keep_pages p was free =
@@ -135,7 +135,7 @@ module _ (c : Core) (cells tags : List ℕ) (m : Memory c cells tags) where
         go false b = subst P (sym (written_other cells tags at w a (eqb-false a at b))) old
 
     -- A word written to a Mapped cell of a lent range.
-    pub keep_write : (v at : ℕ) (w : Slot) → lookup_of c.pages v ≡ At at → Sound c.table w → (w.tag ≡ true → dying c w.cell ≡ false)
+    pub keep_write : (v at : ℕ) (w : Slot) → lookup_of c.pages v ≡ Some at → Sound c.table w → (w.tag ≡ true → dying c w.cell ≡ false)
         → ((i : ℕ) → i < length (live c.table) → is_open (row_at c.table i).state ≡ true → inside (range_of (row_at c.table i)) v ≡ true → ⊥)
         → Memory c (set cells at w.cell) (set tags at (byte_of w.tag))
     keep_write v at w e s d lent =
@@ -167,7 +167,7 @@ module _ (c : Core) (cells tags : List ℕ) (m : Memory c cells tags) where
         word : (P : Slot → Type 0) (a : ℕ) → P w → P (word_at cells tags a) → P (word_at cells' tags' a)
         word P a new old = write_word at w low P a new old
 
-        same : (x a : ℕ) → lookup_of c.pages x ≡ At a → a ≡ at → x ≡ v
+        same : (x a : ℕ) → lookup_of c.pages x ≡ Some a → a ≡ at → x ≡ v
         same x a q r = seen_once c.pages ok v at here x (subst (Seen c.pages x) r (seen c.pages x a q))
 
         other : (k i : ℕ) → frame_at c.pages k ≡ Free → i < 16 → 16 * k + i ≡ at → ⊥
@@ -182,7 +182,7 @@ module _ (c : Core) (cells tags : List ℕ) (m : Memory c cells tags) where
         byte a false b old = rw (get_or-set_other tags at a (byte_of w.tag) 0 (eqb-false a at b)) old
 
     -- Clearing a Dirty frame changes no Mapped cell.
-    pub clear_other : (f : Frame) → f.0 < c.pages.f → frame_at c.pages f.0 ≡ Dirty → (l : List ℕ) → length l ≡ 16 * c.pages.f → (v at : ℕ) → lookup_of c.pages v ≡ At at → get_or (cleared f l) at 0 ≡ get_or l at 0
+    pub clear_other : (f : Frame) → f.0 < c.pages.f → frame_at c.pages f.0 ≡ Dirty → (l : List ℕ) → length l ≡ 16 * c.pages.f → (v at : ℕ) → lookup_of c.pages v ≡ Some at → get_or (cleared f l) at 0 ≡ get_or l at 0
     clear_other f low dirty l size v at e =
         let k = seen c.pages v at e in
         let n : k.frame.0 ≡ f.0 → ⊥ = λ q.
@@ -192,7 +192,7 @@ module _ (c : Core) (cells tags : List ℕ) (m : Memory c cells tags) where
         in
         ap (λ a. get_or (cleared f l) a 0) k.place ∙ cleared_other f l k.frame.0 (v % 16) (omega arith) (omega arith) n ∙ ap (λ a. get_or l a 0) (sym k.place)
 
-    pub clear_word : (f : Frame) → f.0 < c.pages.f → frame_at c.pages f.0 ≡ Dirty → (v at : ℕ) → lookup_of c.pages v ≡ At at → word_at (cleared f cells) (cleared f tags) at ≡ word_at cells tags at
+    pub clear_word : (f : Frame) → f.0 < c.pages.f → frame_at c.pages f.0 ≡ Dirty → (v at : ℕ) → lookup_of c.pages v ≡ Some at → word_at (cleared f cells) (cleared f tags) at ≡ word_at cells tags at
     clear_word f low dirty v at e = word_same cells tags (cleared f cells) (cleared f tags) at (clear_other f low dirty cells of_cells v at e) (clear_other f low dirty tags of_tags v at e)
 
     -- A Dirty frame cleared and Free.
@@ -216,13 +216,13 @@ module _ (c : Core) (cells tags : List ℕ) (m : Memory c cells tags) where
         tags' : List ℕ
         tags' = cleared f tags
 
-        old : (v at : ℕ) → lookup_of p v ≡ At at → lookup_of c.pages v ≡ At at
+        old : (v at : ℕ) → lookup_of p v ≡ Some at → lookup_of c.pages v ≡ Some at
         old v at e = sym (frame_lookup c.pages f.0 Free v) ∙ e
 
-        other : (l : List ℕ) → length l ≡ 16 * c.pages.f → (v at : ℕ) → lookup_of c.pages v ≡ At at → get_or (cleared f l) at 0 ≡ get_or l at 0
+        other : (l : List ℕ) → length l ≡ 16 * c.pages.f → (v at : ℕ) → lookup_of c.pages v ≡ Some at → get_or (cleared f l) at 0 ≡ get_or l at 0
         other l size v at e = clear_other f low dirty l size v at e
 
-        word : (v at : ℕ) → lookup_of c.pages v ≡ At at → word_at cells' tags' at ≡ word_at cells tags at
+        word : (v at : ℕ) → lookup_of c.pages v ≡ Some at → word_at cells' tags' at ≡ word_at cells tags at
         word v at e = clear_word f low dirty v at e
 
         free : (k i : ℕ) → frame_at p k ≡ Free → i < 16 → (x : Bool) → eqb k f.0 ≡ x → Blank cells' tags' (16 * k + i)
@@ -237,7 +237,7 @@ module _ (c : Core) (cells tags : List ℕ) (m : Memory c cells tags) where
         → (get_or (swept_tags c.pages.frames (revoked c) c.place upto cells tags) at 0 ≡ get_or tags at 0) ⊎ (get_or (swept_tags c.pages.frames (revoked c) c.place upto cells tags) at 0 ≡ 0)
     sweep_less upto at h = swept_less c.pages.frames (revoked c) cells tags c.place upto at h
 
-    pub sweep_word : (upto : ℕ) (P : Slot → Type 0) (v at : ℕ) → lookup_of c.pages v ≡ At at → P (word_at cells tags at) → P (slot (word_at cells tags at).cell false)
+    pub sweep_word : (upto : ℕ) (P : Slot → Type 0) (v at : ℕ) → lookup_of c.pages v ≡ Some at → P (word_at cells tags at) → P (slot (word_at cells tags at).cell false)
         → P (word_at cells (swept_tags c.pages.frames (revoked c) c.place upto cells tags) at)
     sweep_word upto P v at e old none =
         ⊎_elim (λ q. subst P (sym (word_same cells tags cells tags' at refl q)) old) (λ q. subst P (sym (untagged q)) none)
@@ -264,27 +264,27 @@ module _ (c : Core) (cells tags : List ℕ) (m : Memory c cells tags) where
         tags' : List ℕ
         tags' = swept_tags c.pages.frames (revoked c) c.place upto cells tags
 
-        below : (v at : ℕ) → lookup_of c.pages v ≡ At at → at < length tags
+        below : (v at : ℕ) → lookup_of c.pages v ≡ Some at → at < length tags
         below v at e = omega (arith, place_below v at (seen c.pages v at e))
 
         less : (at : ℕ) → at < length tags → (get_or tags' at 0 ≡ get_or tags at 0) ⊎ (get_or tags' at 0 ≡ 0)
         less at h = sweep_less upto at h
 
-        word : (P : Slot → Type 0) (v at : ℕ) → lookup_of c.pages v ≡ At at → P (word_at cells tags at) → P (slot (word_at cells tags at).cell false) → P (word_at cells tags' at)
+        word : (P : Slot → Type 0) (v at : ℕ) → lookup_of c.pages v ≡ Some at → P (word_at cells tags at) → P (slot (word_at cells tags at).cell false) → P (word_at cells tags' at)
         word P v at e old none = sweep_word upto P v at e old none
 
         gone : (at : ℕ) → get_or tags at 0 ≡ 0 → (x : Bool) → ltb at (length tags) ≡ x → get_or tags' at 0 ≡ 0
         gone at e true x = ⊎_elim (λ q. q ∙ e) (λ q. q) (less at (ltb-true at (length tags) x))
         gone at e false x = get_or-eq_default tags' 0 (rw (length_swept c.pages.frames (revoked c) c.place cells tags upto) (ltb-false at (length tags) x))
 
-        swept : (v at : ℕ) → lookup_of c.pages v ≡ At at → c.place ≤ at → at < upto → dies (revoked c) (get_or cells at 0) ≡ true → get_or tags' at 0 ≡ 0
+        swept : (v at : ℕ) → lookup_of c.pages v ≡ Some at → c.place ≤ at → at < upto → dies (revoked c) (get_or cells at 0) ≡ true → get_or tags' at 0 ≡ 0
         swept v at e a b d =
             let k = seen c.pages v at e in
             let n : at / 16 ≡ k.frame.0 = omega (arith, k.place) in
             swept_clean c.pages.frames (revoked c) cells tags c.place upto at (below v at e) a b
             (rw d (and-true (shown_at c.pages.frames (at / 16)) ∙ shows c.pages (at / 16) (ap (frame_at c.pages) n ∙ seen_shown c.pages ok v at k)))
 
-        clean : (v at : ℕ) → lookup_of c.pages v ≡ At at → at < upto → (word_at cells tags' at).tag ≡ true → (x : Bool) → ltb at c.place ≡ x → dying c (word_at cells tags' at).cell ≡ false
+        clean : (v at : ℕ) → lookup_of c.pages v ≡ Some at → at < upto → (word_at cells tags' at).tag ≡ true → (x : Bool) → ltb at c.place ≡ x → dying c (word_at cells tags' at).cell ≡ false
         clean v at e h t true x = word (λ w. w.tag ≡ true → dying c w.cell ≡ false) v at e (m.behind v at e (ltb-true at c.place x)) (λ z. absurd (false≢true z)) t
         clean v at e h t false x = ap (dying c) (word_cell cells tags' at) ∙ dying_dies c (get_or cells at 0) ∙ go (dies (revoked c) (get_or cells at 0)) refl
           where
@@ -301,8 +301,8 @@ collect_sound t u i h now w s out e =
 
 -- The end of a revocation: no page shows a cell of its range, and all that pages show does not die with it.
 pub keep_ended : (c : Core) (cells tags : List ℕ) (u : Table) (i : ℕ) (h : i < length (live c.table)) (now : live u ≡ take i (live c.table) ++ collected_row (row_at c.table i) ∷ drop (i + 1) (live c.table))
-    → Memory c cells tags → ((v : ℕ) → inside (range_of (row_at c.table i)) v ≡ true → lookup_of c.pages v ≡ Nowhere)
-    → ((v at : ℕ) → lookup_of c.pages v ≡ At at → (word_at cells tags at).tag ≡ true → inside (range_of (row_at c.table i)) (base_of (word_at cells tags at).cell) ≡ false)
+    → Memory c cells tags → ((v : ℕ) → inside (range_of (row_at c.table i)) v ≡ true → lookup_of c.pages v ≡ None)
+    → ((v at : ℕ) → lookup_of c.pages v ≡ Some at → (word_at cells tags at).tag ≡ true → inside (range_of (row_at c.table i)) (base_of (word_at cells tags at).cell) ≡ false)
     → Memory (unswept c c.pages u) cells tags
 keep_ended c cells tags u i h now m gone alive =
     record {

@@ -1,4 +1,5 @@
 -- What virtual cells show after map, unmap, revoke and collect, and which frames are Free. Assumes nothing.
+use Rattle.std.specs.Prelude.{Option, Some, None}
 use Prim.Native.Nat.{ℕ, ◌+◌, ◌*◌, ◌/◌, ◌%◌, ◌<◌}
 use native.Mathlib.Omega.{arith}
 use mathlib.Core.Bool.{Bool, true, false, ◌&&◌, false≢true}
@@ -18,8 +19,6 @@ use Rattle.pages.specs.declared.FrameState.TheVariants.{Dirty, Free, Mapped as S
 use Rattle.pages.specs.declared.PageState.{PageState}
 use Rattle.pages.specs.declared.PageState.TheVariants.{Unmapped, Freed, Mapped}
 use Rattle.pages.specs.Pages.{Pages}
-use Rattle.pages.specs.declared.Place.{Place}
-use Rattle.pages.specs.declared.Place.TheVariants.{At, Nowhere}
 use Rattle.pages.specs.declared.VirtualPage.{VirtualPage}
 use Rattle.pages.specs.Entries.{is_unmapped, is_mapped, maps_below}
 use Rattle.pages.specs.Layer.{page_at, frame_at, with_page, with_frame}
@@ -51,11 +50,11 @@ pub unmap_here : (s : Pages) (page : VirtualPage) → page.0 < length s.pages �
 unfolding unmapped
 unmap_here s page h = soiled_page (with_page s page.0 Freed) (page_at s page.0) page.0 ∙ page_put s page.0 Freed h
 
-no_place : (at : ℕ) → Nowhere ≡ At at → ⊥
+no_place : (at : ℕ) → None ≡ Some at → ⊥
 no_place at e = let z : ◌≡◌ {A = ℕ} 0 1 = cc in omega arith
 
 -- One page put.
-pub page_view : (s : Pages) (i : ℕ) (x : PageState) (v at : ℕ) → i < length s.pages → lookup_of (with_page s i x) v ≡ At at → (lookup_of s v ≡ At at) ⊎ ((v / 16 ≡ i) × (place_in x (v % 16) ≡ At at))
+pub page_view : (s : Pages) (i : ℕ) (x : PageState) (v at : ℕ) → i < length s.pages → lookup_of (with_page s i x) v ≡ Some at → (lookup_of s v ≡ Some at) ⊎ ((v / 16 ≡ i) × (place_in x (v % 16) ≡ Some at))
 page_view s i x v at h e = go (eqb (v / 16) i) refl
   where
     same_v : (with_page s i x).v ≡ s.v
@@ -64,11 +63,11 @@ page_view s i x v at h e = go (eqb (v / 16) i) refl
     k : Seen (with_page s i x) v at
     k = seen (with_page s i x) v at e
 
-    go : (b : Bool) → eqb (v / 16) i ≡ b → (lookup_of s v ≡ At at) ⊎ ((v / 16 ≡ i) × (place_in x (v % 16) ≡ At at))
+    go : (b : Bool) → eqb (v / 16) i ≡ b → (lookup_of s v ≡ Some at) ⊎ ((v / 16 ≡ i) × (place_in x (v % 16) ≡ Some at))
     go true b =
         let n = eqb-true (v / 16) i b in
         let q : x ≡ Mapped k.frame = sym (page_put s i x h) ∙ ap (page_at (with_page s i x)) (sym n) ∙ k.page in
-        inr (n, ap (λ p. place_in p (v % 16)) q ∙ ap At (sym k.place))
+        inr (n, ap (λ p. place_in p (v % 16)) q ∙ ap Some (sym k.place))
     go false b = inl (sym (lookup_same (with_page s i x) s v same_v (page_kept s i (v / 16) x (eqb-false (v / 16) i b))) ∙ e)
 
 -- One frame put that is not Free.
@@ -97,13 +96,13 @@ module _ (s : Pages) (ok : Layered s) (page : VirtualPage) (frame : Frame) (k : 
   deep = omega (arith, ok.long_frames, ok.f_most, k.low_frame)
 
   -- After a map a cell shows what it did, or the frame that was Free.
-  pub map_view : (v at : ℕ) → lookup_of (mapped s page frame) v ≡ At at → (lookup_of s v ≡ At at) ⊎ ((v / 16 ≡ page.0) × (at ≡ 16 * frame.0 + v % 16))
+  pub map_view : (v at : ℕ) → lookup_of (mapped s page frame) v ≡ Some at → (lookup_of s v ≡ Some at) ⊎ ((v / 16 ≡ page.0) × (at ≡ 16 * frame.0 + v % 16))
   unfolding mapped
   map_view v at e =
       ⊎_elim inl (λ q. inr (q.0, number (16 * frame.0 + v % 16) at q.1))
       (page_view s page.0 (Mapped frame) v at long (sym (frame_lookup (with_page s page.0 (Mapped frame)) frame.0 Shown v) ∙ e))
     where
-      number : (a b : ℕ) → At a ≡ At b → b ≡ a
+      number : (a b : ℕ) → Some a ≡ Some b → b ≡ a
       number a b z = cc
 
   pub map_free : (j : ℕ) → frame_at (mapped s page frame) j ≡ Free → frame_at s j ≡ Free
@@ -127,15 +126,15 @@ module _ (s : Pages) (ok : Layered s) (page : VirtualPage) (k : Unmappable s pag
   abbrev freed : Pages
   freed = with_page s page.0 Freed
 
-  freed_view : (v at : ℕ) → lookup_of freed v ≡ At at → lookup_of s v ≡ At at
+  freed_view : (v at : ℕ) → lookup_of freed v ≡ Some at → lookup_of s v ≡ Some at
   freed_view v at e = ⊎_elim (λ q. q) (λ q. absurd (no_place at q.1)) (page_view s page.0 Freed v at long' e)
 
   -- After an unmap a cell shows no more than it did.
-  pub unmap_view : (v at : ℕ) → lookup_of (unmapped s page) v ≡ At at → lookup_of s v ≡ At at
+  pub unmap_view : (v at : ℕ) → lookup_of (unmapped s page) v ≡ Some at → lookup_of s v ≡ Some at
   unfolding unmapped soiled
   unmap_view v at e = go (page_at s page.0) e
     where
-      go : (x : PageState) → lookup_of (soiled freed x) v ≡ At at → lookup_of s v ≡ At at
+      go : (x : PageState) → lookup_of (soiled freed x) v ≡ Some at → lookup_of s v ≡ Some at
       go Unmapped q = freed_view v at q
       go Freed q = freed_view v at q
       go (Mapped g) q = freed_view v at (sym (frame_lookup freed g.0 Dirty v) ∙ q)
@@ -154,7 +153,7 @@ module _ (s : Pages) (ok : Layered s) (page : VirtualPage) (k : Unmappable s pag
 
 module _ (s : Pages) (ok : Layered s) (r : Range) where
   -- Freeing and releasing pages show no more than was shown.
-  pub freed_shows : (v at : ℕ) → lookup_of (freed_of s r) v ≡ At at → lookup_of s v ≡ At at
+  pub freed_shows : (v at : ℕ) → lookup_of (freed_of s r) v ≡ Some at → lookup_of s v ≡ Some at
   freed_shows v at e =
       let k = seen (freed_of s r) v at e in
       let low : v / 16 < s.v = unfold freed_of in k.low in
@@ -169,7 +168,7 @@ module _ (s : Pages) (ok : Layered s) (r : Range) where
   unfolding freed_of frame_at
   freed_free j e = e
 
-  pub released_shows : (v at : ℕ) → lookup_of (released_of s r) v ≡ At at → lookup_of s v ≡ At at
+  pub released_shows : (v at : ℕ) → lookup_of (released_of s r) v ≡ Some at → lookup_of s v ≡ Some at
   released_shows v at e =
       let k = seen (released_of s r) v at e in
       let low : v / 16 < s.v = unfold released_of in k.low in
@@ -185,12 +184,12 @@ module _ (s : Pages) (ok : Layered s) (r : Range) where
   released_free j e = e
 
   -- F3: no cell of whole pages, all Freed, is Mapped.
-  pub none_shown : r.base % 16 ≡ 0 → r.length % 16 ≡ 0 → any_mapped s r ≡ false → (v : ℕ) → inside r v ≡ true → lookup_of s v ≡ Nowhere
+  pub none_shown : r.base % 16 ≡ 0 → r.length % 16 ≡ 0 → any_mapped s r ≡ false → (v : ℕ) → inside r v ≡ true → lookup_of s v ≡ None
   none_shown b l none v e = go (lookup_of s v) refl
     where
-      go : (x : Place) → lookup_of s v ≡ x → x ≡ Nowhere
-      go Nowhere q = refl
-      go (At at) q =
+      go : (x : Option ℕ) → lookup_of s v ≡ x → x ≡ None
+      go None q = refl
+      go (Some at) q =
           let k = seen s v at q in
           let bounds = inside_bounds r v e in
           let in-page : page_inside r (v / 16) ≡ true = inside_made r (16 * (v / 16)) (omega (arith, bounds.0)) (omega (arith, bounds.1)) in

@@ -1,4 +1,5 @@
 -- Nothing lost. Assumes nothing.
+use Rattle.std.specs.Prelude.{Some}
 use Prim.Native.Nat.{ℕ, zero, suc, ◌+◌, ◌-◌, ◌*◌, ◌<◌, ◌≤◌}
 use native.Mathlib.Nat.{zero-add}
 use native.Mathlib.Omega.{arith}
@@ -10,7 +11,6 @@ use lib.Dec.{eqb, ltb}
 use lib.ListN.{length, get_or, replicate}
 use Rattle.capabilities.specs.Refusals.{first}
 use Rattle.capabilities.proofs.Refusals.{first_clear}
-use Rattle.table.specs.declared.Found.TheVariants.{At}
 use Rattle.table.specs.declared.Reservation.{Reservation}
 use Rattle.table.specs.declared.ReservationState.{ReservationState}
 use Rattle.table.specs.declared.ReservationState.TheVariants.{Open}
@@ -70,20 +70,20 @@ module _ (m : Machine) (s : ReservationState) (p v f : ℕ) (like : alike s s �
   rows : table_sound (16 * m.state.core.pages.v) t ≡ true
   rows = (standing_facts m v f k).rows
 
-  found : find_of t p 0 ≡ At 0
+  found : find_of t p 0 ≡ Some 0
   found =
       sym (ap (λ n. find_of t n 0) (a.holder 0 (omega arith))) ∙ sym (ap (find_of t (row_at t 0).holder) (first_base (16 * v) (live t) (standing_tiled m v f k) (omega arith)))
       ∙ find_row (16 * m.state.core.pages.v) t rows 0 (omega arith)
 
-  joins : mergeable t (At 0) p ≡ true
+  joins : mergeable t (Some 0) p ≡ true
   unfolding mergeable
   joins =
-      let n : next_of t (At 0) ≡ At 1 = next_at t 0 (omega arith) in
+      let n : next_of t (Some 0) ≡ Some 1 = next_at t 0 (omega arith) in
       let low = row_live t 0 (omega arith) in
-      let high : row_of t (next_of t (At 0)) ≡ row_at t 1 = ap (row_of t) n ∙ row_live t 1 (omega arith) in
-      both (not (missing (next_of t (At 0)))) (held (row_of t (next_of t (At 0))) p && alike (row_of t (At 0)).state (row_of t (next_of t (At 0))).state) (ap (λ g. not (missing g)) n)
-      (both (held (row_of t (next_of t (At 0))) p) (alike (row_of t (At 0)).state (row_of t (next_of t (At 0))).state) (ap (λ r. held r p) high ∙ eq-eqb (row_at t 1).holder p (a.holder 1 (omega arith)))
-      (ap (λ x. alike x (row_of t (next_of t (At 0))).state) (ap (λ r. r.state) low ∙ a.state 0 (omega arith)) ∙ ap (λ x. alike s x) (ap (λ r. r.state) high ∙ a.state 1 (omega arith)) ∙ like))
+      let high : row_of t (next_of t (Some 0)) ≡ row_at t 1 = ap (row_of t) n ∙ row_live t 1 (omega arith) in
+      both (not (missing (next_of t (Some 0)))) (held (row_of t (next_of t (Some 0))) p && alike (row_of t (Some 0)).state (row_of t (next_of t (Some 0))).state) (ap (λ g. not (missing g)) n)
+      (both (held (row_of t (next_of t (Some 0))) p) (alike (row_of t (Some 0)).state (row_of t (next_of t (Some 0))).state) (ap (λ r. held r p) high ∙ eq-eqb (row_at t 1).holder p (a.holder 1 (omega arith)))
+      (ap (λ x. alike x (row_of t (next_of t (Some 0))).state) (ap (λ r. r.state) low ∙ a.state 0 (omega arith)) ∙ ap (λ x. alike s x) (ap (λ r. r.state) high ∙ a.state 1 (omega arith)) ∙ like))
 
   named : unnamed p ≡ false
   named = sym (ap (λ n. unnamed n) (a.holder 0 (omega arith))) ∙ holder_named (16 * m.state.core.pages.v) t rows 0 (omega arith)

@@ -1,5 +1,6 @@
 -- Where each live word comes from: by the sorts of effect, a spot at a time. What holds of every live capability, and of each narrower one,
 -- then holds after a call too, but for the one that a take makes. Assumes nothing.
+use Rattle.std.specs.Prelude.{Some}
 use Prim.Native.Nat.{ℕ, ◌+◌, ◌*◌, ◌<◌}
 use native.Mathlib.Omega.{arith}
 use mathlib.Core.Bool.{Bool, true, false, ◌&&◌, false≢true}
@@ -16,7 +17,6 @@ use Rattle.capabilities.specs.Refusals.{first}
 use Rattle.capabilities.proofs.Choice.{and_left}
 use Rattle.pages.specs.declared.Frame.{Frame}
 use Rattle.pages.specs.declared.FrameState.TheVariants.{Free}
-use Rattle.pages.specs.declared.Place.TheVariants.{At}
 use Rattle.pages.specs.Pages.{Pages}
 use Rattle.pages.specs.Layer.{with_frame}
 use Rattle.pages.specs.Mapping.{lookup_of, dirty_reasons, released_of}
@@ -107,10 +107,10 @@ module _ (s : State) (cells tags : List ℕ) (inv : Inv (machine s cells tags)) 
   abbrev before : ℕ → Slot
   before v = shown s.core.pages cells tags v
 
-  shown_comes : (v at : ℕ) → lookup_of s.core.pages v ≡ At at → Comes (before v) (word_at cells tags at)
+  shown_comes : (v at : ℕ) → lookup_of s.core.pages v ≡ Some at → Comes (before v) (word_at cells tags at)
   shown_comes v at e = subst (Comes (before v)) (shown_at_lem s.core.pages cells tags v at e) (stays (before v))
 
-  pages_come : (q : Pages) → ((v at : ℕ) → lookup_of q v ≡ At at → (lookup_of s.core.pages v ≡ At at) ⊎ Blank cells tags at) → (v : ℕ) → Comes (before v) (shown q cells tags v)
+  pages_come : (q : Pages) → ((v at : ℕ) → lookup_of q v ≡ Some at → (lookup_of s.core.pages v ≡ Some at) ⊎ Blank cells tags at) → (v : ℕ) → Comes (before v) (shown q cells tags v)
   pages_come q was v =
       shown_by (Comes (before v)) q cells tags v (nothing (before v) empty refl)
       (λ at e. ⊎_elim (shown_comes v at) (λ z. subst (Comes (before v)) (sym (word_none cells tags at z.0 z.1)) (nothing (before v) empty refl)) (was v at e))
@@ -118,7 +118,7 @@ module _ (s : State) (cells tags : List ℕ) (inv : Inv (machine s cells tags)) 
   recored_comes : (k : Core) → Recored s.core k → (v : ℕ) → Comes (before v) (shown k.pages cells tags v)
   recored_comes k r = pages_come k.pages (λ v at e. go v at (recored_came s.core ok k r v at e))
     where
-      go : (v at : ℕ) → Came s.core.pages keep_memory v at → (lookup_of s.core.pages v ≡ At at) ⊎ Blank cells tags at
+      go : (v at : ℕ) → Came s.core.pages keep_memory v at → (lookup_of s.core.pages v ≡ Some at) ⊎ Blank cells tags at
       go v at (shown_before q) = inl q
       go v at (was_free j i free low e keep) = inr (subst (Blank cells tags) (sym e) (inv.memory.free j i free low))
 
@@ -156,7 +156,7 @@ module _ (s : State) (cells tags : List ℕ) (inv : Inv (machine s cells tags)) 
       low : at < 16 * s.core.pages.f
       low = place_below s.core cells tags inv.memory layer of_cells of_tags to at (seen s.core.pages to at g.place)
 
-      once : (i : ℕ) → lookup_of s.core.pages v ≡ At i → (eqb to v ≡ false) → i ≡ at → ⊥
+      once : (i : ℕ) → lookup_of s.core.pages v ≡ Some i → (eqb to v ≡ false) → i ≡ at → ⊥
       once i q e z = eqb-false to v e (sym (seen_once s.core.pages layer to at (seen s.core.pages to at g.place) v (subst (Seen s.core.pages v) z (seen s.core.pages v i q))))
 
       go : (b : Bool) → eqb to v ≡ b → ComesBy m a (pick b (from (register_at p x)) (from (virtual v))) (shown s.core.pages (set cells at w.cell) (set tags at (byte_of w.tag)) v)

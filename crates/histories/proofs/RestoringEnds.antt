@@ -1,5 +1,6 @@
 -- A revocation that runs is brought to its end by a sweep of all cells and a collect; so is one of a Taken reservation of whole pages that
 -- has no Mapped page. Assumes nothing.
+use Rattle.std.specs.Prelude.{Some}
 use Prim.Native.Nat.{ℕ, zero, suc, ◌+◌, ◌*◌, ◌<◌, ◌≤◌}
 use native.Mathlib.Nat.{zero-add}
 use native.Mathlib.Numerals.{add-one}
@@ -22,7 +23,6 @@ use Rattle.pages.specs.Entries.{is_unmapped, is_mapped, page_entry}
 use Rattle.pages.specs.Layer.{page_at}
 use Rattle.pages.specs.Mapping.{any_mapped, not_mapped_in, freed_entry, freed_of, released_of}
 use Rattle.pages.proofs.Freeing.{page_below, freed_at, released_at}
-use Rattle.table.specs.declared.Found.TheVariants.{At}
 use Rattle.table.specs.declared.Reservation.{Reservation}
 use Rattle.table.specs.declared.ReservationState.TheVariants.{Taken}
 use Rattle.table.specs.Table.{Table}
@@ -225,10 +225,10 @@ module _ (m : Machine) (v f : ℕ) (k : Standing m v f) (still : running m.state
   abbrev call : Call
   call = Revoke 0 r₀.base
 
-  found : find_of t 0 r₀.base ≡ At i
+  found : find_of t 0 r₀.base ≡ Some i
   found = sym (ap (λ p. find_of t p r₀.base) holder) ∙ find_row (16 * c₀.pages.v) t (standing_facts m v f k).rows i h
 
-  row_found : row_of t (At i) ≡ r₀
+  row_found : row_of t (Some i) ≡ r₀
   row_found = row_live t i h
 
   none_mapped : any_mapped c₀.pages (range_of r₀) ≡ false

@@ -1,5 +1,6 @@
 -- Where no reservation is Revoking, each Open one is taken by its holder, the highest first: then all are Taken and party 0 holds them.
 -- Assumes nothing.
+use Rattle.std.specs.Prelude.{Some}
 use Prim.Native.Nat.{ℕ, zero, suc, ◌+◌, ◌-◌, ◌*◌, ◌<◌, ◌≤◌}
 use native.Mathlib.Omega.{arith}
 use mathlib.Core.Bool.{Bool, true, false, ◌&&◌, ◌||◌, true≢false}
@@ -11,7 +12,6 @@ use lib.ListN.{length, get_or}
 use Rattle.capabilities.specs.Lists.{pick}
 use Rattle.capabilities.specs.Refusals.{first}
 use Rattle.capabilities.proofs.Choice.{and_right}
-use Rattle.table.specs.declared.Found.TheVariants.{At}
 use Rattle.table.specs.declared.Reservation.{Reservation}
 use Rattle.table.specs.declared.ReservationState.{ReservationState}
 use Rattle.table.specs.declared.ReservationState.TheVariants.{Open, Taken, Revoking}
@@ -77,7 +77,7 @@ module _ (m : Machine) (v f : ℕ) (k : Standing m v f) (i : ℕ) (h : i < lengt
   abbrev r : Reservation
   r = row_at t i
 
-  found : find_of t r.holder r.base ≡ At i
+  found : find_of t r.holder r.base ≡ Some i
   found = find_row (size_of m) t (standing_facts m v f k).rows i h
 
   no_reason : first (reasons_on m.state (Take r.holder r.base 0) m.cells m.tags) ≡ 0

@@ -1,4 +1,5 @@
 -- Pointwise views of registers, mailboxes, virtual cells and lent words after a change. Assumes nothing.
+use Rattle.std.specs.Prelude.{Option, Some, None}
 use Prim.Native.Nat.{ℕ, ◌+◌, ◌*◌, ◌/◌, ◌%◌, ◌<◌, ◌≤◌}
 use native.Mathlib.Omega.{arith}
 use mathlib.Core.Bool.{Bool, true, false, false≢true}
@@ -17,8 +18,6 @@ use Rattle.pages.specs.Pages.{PageEntry}
 use Rattle.pages.specs.declared.PageState.{PageState}
 use Rattle.pages.specs.declared.PageState.TheVariants.{Unmapped, Freed, Mapped}
 use Rattle.pages.specs.Pages.{Pages}
-use Rattle.pages.specs.declared.Place.{Place}
-use Rattle.pages.specs.declared.Place.TheVariants.{At, Nowhere}
 use Rattle.pages.specs.Entries.{is_shown, maps, maps_below, page_entry}
 use Rattle.pages.specs.Layer.{page_at, frame_at, mappings}
 use Rattle.pages.specs.Mapping.{cleared, lookup_of, place_in}
@@ -53,36 +52,36 @@ pub record Seen (s : Pages) (v at : ℕ) : Type 0 where
   pub page : page_at s (v / 16) ≡ Mapped frame
   pub place : at ≡ 16 * frame.0 + v % 16
 
-pub seen : (s : Pages) (v at : ℕ) → lookup_of s v ≡ At at → Seen s v at
+pub seen : (s : Pages) (v at : ℕ) → lookup_of s v ≡ Some at → Seen s v at
 unfolding lookup_of
 seen s v at e = go (ltb (v / 16) s.v) refl (page_at s (v / 16)) refl e
   where
-    go : (b : Bool) → ltb (v / 16) s.v ≡ b → (p : PageState) → page_at s (v / 16) ≡ p → pick b (place_in p (v % 16)) Nowhere ≡ At at → Seen s v at
+    go : (b : Bool) → ltb (v / 16) s.v ≡ b → (p : PageState) → page_at s (v / 16) ≡ p → pick b (place_in p (v % 16)) None ≡ Some at → Seen s v at
     go true h (Mapped f) p q = record { frame = f; low = ltb-true (v / 16) s.v h; page = p; place = let z : 16 * f.0 + v % 16 ≡ at = cc in sym z }
     go true h Unmapped p q = absurd (let z : ◌≡◌ {A = ℕ} 0 1 = cc in omega arith)
     go true h Freed p q = absurd (let z : ◌≡◌ {A = ℕ} 0 1 = cc in omega arith)
     go false h x p q = absurd (let z : ◌≡◌ {A = ℕ} 0 1 = cc in omega arith)
 
-pub looked : (s : Pages) (v at : ℕ) → Seen s v at → lookup_of s v ≡ At at
+pub looked : (s : Pages) (v at : ℕ) → Seen s v at → lookup_of s v ≡ Some at
 unfolding lookup_of
 looked s v at k =
-    pick_yes (ltb (v / 16) s.v) (place_in (page_at s (v / 16)) (v % 16)) Nowhere (lt-ltb (v / 16) s.v k.low)
-    ∙ ap (λ p. place_in p (v % 16)) k.page ∙ ap At (sym k.place)
+    pick_yes (ltb (v / 16) s.v) (place_in (page_at s (v / 16)) (v % 16)) None (lt-ltb (v / 16) s.v k.low)
+    ∙ ap (λ p. place_in p (v % 16)) k.page ∙ ap Some (sym k.place)
 
 -- Two layers that show the same of a virtual cell's page show the same of the cell.
 pub lookup_same : (s t : Pages) (v : ℕ) → s.v ≡ t.v → page_at s (v / 16) ≡ page_at t (v / 16) → lookup_of s v ≡ lookup_of t v
 unfolding lookup_of
-lookup_same s t v e p = ap (λ n. pick (ltb (v / 16) n) (place_in (page_at s (v / 16)) (v % 16)) Nowhere) e ∙ ap (λ x. pick (ltb (v / 16) t.v) (place_in x (v % 16)) Nowhere) p
+lookup_same s t v e p = ap (λ n. pick (ltb (v / 16) n) (place_in (page_at s (v / 16)) (v % 16)) None) e ∙ ap (λ x. pick (ltb (v / 16) t.v) (place_in x (v % 16)) None) p
 
 -- What holds of the empty word, and of the word at a virtual cell's place if it has one, holds of what it shows.
-pub shown_by : (P : Slot → Type 0) (s : Pages) (cells tags : List ℕ) (v : ℕ) → P empty → ((at : ℕ) → lookup_of s v ≡ At at → P (word_at cells tags at)) → P (shown s cells tags v)
+pub shown_by : (P : Slot → Type 0) (s : Pages) (cells tags : List ℕ) (v : ℕ) → P empty → ((at : ℕ) → lookup_of s v ≡ Some at → P (word_at cells tags at)) → P (shown s cells tags v)
 shown_by P s cells tags v none some = go (lookup_of s v) refl
   where
-    go : (x : Place) → lookup_of s v ≡ x → P (word_of cells tags (lookup_of s v))
-    go (At at) e = subst (λ x. P (word_of cells tags x)) (sym e) (some at e)
-    go Nowhere e = subst (λ x. P (word_of cells tags x)) (sym e) none
+    go : (x : Option ℕ) → lookup_of s v ≡ x → P (word_of cells tags (lookup_of s v))
+    go (Some at) e = subst (λ x. P (word_of cells tags x)) (sym e) (some at e)
+    go None e = subst (λ x. P (word_of cells tags x)) (sym e) none
 
-pub shown_at_lem : (s : Pages) (cells tags : List ℕ) (v at : ℕ) → lookup_of s v ≡ At at → shown s cells tags v ≡ word_at cells tags at
+pub shown_at_lem : (s : Pages) (cells tags : List ℕ) (v at : ℕ) → lookup_of s v ≡ Some at → shown s cells tags v ≡ word_at cells tags at
 shown_at_lem s cells tags v at e = ap (word_of cells tags) e
 
 -- How often a frame is mapped.

@@ -1,5 +1,6 @@
 -- What party 0 alone does not bring about. Its calls replace what it holds, so that what another party holds Open stays; and a reservation
 -- that shares a page with such a one is not made of whole pages, so that it is never Revoking. Assumes nothing.
+use Rattle.std.specs.Prelude.{Some}
 use Prim.Native.Nat.{ℕ, zero, suc, ◌+◌, ◌-◌, ◌*◌, ◌/◌, ◌%◌, ◌<◌, ◌≤◌}
 use native.Mathlib.Omega.{arith}
 use mathlib.Core.Bool.{Bool, true, false, not, ◌&&◌, ◌||◌, true≢false}
@@ -14,7 +15,6 @@ use Rattle.capabilities.specs.Range.{inside}
 use Rattle.capabilities.specs.Capability.{permitted}
 use Rattle.capabilities.proofs.Choice.{and_left, and_right, pick_yes}
 use Rattle.capabilities.proofs.Refusals.{first_clear}
-use Rattle.table.specs.declared.Found.TheVariants.{At}
 use Rattle.table.specs.declared.Reservation.{Reservation}
 use Rattle.table.specs.declared.ReservationState.{ReservationState}
 use Rattle.table.specs.declared.ReservationState.TheVariants.{Open, Taken, Revoking}
@@ -87,11 +87,11 @@ named_other t u p base i new r own j o =
     o.holder (sym (ap (λ x. (row_at t x).holder) n) ∙ eqb-true (row_at t i).holder p (and_right (eqb (row_at t i).base base) (held (row_at t i) p) r.named) ∙ own))
 
 -- Nor is the next one, which a merge joins with it.
-next_held : (t : Table) (p i : ℕ) → i + 1 < length (live t) → mergeable t (At i) p ≡ true → (row_at t (i + 1)).holder ≡ p
+next_held : (t : Table) (p i : ℕ) → i + 1 < length (live t) → mergeable t (Some i) p ≡ true → (row_at t (i + 1)).holder ≡ p
 unfolding mergeable
 next_held t p i h e =
-    let g = next_of t (At i) in
-    let same = alike (row_of t (At i)).state (row_of t g).state in
+    let g = next_of t (Some i) in
+    let same = alike (row_of t (Some i)).state (row_of t g).state in
     let mine = and_left (held (row_of t g) p) same (and_right (not (missing g)) (held (row_of t g) p && same) e) in
     eqb-true (row_at t (i + 1)).holder p (sym (ap (λ r. held r p) (ap (row_of t) (next_at t i h) ∙ row_live t (i + 1) h)) ∙ mine)
 
@@ -99,7 +99,7 @@ merge_other : (cells : ℕ) (t : Table) → table_sound cells t ≡ true → (p 
 merge_other cells t ok p base z own j o =
     let (i, same, r) = merge_after cells t ok p base z in
     let two : i + 1 < length (live t) = omega (arith, r.within) in
-    let joins : mergeable t (At i) p ≡ true = sym (ap (λ f. mergeable t f p) r.found) ∙ merge_clear t (find_of t p base) p (unfold merge_of merge_reasons in z) in
+    let joins : mergeable t (Some i) p ≡ true = sym (ap (λ f. mergeable t f p) r.found) ∙ merge_clear t (find_of t p base) p (unfold merge_of merge_reasons in z) in
     stays_outside t (merge_of t p base).table (joined (row_at t i) (row_at t (i + 1)) ∷ []) i 2 r.within r.now j o.used
     (λ a b. go i r (next_held t p i two joins) a b (eqb j i) refl)
   where

@@ -1,9 +1,8 @@
 -- Nothing crosses over. After every history a page that a call has just mapped shows sixteen cells of 0, untagged, whatever its frame
 -- held and whoever held it; and a Free frame is all 0. Assumes nothing.
-use Rattle.std.specs.Prelude.{ℕ, ◌+◌, ◌*◌, ◌<◌, ◌≡◌, get_or}
+use Rattle.std.specs.Prelude.{ℕ, ◌+◌, ◌*◌, ◌<◌, ◌≡◌, get_or, Some}
 use Rattle.pages.specs.declared.Frame.{Frame}
 use Rattle.pages.specs.declared.FrameState.TheVariants.{Free}
-use Rattle.pages.specs.declared.Place.TheVariants.{At}
 use Rattle.pages.specs.declared.VirtualPage.{VirtualPage}
 use Rattle.pages.specs.Layer.{frame_at}
 use Rattle.pages.specs.Mapping.{lookup_of}
@@ -18,7 +17,7 @@ pub record Zeros (m : Machine) (at : ℕ) : Type 0 where
 -- A virtual cell is Mapped, and its place holds 0, untagged.
 pub record ShowsZero (m : Machine) (v : ℕ) : Type 0 where
   pub at : ℕ
-  pub mapped : lookup_of m.state.core.pages v ≡ At at
+  pub mapped : lookup_of m.state.core.pages v ≡ Some at
   pub zeros : Zeros m at
 
 abbrev pub MappedIsZeroAt : (m : Machine) → Reached m → Type 0

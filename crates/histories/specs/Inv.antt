@@ -1,9 +1,8 @@
 -- What every history keeps, over a state and its lent memory. Assumes nothing.
-use Rattle.std.specs.Prelude.{ℕ, ◌+◌, ◌*◌, ◌<◌, ◌≤◌, true, false, List, ◌≡◌, length, get_or}
+use Rattle.std.specs.Prelude.{ℕ, ◌+◌, ◌*◌, ◌<◌, ◌≤◌, true, false, List, ◌≡◌, length, get_or, Some}
 use Rattle.capabilities.specs.Capability.{length_of, permissions_of}
 use Rattle.capabilities.specs.Range.{inside}
 use Rattle.pages.specs.declared.FrameState.TheVariants.{Free}
-use Rattle.pages.specs.declared.Place.TheVariants.{At}
 use Rattle.pages.specs.Layer.{frame_at}
 use Rattle.pages.specs.Mapping.{lookup_of}
 use Rattle.table.specs.declared.Reservation.{Reservation}
@@ -39,9 +38,9 @@ Sound t w = w.tag ≡ true → Confined t w.cell
 pub record Memory (c : Core) (cells tags : List ℕ) : Type 0 where
   pub confined : (v : ℕ) → Sound c.table (shown c.pages cells tags v)
   pub free : (k i : ℕ) → frame_at c.pages k ≡ Free → i < 16 → (get_or cells (16 * k + i) 0 ≡ 0) × (get_or tags (16 * k + i) 0 ≡ 0)
-  pub behind : (v at : ℕ) → lookup_of c.pages v ≡ At at → at < c.place → (word_at cells tags at).tag ≡ true → dying c (word_at cells tags at).cell ≡ false
+  pub behind : (v at : ℕ) → lookup_of c.pages v ≡ Some at → at < c.place → (word_at cells tags at).tag ≡ true → dying c (word_at cells tags at).cell ≡ false
   pub unlent : (v i : ℕ) → i < length (live c.table) → is_open (row_at c.table i).state ≡ true → inside (range_of (row_at c.table i)) v ≡ true → shown c.pages cells tags v ≡ empty
-  pub bytes : (v at : ℕ) → lookup_of c.pages v ≡ At at → get_or tags at 0 ≤ 1
+  pub bytes : (v at : ℕ) → lookup_of c.pages v ≡ Some at → get_or tags at 0 ≤ 1
 
 pub record Inv (m : Machine) : Type 0 where
   pub registers : (i : ℕ) → Sound m.state.core.table (get_or m.state.registers i empty)

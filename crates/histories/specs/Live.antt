@@ -1,11 +1,9 @@
 -- Live capabilities: the tagged words of registers, of mailboxes and of virtual cells whose page is Mapped. What a Dirty or Free frame
 -- holds is not live. Assumes nothing.
-use Rattle.std.specs.Prelude.{ℕ, ◌+◌, ◌<◌, ◌≤◌, true, List, ◌≡◌, get_or}
+use Rattle.std.specs.Prelude.{ℕ, ◌+◌, ◌<◌, ◌≤◌, true, List, ◌≡◌, get_or, Option, Some, None}
 use Rattle.capabilities.specs.declared.Range.{Range}
 use Rattle.capabilities.specs.Capability.{base_of, length_of}
 use Rattle.capabilities.specs.Range.{inside}
-use Rattle.pages.specs.declared.Place.{Place}
-use Rattle.pages.specs.declared.Place.TheVariants.{At, Nowhere}
 use Rattle.pages.specs.Pages.{Pages}
 use Rattle.pages.specs.Mapping.{lookup_of}
 use Rattle.words.specs.declared.Slot.{Slot}
@@ -19,9 +17,9 @@ pub data Spot : Type 0 where
   virtual : ℕ → Spot
 
 -- The word at a place of lent memory; an empty one where there is no place.
-abbrev pub word_of : List ℕ → List ℕ → Place → Slot
-word_of cells tags (At at) = word_at cells tags at
-word_of cells tags Nowhere = empty
+abbrev pub word_of : List ℕ → List ℕ → Option ℕ → Slot
+word_of cells tags (Some at) = word_at cells tags at
+word_of cells tags None = empty
 
 -- The word that a virtual cell shows; an empty one where its page is not Mapped.
 abbrev pub shown : Pages → List ℕ → List ℕ → ℕ → Slot

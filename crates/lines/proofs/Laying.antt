@@ -12,7 +12,7 @@ use Rattle.capabilities.proofs.Choice.{pick_yes, pick_no}
 use Rattle.words.specs.Words.{byte_of}
 use Rattle.lines.specs.Lines.{decimal, line_of}
 use Rattle.lines.specs.Laid.{Laid, laid_in}
-use Rattle.lines.proofs.Decimal.{tens, decimal_one, decimal_pair, decimal_two, decimal_some, decimal_long, line_short}
+use Rattle.lines.proofs.Decimal.{decimal_one, decimal_pair, decimal_two, decimal_some, decimal_long, line_short}
 
 -- One put after another.
 module _ (xs ys : List ℕ) (at end end₂ : ℕ) (a b c : List ℕ) (p : Laid xs at a end b) (q : Laid ys end b end₂ c) where
@@ -148,7 +148,7 @@ spelt_all n first end a b last e p at at-end =
     let same : first ≡ at = omega (arith, p.ends) in
     subst (λ (l : List ℕ). Laid l at a end b) (sym e) (subst (λ (k : ℕ). Laid last k a end b) same p)
 
-module _ (n rest first end : ℕ) (a b : List ℕ) (s : Spelt n rest first end a b) where
+module _ {n rest first end : ℕ} {a b : List ℕ} (s : Spelt n rest first end a b) where
   -- The digits that are left have their place.
   room : length (decimal n) ≤ end → length (decimal rest) ≤ first
   room h =
@@ -159,7 +159,6 @@ module _ (n rest first end : ℕ) (a b : List ℕ) (s : Spelt n rest first end a
   spelt_one_room h = let r : length (decimal rest) ≤ first = room h in let d : 1 ≤ length (decimal rest) = decimal_some rest in omega arith
 
   pub spelt_pair_room : length (decimal n) ≤ end → 10 ≤ rest → 2 ≤ first
-  unfolding tens
   spelt_pair_room h more =
       let r : length (decimal rest) ≤ first = room h in let d : 2 ≤ length (decimal rest) = decimal_long 1 rest (omega arith) more in omega arith
 
@@ -249,9 +248,6 @@ module _ (code number : ℕ) (tag : Bool) (at : ℕ) (a : List ℕ) (h : code < 
 
 -- The line's three numbers, one after another.
 module _ (code number : ℕ) (tag : Bool) (at first second end : ℕ) (a b c d : List ℕ) where
-  pub spaced_size : Laid (decimal code) at a first b → Laid (decimal number) (first + 1) (set b first 32) second c → length c ≡ length a
-  spaced_size p q = q.size ∙ length-set b first 32 ∙ p.size
-
   pub laid_line :
       Laid (decimal code) at a first b → first < length b → Laid (decimal number) (first + 1) (set b first 32) second c
       → Laid (tagged tag) second c end d → Laid (line_of code number tag) at a end d

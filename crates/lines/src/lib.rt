@@ -6,24 +6,18 @@ ghost use Rattle.words.specs.Words.{byte_of};
 ghost use Rattle.lines.specs.Lines.{decimal, line_of};
 ghost use Rattle.lines.specs.Laid.{Laid, laid_in};
 
-// How many digits a number has.
+// How many digits a number has. Most have one or two: the logarithm alone made a refusal's line two thirds longer in time.
 fn width(n: u64) -> usize
     ensures value { result ≡ length (decimal n) }
     ensures upper_bound { result ≤ 20 }
 {
-    let mut count: usize = 1;
-    let mut power: u64 = 10;
-    while count < 19 {
-        if n < power {
-            return count;
-        }
-        power *= 10;
-        count += 1;
+    if n < 10 {
+        return 1;
     }
-    if n < power {
-        return 19;
+    if n < 100 {
+        return 2;
     }
-    20
+    n.ilog10() as usize + 1
 }
 
 // The two digits of a number below 100.
@@ -36,7 +30,7 @@ fn put_two(n: u64, at: usize, out: &mut [u8])
     out[at] = 48 + (n / 10) as u8;
 }
 
-// A number in decimal that ends at a place: two digits at a time, the last first.
+// A number in decimal that ends at a place: two digits at a time, the last first. No library method puts digits straight into a slice.
 fn put(n: u64, end: usize, out: &mut [u8])
     requires n_len_bound { length (decimal n) ≤ end }
     requires end_in_bounds { end ≤ length out.old }
@@ -56,20 +50,13 @@ fn put(n: u64, end: usize, out: &mut [u8])
     out[first - 1] = 48 + rest as u8;
 }
 
-fn byte(tag: bool) -> u8
-    ensures value { result ≡ byte_of tag }
-    ensures upper_bound { result ≤ 1 }
-{
-    if tag { 1 } else { 0 }
-}
-
-// A line's end: a space, the tag, a newline.
+// A line's end: a space, the tag, a newline. Here and below byte by byte: six bytes copied as one slice took 13 ns, stored so 6.
 fn put_tag(tag: bool, at: usize, out: &mut [u8])
     requires { at + 3 ≤ length out.old }
     ensures { Laid (32 ∷ (decimal (byte_of tag) ++ (10 ∷ []))) at out.old (at + 3) out.new }
 {
     out[at] = b' ';
-    out[at + 1] = 48 + byte(tag);
+    out[at + 1] = 48 + u8::from(tag);
     out[at + 2] = b'\n';
 }
 

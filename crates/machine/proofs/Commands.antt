@@ -1,4 +1,5 @@
 -- What holds of every call holds of every command: it is a call, or refusal 1, 2 or 3. Assumes nothing.
+use Rattle.std.specs.Prelude.{Option, Some, None}
 use Prim.Native.Nat.{ℕ, ◌≤◌}
 use native.Mathlib.Omega.{arith}
 use mathlib.Core.Bool.{true}
@@ -7,8 +8,6 @@ use mathlib.Core.Path.{◌≡◌, refl, sym, subst}
 use lib.ListN.{length, drop}
 use Rattle.pages.specs.Layer.{serves}
 use Rattle.calls.specs.declared.Call.{Call}
-use Rattle.calls.specs.declared.Reading.{Reading}
-use Rattle.calls.specs.declared.Reading.TheVariants.{Read, Refused}
 use Rattle.calls.specs.Reader.{read_of}
 use Rattle.machine.specs.State.{State}
 use Rattle.machine.specs.Formed.{well_formed}
@@ -38,9 +37,9 @@ module _ (s : State) (input : List ℕ) (at : ℕ) (cells tags : List ℕ) where
       (λ m. go w (read_of (drop at input))) (λ m. down 2 (λ z. omega arith) (omega arith)))
       (λ w. down 1 (λ z. omega arith) (omega arith))
     where
-      go : well_formed s ≡ true → (r : Reading) → P (on_reading s r cells tags)
-      go w (Read c n) = subst (λ o. P (used n o)) (sym (judged_step s c cells tags w)) (call c n w)
-      go w Refused = down 3 (λ z. omega arith) (omega arith)
+      go : well_formed s ≡ true → (r : Option (Call × ℕ)) → P (on_reading s r cells tags)
+      go w (Some (c, n)) = subst (λ o. P (used n o)) (sym (judged_step s c cells tags w)) (call c n w)
+      go w None = down 3 (λ z. omega arith) (omega arith)
 
   -- A command keeps the state well formed, so that a run of many may go on from it.
   pub command_keeps : well_formed s ≡ true → well_formed (command_of s input at cells tags).command.answered.state ≡ true

@@ -1,4 +1,5 @@
 -- What a granted call has found: of the numbers that it names, of the words that it reads and of the cell that it addresses. Assumes nothing.
+use Rattle.std.specs.Prelude.{Option, Some, None}
 use Prim.Native.Nat.{ℕ, ◌+◌, ◌<◌, ◌≤◌}
 use native.Mathlib.Omega.{arith}
 use mathlib.Core.Bool.{Bool, true, false, not, ◌||◌, true≢false}
@@ -10,8 +11,6 @@ use Rattle.capabilities.specs.Capability.{base_of, length_of}
 use Rattle.capabilities.specs.Refusals.{Reason, first, reason}
 use Rattle.capabilities.proofs.Choice.{or_false}
 use Rattle.capabilities.proofs.Refusals.{first_clear}
-use Rattle.pages.specs.declared.Place.{Place}
-use Rattle.pages.specs.declared.Place.TheVariants.{At, Nowhere}
 use Rattle.pages.specs.Mapping.{lookup_of}
 use Rattle.reservations.specs.Core.{Core}
 use Rattle.words.specs.declared.Slot.{Slot}
@@ -44,13 +43,13 @@ low_three a b d rest z =
 pub record Addressing (k : Core) (a : Slot) (off : ℕ) : Type 0 where
   pub tagged : a.tag ≡ true
   pub short : off < length_of a.cell
-  pub place : lookup_of k.pages (base_of a.cell + off) ≡ At (place_number (addressed k a off))
+  pub place : lookup_of k.pages (base_of a.cell + off) ≡ Some (place_number (addressed k a off))
 
-placed : (x : Place) → nowhere x ≡ false → x ≡ At (place_number x)
-placed (At at) e = refl
-placed Nowhere e = absurd (true≢false e)
+placed : (x : Option ℕ) → nowhere x ≡ false → x ≡ Some (place_number x)
+placed (Some at) e = refl
+placed None e = absurd (true≢false e)
 
-reach : (k : Core) (a : Slot) (off : ℕ) → nowhere (addressed k a off) ≡ false → lookup_of k.pages (base_of a.cell + off) ≡ At (place_number (addressed k a off))
+reach : (k : Core) (a : Slot) (off : ℕ) → nowhere (addressed k a off) ≡ false → lookup_of k.pages (base_of a.cell + off) ≡ Some (place_number (addressed k a off))
 unfolding addressed
 reach k a off e = placed (lookup_of k.pages (base_of a.cell + off)) e
 

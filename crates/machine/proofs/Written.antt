@@ -1,4 +1,5 @@
 -- A command on written bytes is the call that was written. Assumes nothing.
+use Rattle.std.specs.Prelude.{Some}
 use Prim.Native.Nat.{ℕ, ◌<◌}
 use native.Mathlib.Omega.{arith}
 use mathlib.Core.Bool.{Bool, true, false}
@@ -14,7 +15,6 @@ use Rattle.pages.specs.Layer.{serves}
 use Rattle.calls.specs.declared.Call.{Call}
 use Rattle.calls.specs.Commands.{bytes_of}
 use Rattle.calls.specs.Reader.{read_of}
-use Rattle.calls.specs.declared.Reading.TheVariants.{Read}
 use Rattle.calls.proofs.RoundTrip.{round_trip}
 use Rattle.machine.specs.State.{State}
 use Rattle.machine.specs.Formed.{well_formed}
@@ -34,7 +34,7 @@ late s c cells tags n = rw (ruled_code s c cells tags) (go (late_code s c cells 
 -- Whatever stands before and after it, a call that was written runs as that call; it uses the bytes that were written,
 -- or none under refusals 1 and 2.
 module _ (s : State) (c : Call) (before rest cells tags : List ℕ) where
-  found : read_of (drop (length before) (before ++ (bytes_of c ++ rest))) ≡ Read c (length (bytes_of c))
+  found : read_of (drop (length before) (before ++ (bytes_of c ++ rest))) ≡ Some (c, length (bytes_of c))
   found = ap read_of (drop_at before (bytes_of c ++ rest) (length before) refl) ∙ round_trip c rest
 
   judged_written :

@@ -1,10 +1,9 @@
 -- Document 01, 'Commands': a call read from bytes. "Each call hands back the whole state, changed or as given, and how
 -- many bytes it used: the command's length, or 0 under refusals 1 to 3." Assumes nothing.
-use Rattle.std.specs.Prelude.{ℕ, List, length, drop}
+use Rattle.std.specs.Prelude.{ℕ, List, length, drop, Option, Some, None}
 use Rattle.capabilities.specs.Lists.{pick}
 use Rattle.pages.specs.Layer.{serves}
-use Rattle.calls.specs.declared.Reading.{Reading}
-use Rattle.calls.specs.declared.Reading.TheVariants.{Read, Refused}
+use Rattle.calls.specs.declared.Call.{Call}
 use Rattle.calls.specs.Reader.{read_of}
 use Rattle.machine.specs.State.{State}
 use Rattle.machine.specs.State.{Commanded}
@@ -24,9 +23,9 @@ abbrev pub used : ℕ → Outcome → Ran
 used n o = ran (record { answered = o.answer; used = n }) o.cells o.tags
 
 -- 3: "No byte is found at the place, the first byte is no command, or the input ends before its operands do."
-unfoldable pub on_reading : State → Reading → List ℕ → List ℕ → Ran
-on_reading s (Read call n) cells tags = used n (judged s call cells tags)
-on_reading s Refused cells tags = used 0 (refused 3 s cells tags)
+unfoldable pub on_reading : State → Option (Call × ℕ) → List ℕ → List ℕ → Ran
+on_reading s (Some (call, n)) cells tags = used n (judged s call cells tags)
+on_reading s None cells tags = used 0 (refused 3 s cells tags)
 
 -- The command at a place of the input, by refusals 2 and 3 and then its call.
 unfoldable pub command_judged : State → List ℕ → ℕ → List ℕ → List ℕ → Ran

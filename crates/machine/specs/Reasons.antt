@@ -1,10 +1,9 @@
 -- Document 01, 'Why a call is turned down', 4 to 19, and document 02's 20 to 22: for each kind of call the reasons against it, in the order
 -- of their numbers. They look at the core, the mailboxes and what the call reads, and at nothing else. Assumes nothing.
-use Rattle.std.specs.Prelude.{ℕ, ◌+◌, not, ◌||◌, List, [], ◌∷◌, eqb}
+use Rattle.std.specs.Prelude.{ℕ, ◌+◌, not, ◌||◌, List, [], ◌∷◌, eqb, Option}
 use Rattle.capabilities.specs.Capability.{base_of}
 use Rattle.capabilities.specs.Lists.{pick}
 use Rattle.capabilities.specs.Refusals.{Reason, reason, first}
-use Rattle.pages.specs.declared.Place.{Place}
 use Rattle.pages.specs.Mapping.{no_page, lookup_of, map_reasons, unmap_reasons, dirty_reasons}
 use Rattle.table.specs.Operations.{take_reasons, split_reasons, merge_reasons, give_reasons}
 use Rattle.claims.specs.Claims.{claimed}
@@ -32,7 +31,7 @@ abbrev pub reading : Slot → Slot → List Slot → Reads
 reading one two words = record { one = one; two = two; words = words }
 
 -- The place in lent memory of the cell at base + off of the capability in a.
-unfoldable pub addressed : Core → Slot → ℕ → Place
+unfoldable pub addressed : Core → Slot → ℕ → Option ℕ
 addressed c a off = lookup_of c.pages (base_of a.cell + off)
 
 -- The word at that cell, as a load through a makes it.

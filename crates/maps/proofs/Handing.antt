@@ -23,18 +23,17 @@ use types.Kit.{Item, Sq, mean, runs, at_ret, ‵, raw, ◌⊛◌, ⋆, some, lat
 use types.Part.{agg, whole, sub, look_in}
 use types.Run.{look, init, forget, stop, hop, fld, from, load, lit, addr, and_then, no_more, assigns, land, returns, enter, alloc1, alloc0, params1, pass1, pass0, free1, free0}
 use sound.WpLaws.{fm_of, WpFn-mono}
-use denote.RattleType.{owns}
+use denote.RattleType.{RattleType, owns}
 use denote.Laws.{Is, shows}
 use types.SemTy.{Arr, Body as Lent}
 use types.Hole.{Holey}
-use denote.Memory.{mem as stored, pointee}
+use denote.Memory.{mem as stored, lone, pointee}
 use denote.Plain.{uint_Makes, uint_vals, uint_Tells}
 use denote.Builtin.{u16, u64}
 use denote.Ref.{Bor, MutBor}
 use denote.Signature.{plain}
 use denote.Slice.{slice_ty, slice_val, shr_slice_vals, mut_slice_vals, ShrSlice, MutSlice, finally, shr_slice_Tells, mut_slice_Tells, shr_slice_Lawful, mut_slice_Lawful, shr_slice_copy}
 use denote.Steps.{owned, facts, heard, nothing}
-use denote.Struct.Laws as LL
 use denote.Enum.Laws as EL
 use denote.Triple.Statement.{Contract, Triple}
 use denote.Triple.Call.{calls_at}
@@ -47,15 +46,31 @@ use Rattle.table.specs.declared.Reservation.{Reservation}
 use Rattle.table.specs.contracts.Reservation as R
 use Rattle.table.proofs.Reservation.TheLaws as R'
 use Rattle.maps.specs.declared.Question.{Question}
-use Rattle.maps.specs.declared.Answer.{Answer}
-use Rattle.maps.specs.Questions.{response, ask_of}
+use Rattle.maps.specs.declared.Found.{Found}
+use Rattle.maps.specs.Questions.{response, answer_of, ask_of}
 use Rattle.maps.specs.contracts.Question as Q
 use Rattle.maps.proofs.Question.TheLaws as Q'
-use Rattle.maps.specs.contracts.Answer as B
-use Rattle.maps.proofs.Answer.TheLaws as B'
+use Rattle.maps.specs.contracts.Found as F
+use Rattle.maps.proofs.Found.TheLaws as F'
+use Rattle.capabilities.specs.declared.refusal.Refusal.{Refusal}
+use Rattle.capabilities.specs.contracts.refusal.Refusal as N
+use Rattle.capabilities.proofs.refusal.Refusal.TheLaws as N'
+use Rattle.std.specs.declared.result.Result.{Result}
+use Rattle.std.specs.contracts.result.Result as B
+use Rattle.std.proofs.result.Result.TheLaws as B'
 use Rattle.maps.specs.contracts.records.ask as ask
 use Rattle.maps.proofs.records.ask.Symbol.{name as #ask}
 use Rattle.maps.specs.contracts.records.sharing as sharing
+
+-- what is answered: its row, the laws of it, and its MIR type
+abbrev answered : RattleType
+answered = B.the_row F.the_row N.the_row
+
+abbrev answered_laws : EL.Laws (B.the_type F.the_row N.the_row)
+answered_laws = B'.the_laws F.the_row N.the_row F'.the_row_laws N'.the_row_laws F'.the_told N'.the_told
+
+abbrev answered_mir : Ty
+answered_mir = lone answered.mir
 
 abbrev word : Ty
 word = ty_int w64
@@ -75,7 +90,7 @@ again_slice = slice_ty pointer
 
 -- what a function of this shape promises
 abbrev pub clauses : (ℕ → ℕ → Question) → {M : Type 1} (𝓤 : Ura M) → Clauses 𝓤 sharing.ended
-clauses make 𝓤 κs a = record { ghost = Unit {0}; requires = λ _. emp 𝓤; ensures = λ _ r e. fact 𝓤 (response r e.1.1.1.0.now ≡ ask_of a.0.now (make a.1.0 a.1.1.0) a.1.1.1.0.now) }
+clauses make 𝓤 κs a = record { ghost = Unit {0}; requires = λ _. emp 𝓤; ensures = λ _ r e. fact 𝓤 (response (answer_of r) e.1.1.1.0.now ≡ ask_of a.0.now (make a.1.0 a.1.1.0) a.1.1.1.0.now) }
 
 abbrev finish : Body
 finish = seq (call #ask (copy (place 1 []) ∷ copy (place 5 []) ∷ copy (place 7 []) ∷ []) (place 0 [])) return
@@ -93,7 +108,7 @@ function k = record {
   ty_params = [];
   givens = 0;
   params = 4;
-  locals = local B'.mir value_local ∷ local slice value_local ∷ local word value_local ∷ local word value_local ∷ local room_slice value_local ∷ local Q'.mir value_local ∷ local pointer value_local ∷ local again_slice value_local ∷ [];
+  locals = local answered_mir value_local ∷ local slice value_local ∷ local word value_local ∷ local word value_local ∷ local room_slice value_local ∷ local Q'.mir value_local ∷ local pointer value_local ∷ local again_slice value_local ∷ [];
   body = start k;
 }
 
@@ -157,12 +172,12 @@ module _ (k : ℕ) (small : Holds (ltb k (2 ^ 8))) (make : ℕ → ℕ → Quest
     abbrev Tokens : Item 𝓤
     Tokens = ‵ (flft κ q) ⊛ ‵ (flft κ' q') ⊛ ‵ ftrue
 
-    exits : (a : Answer) (u : Val) (bs : List ℕ) → length bs ≡ length cs → response a bs ≡ ask_of ys qn cs → Is B.the_row a (u ∷ []) → ent 𝓤 (⋆ 𝓛 (Tokens ∷ ‵ (finally u16 γ' bs) ∷ ‵ Back ∷ ‵ Own ∷ [])) (Post u)
+    exits : (a : Result Found Refusal) (u : Val) (bs : List ℕ) → length bs ≡ length cs → response (answer_of a) bs ≡ ask_of ys qn cs → Is answered a (u ∷ []) → ent 𝓤 (⋆ 𝓛 (Tokens ∷ ‵ (finally u16 γ' bs) ∷ ‵ Back ∷ ‵ Own ∷ [])) (Post u)
     exits a u bs same e is =
         qed 𝓛 (Tokens ∷ ‵ (finally u16 γ' bs) ∷ ‵ Back ∷ ‵ Own ∷ []) ∵
         suffices ! _ (ends_at 𝓛 sharing.ended stayed (clauses make 𝓤) bound u a (tt, (tt, (tt, (bs, tt)))) (tt, (tt, (tt, (same, tt))))) $ says ! e $ frame ! $
         fjoin ! $ nothing ! $ move ! (1 ∷ 0 ∷ []) $ fjoin ! $ owned ! u64 (Is u64) (uint_Makes 𝓛 w64) cells _ (refl, gs) $ fjoin ! $ owned ! u64 (Is u64) (uint_Makes 𝓛 w64) first _ (refl, gf) $ fjoin ! $ move ! (1 ∷ 0 ∷ []) $ fjoin ! $ frame ! $
-        owned ! B.the_row (Is B.the_row) (LL.makes B.the_type B'.the_plain 𝓛) a _ is $ done !
+        owned ! answered (Is answered) (EL.makes (B.the_type F.the_row N.the_row) (B'.the_plain F.the_row N.the_row F'.the_row_plain N'.the_row_plain) 𝓛) a _ is $ done !
 
     -- the call of `ask`
     abbrev given_to : Bor (List Reservation) × (Question × (MutBor (List ℕ) × Unit {0}))
@@ -184,12 +199,12 @@ module _ (k : ℕ) (small : Holds (ltb k (2 ^ 8))) (make : ℕ → ℕ → Quest
         Λ = 𝓣.Λ
 
         abbrev En : Env 𝓤 H
-        En = (B'.mir, l₀) ∷ (slice, l₁) ∷ (word, l₂) ∷ (word, l₃) ∷ (room_slice, l₄) ∷ (Q'.mir, l₅) ∷ (pointer, l₆) ∷ (again_slice, l₇) ∷ []
+        En = (answered_mir, l₀) ∷ (slice, l₁) ∷ (word, l₂) ∷ (word, l₃) ∷ (room_slice, l₄) ∷ (Q'.mir, l₅) ∷ (pointer, l₆) ∷ (again_slice, l₇) ∷ []
 
         abbrev Start : List (Item 𝓤)
         Start = Tokens ∷ ‵ Own ∷ ‵ Bases ∷ ‵ Own
             ∷ ‵ (froom again_slice l₇ 0) ∷ ‵ (fdies again_slice l₇) ∷ ‵ (froom pointer l₆ 0) ∷ ‵ (fdies pointer l₆) ∷ ‵ (froom Q'.mir l₅ 0) ∷ ‵ (fdies Q'.mir l₅) ∷ ‵ (fat full_share room_slice l₄ 0 (v')) ∷ ‵ (fdies room_slice l₄)
-            ∷ ‵ (fat full_share word l₃ 0 (vint w64 cells)) ∷ ‵ (fdies word l₃) ∷ ‵ (fat full_share word l₂ 0 (vint w64 first)) ∷ ‵ (fdies word l₂) ∷ ‵ (fat full_share slice l₁ 0 (v)) ∷ ‵ (fdies slice l₁) ∷ ‵ (froom B'.mir l₀ 0) ∷ ‵ (fdies B'.mir l₀) ∷ []
+            ∷ ‵ (fat full_share word l₃ 0 (vint w64 cells)) ∷ ‵ (fdies word l₃) ∷ ‵ (fat full_share word l₂ 0 (vint w64 first)) ∷ ‵ (fdies word l₂) ∷ ‵ (fat full_share slice l₁ 0 (v)) ∷ ‵ (fdies slice l₁) ∷ ‵ (froom answered_mir l₀ 0) ∷ ‵ (fdies answered_mir l₀) ∷ []
 
         starts : Sq 𝓛 Start (runs C Λ En (start k) (at_ret En Post))
         starts =
@@ -200,13 +215,13 @@ module _ (k : ℕ) (small : Holds (ltb k (2 ^ 8))) (make : ℕ → ℕ → Quest
             use3 𝓛 (raw ((Ask 𝓛 mem run).pre to)) asks $
             calls_at ! (fm_of 𝓤 H 𝓛.laws 𝓣) (Ask 𝓛 mem run) known to
             (and_then ! (load ! (from ! (stop !)) (look ! 14 refl)) (and_then ! (load ! (from ! (stop !)) (look ! 6 refl)) (and_then ! (load ! (from ! (stop !)) (look ! 2 refl)) (no_more !)))) (λ u.
-            use1 𝓛 (later (some (λ (a : Answer). (Tokens ⊛ ‵ ((B.the_row).own_val a (u ∷ []))) ⊛ raw (ensured 𝓛 ask.ended (ask.clauses 𝓛 mem run) (κ, (κ', tt)) given_to tt a)))) (id⊢ 𝓤 _) $ await ! tt $ pick ! (λ a.
-            split ! $ move ! (1 ∷ []) $ use1 𝓛 (some (λ (ws : Ends). ‵ (lasts ask.ended (κ, (κ', tt)) given_to ws) ⊛ raw (fact 𝓤 (response a ws.1.1.0 ≡ ask_of ys qn cs)))) (id⊢ 𝓤 _) $ pick ! (λ ws.
-            split ! $ move ! (1 ∷ []) $ heard ! (response a ws.1.1.0 ≡ ask_of ys qn cs) (λ e.
+            use1 𝓛 (later (some (λ (a : Result Found Refusal). (Tokens ⊛ ‵ (answered.own_val a (u ∷ []))) ⊛ raw (ensured 𝓛 ask.ended (ask.clauses 𝓛 mem run) (κ, (κ', tt)) given_to tt a)))) (id⊢ 𝓤 _) $ await ! tt $ pick ! (λ a.
+            split ! $ move ! (1 ∷ []) $ use1 𝓛 (some (λ (ws : Ends). ‵ (lasts ask.ended (κ, (κ', tt)) given_to ws) ⊛ raw (fact 𝓤 (response (answer_of a) ws.1.1.0 ≡ ask_of ys qn cs)))) (id⊢ 𝓤 _) $ pick ! (λ ws.
+            split ! $ move ! (1 ∷ []) $ heard ! (response (answer_of a) ws.1.1.0 ≡ ask_of ys qn cs) (λ e.
             -- [what is said of the last values; the tokens and the result; what the records own; the locals]
             fsplit ! $ drop ! $ fsplit ! $ drop ! $ fsplit ! $ fsplit ! $ fsplit ! $ move ! (1 ∷ []) $ feq_l ! (λ same. move ! (2 ∷ []) $ drop ! $ move ! (2 ∷ []) $ split ! $ move ! (1 ∷ []) $
-            facts ! B.the_row (Is B.the_row) (shows 𝓛 B.the_row) a (u ∷ []) (λ is.
-            land ! (from ! (stop !)) (init ! 18 refl ((LL.lawful B.the_type B'.the_laws 𝓛).typed a _ is).0) $
+            facts ! answered (Is answered) (shows 𝓛 answered) a (u ∷ []) (λ is.
+            land ! (from ! (stop !)) (init ! 18 refl ((EL.lawful (B.the_type F.the_row N.the_row) answered_laws 𝓛 tt).typed a _ is).0) $
             returns ! (look ! 18 refl) $ forget ! 4 refl $ forget ! 6 refl $ forget ! 8 refl $ forget ! 10 refl $ forget ! 12 refl $ forget ! 14 refl $ forget ! 16 refl $ forget ! 18 refl $
             move ! (18 ∷ 19 ∷ []) $ free1 ! $ move ! (16 ∷ 17 ∷ []) $ free1 ! $ move ! (14 ∷ 15 ∷ []) $ free1 ! $ move ! (12 ∷ 13 ∷ []) $ free1 ! $ move ! (10 ∷ 11 ∷ []) $ free1 ! $ move ! (8 ∷ 9 ∷ []) $ free1 ! $ move ! (6 ∷ 7 ∷ []) $ free1 ! $ move ! (4 ∷ 5 ∷ []) $ free1 ! $ free0 ! $
             by ! (exits a u ws.1.1.0 same e is)))))))

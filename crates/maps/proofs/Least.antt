@@ -14,10 +14,9 @@ use Rattle.capabilities.proofs.Members.{in_filter, from_filter}
 use Rattle.capabilities.proofs.Choice.{is_false}
 use Rattle.table.specs.declared.Reservation.{Reservation}
 use Rattle.table.specs.Rows.{range_of}
-use Rattle.maps.specs.declared.Answer.{Answer}
 use Rattle.maps.specs.declared.Question.TheVariants.{Nearest}
 use Rattle.maps.specs.Cells.{distance}
-use Rattle.maps.specs.Questions.{candidate, nearer, nearest, answer, found, response, granted_answer, is_refused, ask_of}
+use Rattle.maps.specs.Questions.{candidate, nearer, nearest, Answer, answer, found, response, granted_answer, is_refused, ask_of}
 use Rattle.maps.specs.Promises.{NoFarther, NearestIsLeast, NoneOnlyIfNone}
 
 -- ---- The order of distances, and of bases at one distance

@@ -1,11 +1,9 @@
-pub mod Ranges
-pub mod Walking
 pub mod Turning
+pub mod Reading
 pub mod Surveying
 pub mod Listing
 pub mod Nearing
 pub mod Asking
-pub mod Reading
 pub mod Handing
 pub mod Calling
 pub mod Meaning

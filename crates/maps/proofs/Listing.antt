@@ -45,8 +45,7 @@ one_longer : (done : List ℕ) (b : ℕ) → length (done ++ (b ∷ [])) ≡ len
 one_longer done b = length-append done (b ∷ [])
 
 with_more : (q : Question) (r : Reservation) (done : List ℕ) (x : ℕ) (room : List ℕ) → asks q r ≡ true
-    → list_with q (listing (length done) (done ++ (x ∷ room))) r.base r.length ≡ listing (length (done ++ (r.base ∷ []))) ((done ++ (r.base ∷ [])) ++ room)
-unfolding list_with
+    → list_with q (listing (length done) (done ++ (x ∷ room))) r ≡ listing (length (done ++ (r.base ∷ []))) ((done ++ (r.base ∷ [])) ++ room)
 with_more q r done x room e =
     pick_yes (asks q r && ltb (length done) (length (done ++ (x ∷ room)))) _ _ (both (asks q r) (ltb (length done) (length (done ++ (x ∷ room)))) e (lt-ltb (length done) (length (done ++ (x ∷ room))) there))
     ∙ (λ i. listing (sym (one_longer done r.base) i) (set_there done x r.base room i))
@@ -54,8 +53,7 @@ with_more q r done x room e =
     there : length done < length (done ++ (x ∷ room))
     there = let h = length-append done (x ∷ room) in omega (arith, h)
 
-with_same : (q : Question) (r : Reservation) (s : Listing) → asks q r ≡ false → list_with q s r.base r.length ≡ s
-unfolding list_with
+with_same : (q : Question) (r : Reservation) (s : Listing) → asks q r ≡ false → list_with q s r ≡ s
 with_same q r s e = pick_no (asks q r && ltb s.count (length s.bases)) _ s (ap (λ (t : Bool). t && ltb s.count (length s.bases)) e)
 
 -- All records, with room for each.
@@ -79,7 +77,6 @@ leaves_same : (q : Question) (r : Reservation) (l : List Reservation) (done room
 leaves_same q r l done room e = ap (λ (k : List ℕ). listing (length done + length k) (done ++ (k ++ drop (length k) room))) (sym (bases_same q r l e))
 
 pub list_leaves : (q : Question) (l : List Reservation) (done room : List ℕ) → length l ≤ length room → list_over q (listing (length done) (done ++ room)) l ≡ leaves q l done room
-unfolding list_over
 list_leaves q [] done room w = none_left q done room
 list_leaves q (r ∷ l) done [] w = absurd (no w)
   where
@@ -90,7 +87,7 @@ list_leaves q (r ∷ l) done (x ∷ room) w =
   where
     go : list_over q (listing (length (done ++ (r.base ∷ []))) ((done ++ (r.base ∷ [])) ++ room)) l ≡ leaves q l (done ++ (r.base ∷ [])) room
         → list_over q (listing (length done) (done ++ (x ∷ room))) l ≡ leaves q l done (x ∷ room)
-        → (t : Bool) → asks q r ≡ t → list_over q (list_with q (listing (length done) (done ++ (x ∷ room))) r.base r.length) l ≡ leaves q (r ∷ l) done (x ∷ room)
+        → (t : Bool) → asks q r ≡ t → list_over q (list_with q (listing (length done) (done ++ (x ∷ room))) r) l ≡ leaves q (r ∷ l) done (x ∷ room)
     go more same true e = ap (λ (s : Listing). list_over q s l) (with_more q r done x room e) ∙ more ∙ leaves_more q r l done x room e
     go more same false e = ap (λ (s : Listing). list_over q s l) (with_same q r (listing (length done) (done ++ (x ∷ room))) e) ∙ same ∙ leaves_same q r l done (x ∷ room) e
 
@@ -102,6 +99,6 @@ all_listed q l bases w =
 
 -- A question for the nearest lists none.
 pub none_listed : (cell cells : ℕ) (s : Listing) (l : List Reservation) → list_over (Nearest cell cells) s l ≡ s
-unfolding list_over list_with is_listed
+unfolding is_listed
 none_listed cell cells s [] = refl
 none_listed cell cells s (r ∷ l) = none_listed cell cells s l

@@ -1,17 +1,13 @@
 -- A walk over the records that numbers read as, from one turn to the next: maps:Turning, of the number at the place.
-use mathlib.Core.Path.{◌≡◌, refl, sym, ◌∙◌, ap, subst}
-use Prim.Native.Nat.{ℕ, ◌+◌, ◌<◌, ◌≤◌}
-use mathlib.Core.Bool.{false, ◌&&◌}
-use mathlib.Core.List.{List, map}
-use lib.ListN.{length, get_or, take, drop, length-map, get_or-map}
-use lib.Dec.{ltb}
+use Rattle.std.proofs.Common.{◌≡◌, ℕ, ◌+◌, ◌<◌, List, length, get_or, take, map, refl, sym, ap, ◌∙◌, subst}
+use lib.ListN.{drop, length-map, get_or-map}
 use Rattle.table.specs.declared.Reservation.{Reservation}
 use Rattle.table.specs.Rows.{blank}
 use Rattle.table.specs.Numbers.{state_from, row_from}
 use Rattle.maps.specs.declared.Question.{Question}
 use Rattle.maps.specs.declared.Seen.{Seen}
 use Rattle.maps.specs.Walks.{seen_with, seen_over, Listing, list_with, list_over}
-use Rattle.maps.proofs.Turning.{seen_turn, seen_all, list_turn, list_all}
+use Rattle.maps.proofs.Turning.{seen_turn, list_turn}
 
 zero_row : blank ≡ row_from 0
 unfolding row_from state_from
@@ -29,17 +25,11 @@ module _ (q : Question) (rows : List ℕ) where
   as_many = sym (length-map rows row_from)
 
   pub seen_number : (s s' total : Seen) (i : ℕ) (r : Reservation) → i < length rows → seen_over q s (drop i records) ≡ total → r ≡ row_from (get_or rows i 0)
-      → s' ≡ seen_with q s r.base r.length r.state → seen_over q s' (drop (i + 1) records) ≡ total
+      → s' ≡ seen_with q s r → seen_over q s' (drop (i + 1) records) ≡ total
   seen_number s s' total i r l e read step =
-      seen_turn q records s s' total i (subst (λ (n : ℕ). i < n) as_many l) e (step ∙ ap (λ (x : Reservation). seen_with q s x.base x.length x.state) (read_there i r read))
-
-  pub seen_numbers : (s total : Seen) (i : ℕ) → length rows ≤ i → seen_over q s (drop i records) ≡ total → s ≡ total
-  seen_numbers s total i l e = seen_all q records s total i (subst (λ (n : ℕ). n ≤ i) as_many l) e
+      seen_turn q records s s' total i (subst (λ (n : ℕ). i < n) as_many l) e (step ∙ ap (seen_with q s) (read_there i r read))
 
   pub list_number : (upto : ℕ) (s s' total : Listing) (i : ℕ) (r : Reservation) → (i < upto) × (i < length rows) → list_over q s (drop i (take upto records)) ≡ total → r ≡ row_from (get_or rows i 0)
-      → s' ≡ list_with q s r.base r.length → list_over q s' (drop (i + 1) (take upto records)) ≡ total
+      → s' ≡ list_with q s r → list_over q s' (drop (i + 1) (take upto records)) ≡ total
   list_number upto s s' total i r there e read step =
-      list_turn q records upto s s' total i (subst (λ (n : ℕ). (i < upto) × (i < n)) as_many there) e (step ∙ ap (λ (x : Reservation). list_with q s x.base x.length) (read_there i r read))
-
-  pub list_numbers : (upto : ℕ) (s total : Listing) (i : ℕ) → ltb i upto && ltb i (length rows) ≡ false → list_over q s (drop i (take upto records)) ≡ total → s ≡ total
-  list_numbers upto s total i none e = list_all q records upto s total i (subst (λ (n : ℕ). ltb i upto && ltb i n ≡ false) as_many none) e
+      list_turn q records upto s s' total i (subst (λ (n : ℕ). (i < upto) × (i < n)) as_many there) e (step ∙ ap (list_with q s) (read_there i r read))

@@ -1,65 +1,31 @@
 -- What a survey tells of the tiling: it goes on exactly if the records seen tile and end at 4,096 at most, and its end is then theirs.
-use mathlib.Core.Path.{◌≡◌, refl, sym, ◌∙◌, ap, subst}
+use mathlib.Core.Path.{◌≡◌, refl, sym, ◌∙◌, ap}
 use Prim.Native.Nat.{ℕ, ◌+◌, ◌≤◌}
 use native.Mathlib.Omega.{arith}
 use native.Mathlib.Nat.{add_assoc}
-use mathlib.Core.Bool.{Bool, true, false, ◌&&◌, true≢false}
+use mathlib.Core.Bool.{Bool, true, false, ◌&&◌}
 use mathlib.Core.List.{List, [], ◌∷◌}
 use lib.Dec.{eqb, leb, ltb}
 use borrow.Author.Tests.{eqb-true, leb-true, leb-false, le-leb, lt-leb}
+use Rattle.std.specs.Prelude.{Option, Some, None, is_some}
 use Rattle.capabilities.specs.Lists.{pick}
-use Rattle.capabilities.proofs.Choice.{and_left, and_right}
+use Rattle.capabilities.proofs.Choice.{pick_yes, and_left, and_right}
 use Rattle.table.specs.declared.Reservation.{Reservation}
-use Rattle.table.specs.declared.ReservationState.{ReservationState}
 use Rattle.maps.specs.declared.Question.{Question}
-use Rattle.maps.specs.declared.Question.TheVariants.{Sharing, Within, Nearest}
+use Rattle.maps.specs.declared.Near.{Near}
 use Rattle.maps.specs.declared.Seen.{Seen}
-use Rattle.maps.specs.Cells.{span, distance}
 use Rattle.maps.specs.Records.{tile_from, cells_of}
-use Rattle.maps.specs.Walks.{seen, goes_on, tile_with, near_with, seen_with, seen_over, better}
-
--- The search for the nearest leaves the tiling as it is.
-near_tiled : (c n : ℕ) (s : Seen) (b l : ℕ) (state : ReservationState) → ((near_with c n s b l state).tiled ≡ s.tiled) × ((near_with c n s b l state).end ≡ s.end)
-unfolding near_with
-near_tiled c n s b l state = go (better c n s b l state)
-  where
-    go : (t : Bool) → ((pick t (seen s.tiled s.end true b (distance c (span b l))) s).tiled ≡ s.tiled) × ((pick t (seen s.tiled s.end true b (distance c (span b l))) s).end ≡ s.end)
-    go true = (refl, refl)
-    go false = (refl, refl)
-
--- One record more.
-with_tiled : (q : Question) (s : Seen) (b l : ℕ) (state : ReservationState) → (seen_with q s b l state).tiled ≡ goes_on s b l
-unfolding seen_with tile_with
-with_tiled (Sharing first cells) s b l state = refl
-with_tiled (Within first cells) s b l state = refl
-with_tiled (Nearest cell cells) s b l state = (near_tiled cell cells (tile_with s b l) b l state).0
-
-own_end : (q : Question) (s : Seen) (b l : ℕ) (state : ReservationState) → (seen_with q s b l state).end ≡ b + l
-unfolding seen_with tile_with
-own_end (Sharing first cells) s b l state = refl
-own_end (Within first cells) s b l state = refl
-own_end (Nearest cell cells) s b l state = (near_tiled cell cells (tile_with s b l) b l state).1
-
--- One that goes on begins where the others end.
-with_end : (q : Question) (s : Seen) (b l : ℕ) (state : ReservationState) → goes_on s b l ≡ true → (seen_with q s b l state).end ≡ s.end + l
-with_end q s b l state e =
-    own_end q s b l state ∙ ap (λ (k : ℕ). k + l)
-    (eqb-true b s.end (and_right s.tiled (eqb b s.end) (and_left (s.tiled && eqb b s.end) (ltb 0 l && leb (b + l) 4096) e)))
-
--- Once it is off, it stays off.
-stays_off : (q : Question) (s : Seen) (l : List Reservation) → s.tiled ≡ false → (seen_over q s l).tiled ≡ false
-unfolding seen_over
-stays_off q s [] e = e
-stays_off q s (r ∷ l) e =
-    stays_off q (seen_with q s r.base r.length r.state) l
-    (with_tiled q s r.base r.length r.state ∙ ap (λ (t : Bool). (t && eqb r.base s.end) && (ltb 0 r.length && leb (r.base + r.length) 4096)) e)
+use Rattle.maps.specs.Walks.{seen, goes_on, nearest_with, seen_over}
 
 -- What a survey comes to that goes on.
 unfoldable pub sound_from : ℕ → List Reservation → Bool
 sound_from e l = tile_from e l && leb (e + cells_of l) 4096
 
-sound_next : (e : ℕ) (r : Reservation) (l : List Reservation)
-    → sound_from e (r ∷ l) ≡ ((eqb r.base e && (ltb 0 r.length && leb (e + r.length) 4096)) && sound_from (e + r.length) l)
+-- The test of one record, by where those before it end.
+abbrev fits : ℕ → Reservation → Bool
+fits e r = eqb r.base e && (ltb 0 r.length && leb (e + r.length) 4096)
+
+sound_next : (e : ℕ) (r : Reservation) (l : List Reservation) → sound_from e (r ∷ l) ≡ (fits e r && sound_from (e + r.length) l)
 unfolding sound_from tile_from cells_of
 sound_next e r l = go (eqb r.base e) (ltb 0 r.length) (tile_from (e + r.length) l) (leb (e + r.length) 4096) refl
   where
@@ -81,49 +47,60 @@ sound_none : (e : ℕ) → e ≤ 4096 → sound_from e [] ≡ true
 unfolding sound_from tile_from cells_of
 sound_none e w = le-leb (e + 0) 4096 (omega (arith, w))
 
--- The test of one record, while the survey goes on.
-abbrev fits : ℕ → Reservation → Bool
-fits e r = eqb r.base e && (ltb 0 r.length && leb (e + r.length) 4096)
-
-fits_low : (e : ℕ) (r : Reservation) → fits e r ≡ true → e + r.length ≤ 4096
-fits_low e r t =
-    leb-true (e + r.length) 4096 (and_right (ltb 0 r.length) (leb (e + r.length) 4096) (and_right (eqb r.base e) (ltb 0 r.length && leb (e + r.length) 4096) t))
-
-still_on : (s : Seen) (r : Reservation) → s.tiled ≡ true → goes_on s r.base r.length ≡ fits s.end r
-still_on s r e = ap (λ (t : Bool). (t && eqb r.base s.end) && (ltb 0 r.length && leb (r.base + r.length) 4096)) e ∙ go (eqb r.base s.end) refl
+goes_on_fits : (e : ℕ) (r : Reservation) → goes_on e r ≡ fits e r
+goes_on_fits e r = go (eqb r.base e) refl
   where
-    go : (t : Bool) → eqb r.base s.end ≡ t → t && (ltb 0 r.length && leb (r.base + r.length) 4096) ≡ (t && (ltb 0 r.length && leb (s.end + r.length) 4096))
-    go true t = ap (λ (k : ℕ). ltb 0 r.length && leb (k + r.length) 4096) (eqb-true r.base s.end t)
+    go : (t : Bool) → eqb r.base e ≡ t → t && (ltb 0 r.length && leb (r.base + r.length) 4096) ≡ (t && (ltb 0 r.length && leb (e + r.length) 4096))
+    go true t = ap (λ (k : ℕ). ltb 0 r.length && leb (k + r.length) 4096) (eqb-true r.base e t)
     go false t = refl
 
+-- Where the records end, if they go on.
+abbrev pub ends : ℕ → List Reservation → Option ℕ
+ends e l = pick (sound_from e l) (Some (e + cells_of l)) None
+
+ends_none : (e : ℕ) → e ≤ 4096 → Some e ≡ ends e []
+unfolding cells_of
+ends_none e w = ap Some (omega arith) ∙ sym (pick_yes (sound_from e []) (Some (e + cells_of [])) None (sound_none e w))
+
+ends_next : (e : ℕ) (r : Reservation) (l : List Reservation) (t : Bool) → goes_on e r ≡ t → pick t (ends (e + r.length) l) None ≡ ends e (r ∷ l)
+unfolding cells_of
+ends_next e r l t h = go t (sound_next e r l ∙ ap (λ (b : Bool). b && sound_from (e + r.length) l) (sym (goes_on_fits e r) ∙ h))
+  where
+    go : (t : Bool) → sound_from e (r ∷ l) ≡ (t && sound_from (e + r.length) l) → pick t (ends (e + r.length) l) None ≡ pick (sound_from e (r ∷ l)) (Some (e + (r.length + cells_of l))) None
+    go true s i = pick (sym s i) (Some (add_assoc e r.length (cells_of l) i)) None
+    go false s i = pick (sym s i) (Some (e + (r.length + cells_of l))) None
+
+-- Once it is off, it stays off.
+stays_off : (q : Question) (nearest : Option Near) (l : List Reservation) → (seen_over q (seen None nearest) l).end ≡ None
+stays_off q nearest [] = refl
+stays_off q nearest (r ∷ l) = stays_off q (nearest_with q nearest r) l
+
+-- One that goes on begins where the others end.
+next_end : (e : ℕ) (r : Reservation) → goes_on e r ≡ true → r.base + r.length ≡ e + r.length
+next_end e r h = ap (λ (k : ℕ). k + r.length) (eqb-true r.base e (and_left (eqb r.base e) (ltb 0 r.length && leb (r.base + r.length) 4096) h))
+
+next_low : (e : ℕ) (r : Reservation) → goes_on e r ≡ true → r.base + r.length ≤ 4096
+next_low e r h =
+    leb-true (r.base + r.length) 4096 (and_right (ltb 0 r.length) (leb (r.base + r.length) 4096) (and_right (eqb r.base e) (ltb 0 r.length && leb (r.base + r.length) 4096) h))
+
+-- Where a survey that goes on so far ends.
+pub ends_lem : (q : Question) (e : ℕ) (nearest : Option Near) (l : List Reservation) → e ≤ 4096 → (seen_over q (seen (Some e) nearest) l).end ≡ ends e l
+ends_lem q e nearest [] w = ends_none e w
+ends_lem q e nearest (r ∷ l) w = go (λ low. ends_lem q (r.base + r.length) near' l low) (goes_on e r) refl
+  where
+    near' : Option Near
+    near' = nearest_with q nearest r
+
+    go : (r.base + r.length ≤ 4096 → (seen_over q (seen (Some (r.base + r.length)) near') l).end ≡ ends (r.base + r.length) l)
+        → (t : Bool) → goes_on e r ≡ t → (seen_over q (seen (pick t (Some (r.base + r.length)) None) near') l).end ≡ ends e (r ∷ l)
+    go rest true t = rest (next_low e r t) ∙ ap (λ (k : ℕ). ends k l) (next_end e r t) ∙ ends_next e r l true t
+    go rest false t = stays_off q near' l ∙ ends_next e r l false t
+
 -- A survey that goes on so far goes on exactly if the rest is sound.
-pub goes_on_lem : (q : Question) (s : Seen) (l : List Reservation) → s.tiled ≡ true → s.end ≤ 4096 → (seen_over q s l).tiled ≡ sound_from s.end l
-unfolding seen_over
-goes_on_lem q s [] e w = e ∙ sym (sound_none s.end w)
-goes_on_lem q s (r ∷ l) e w = go (λ on low. goes_on_lem q (seen_with q s r.base r.length r.state) l on low) (fits s.end r) refl
+pub goes_on_lem : (q : Question) (s : Seen) (e : ℕ) (l : List Reservation) → s.end ≡ Some e → e ≤ 4096 → is_some (seen_over q s l).end ≡ sound_from e l
+goes_on_lem q s e l on w =
+    ap (λ (end : Option ℕ). is_some (seen_over q (seen end s.nearest) l).end) on ∙ ap is_some (ends_lem q e s.nearest l w) ∙ go (sound_from e l)
   where
-    s' : Seen
-    s' = seen_with q s r.base r.length r.state
-
-    next : s'.tiled ≡ fits s.end r
-    next = with_tiled q s r.base r.length r.state ∙ still_on s r e
-
-    go : (s'.tiled ≡ true → s'.end ≤ 4096 → (seen_over q s' l).tiled ≡ sound_from s'.end l) → (t : Bool) → fits s.end r ≡ t → (seen_over q s' l).tiled ≡ sound_from s.end (r ∷ l)
-    go rest true t =
-        let end : s'.end ≡ s.end + r.length = with_end q s r.base r.length r.state (still_on s r e ∙ t) in
-        rest (next ∙ t) (subst (λ (k : ℕ). k ≤ 4096) (sym end) (fits_low s.end r t))
-        ∙ ap (λ (k : ℕ). sound_from k l) end ∙ sym (sound_next s.end r l ∙ ap (λ (b : Bool). b && sound_from (s.end + r.length) l) t)
-    go rest false t = stays_off q s' l (next ∙ t) ∙ sym (sound_next s.end r l ∙ ap (λ (b : Bool). b && sound_from (s.end + r.length) l) t)
-
--- Where it went on to the end, its end is that of the records.
-pub ends_at : (q : Question) (s : Seen) (l : List Reservation) → (seen_over q s l).tiled ≡ true → (seen_over q s l).end ≡ s.end + cells_of l
-unfolding seen_over cells_of
-ends_at q s [] e = omega arith
-ends_at q s (r ∷ l) e = go (ends_at q (seen_with q s r.base r.length r.state) l e) (goes_on s r.base r.length) refl
-  where
-    s' : Seen
-    s' = seen_with q s r.base r.length r.state
-
-    go : (seen_over q s' l).end ≡ s'.end + cells_of l → (t : Bool) → goes_on s r.base r.length ≡ t → (seen_over q s' l).end ≡ s.end + (r.length + cells_of l)
-    go rest true t = rest ∙ ap (λ (k : ℕ). k + cells_of l) (with_end q s r.base r.length r.state t) ∙ add_assoc s.end r.length (cells_of l)
-    go rest false t = absurd (true≢false (sym e ∙ stays_off q s' l (with_tiled q s r.base r.length r.state ∙ t)))
+    go : (t : Bool) → is_some (pick t (Some (e + cells_of l)) None) ≡ t
+    go true = refl
+    go false = refl

@@ -1,12 +1,14 @@
 -- Document 02, 2026-07: the three questions and what is answered. Assumes nothing.
-use Rattle.std.specs.Prelude.{ℕ, Bool, false, ◌&&◌, ◌||◌, List, [], ◌∷◌, ◌++◌, map, length, drop, leb, ltb, eqb}
+use Rattle.std.specs.Prelude.{ℕ, Bool, false, ◌&&◌, ◌||◌, List, [], ◌∷◌, ◌++◌, map, length, drop, leb, ltb, eqb, Option, Some, None, Result, Ok, Err, unwrap_or}
 use Rattle.capabilities.specs.Lists.{pick, filter}
 use Rattle.capabilities.specs.declared.Range.{Range}
+use Rattle.capabilities.specs.declared.refusal.Refusal.{Refusal}
+use Rattle.capabilities.specs.Refusals.{number_of}
 use Rattle.table.specs.Rows.{is_open, range_of}
 use Rattle.table.specs.declared.Reservation.{Reservation}
 use Rattle.maps.specs.declared.Question.{Question}
 use Rattle.maps.specs.declared.Question.TheVariants.{Sharing, Within, Nearest}
-use Rattle.maps.specs.declared.Answer.{Answer}
+use Rattle.maps.specs.declared.Found.{Found}
 use Rattle.maps.specs.Cells.{span, shares, within, distance, beyond}
 use Rattle.maps.specs.Records.{cells_of, bad_records}
 
@@ -34,8 +36,25 @@ unfoldable pub nearest : ℕ → Reservation → List Reservation → Reservatio
 nearest c best [] = best
 nearest c best (r ∷ l) = nearest c (pick (nearer c r best) r best) l
 
+-- What is answered, in numbers: 0 or the refusal's number; how many reservations were found; and the base of the nearest one, else 0.
+pub record Answer : Type 0 where
+  pub code : ℕ
+  pub count : ℕ
+  pub base : ℕ
+
 abbrev pub answer : ℕ → ℕ → ℕ → Answer
 answer code count base = record { code = code; count = count; base = base }
+
+-- The numbers of a function's result.
+abbrev pub answer_of : Result Found Refusal → Answer
+answer_of (Ok f) = answer 0 f.count (unwrap_or f.nearest 0)
+answer_of (Err e) = answer (number_of e) 0 0
+
+-- The same of a result that is the nearest one alone.
+abbrev pub nearest_answer_of : Result (Option ℕ) Refusal → Answer
+nearest_answer_of (Ok (Some base)) = answer 0 1 base
+nearest_answer_of (Ok None) = answer 0 0 0
+nearest_answer_of (Err e) = answer (number_of e) 0 0
 
 -- "Find the base"; "none is answered only if no Open one has n cells".
 unfoldable pub found : ℕ → List Reservation → Answer

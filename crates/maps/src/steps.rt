@@ -1,83 +1,68 @@
-// One step of each walk, and what is made of what the walks have seen, on plain numbers.
+// One step of each walk, and what is made of what the walks have seen.
 ghost use Rattle.std.specs.Prelude.{◌≡◌};
 ghost use Rattle.maps.specs.Cells.{span};
+ghost use Rattle.table.specs.Rows.{range_of};
 ghost use Rattle.maps.specs.Questions.{is_listed, bad_list, bad_question};
-ghost use Rattle.maps.specs.Walks.{nothing, tile_with, near_with, seen_with, judge_with, listing, list_with, answer_with};
+ghost use Rattle.maps.specs.Walks.{nothing, tile_with, near_with, seen_with, judge_with, listing, list_with, base_of, answer_with};
 
 use crate::cells::{beyond, distance, lies_within, shares};
-use crate::{Answer, Judged, Question, Seen};
-use table::ReservationState;
-use table::row::is_open;
+use crate::{Found, Near, Question, Seen};
+use capabilities::refusal::Refusal;
+use table::{Reservation, ReservationState};
 
 // Before the first record.
 pub(crate) fn nothing() -> Seen
     ensures { result ≡ nothing }
 {
     Seen {
-        tiled: true,
-        end: 0,
-        found: false,
-        base: 0,
-        distance: 0,
+        end: Some(0),
+        nearest: None,
     }
 }
 
 // One record more, of the tiling.
-fn tile_with(seen: Seen, base: u16, length: u16) -> Seen
-    ensures { result ≡ tile_with seen base length }
+fn tile_with(end: Option<u32>, row: Reservation) -> Option<u32>
+    ensures { result ≡ tile_with end row }
 {
-    let end = base as u32 + length as u32;
-    Seen {
-        tiled: (seen.tiled & (base as u32 == seen.end)) & ((0 < length) & (end <= 4096)),
-        end,
-        found: seen.found,
-        base: seen.base,
-        distance: seen.distance,
+    let from = end?;
+    let base = row.base as u32;
+    let end = base + row.length as u32;
+    if (base == from) & ((0 < row.length) & (end <= 4096)) {
+        return Some(end);
     }
+    None
 }
 
-// One record more, of the Open ones of at least `cells` cells.
-fn near_with(
-    cell: u64,
-    cells: u64,
-    seen: Seen,
-    base: u16,
-    length: u16,
-    state: ReservationState,
-) -> Seen
-    ensures { result ≡ near_with cell cells seen base length state }
+// One record more, of the Open ones of at least `cells` cells: the nearer one is kept, of two at one distance the lower.
+fn near_with(cell: u64, cells: u64, nearest: Option<Near>, row: Reservation) -> Option<Near>
+    ensures { result ≡ near_with cell cells nearest row }
 {
-    let away = distance(base, length, cell);
-    let wanted = is_open(state) & (cells <= length as u64);
-    let lower = (away == seen.distance) & (base < seen.base);
-    let closer = !seen.found | ((away < seen.distance) | lower);
+    let base = row.base;
+    let away = distance(base, row.length, cell);
+    let wanted = (row.state == ReservationState::Open) & (cells <= row.length as u64);
+    let closer = match nearest {
+        Some(near) => (away, base) < (near.distance, near.base),
+        None => true,
+    };
     if wanted & closer {
-        return Seen {
-            tiled: seen.tiled,
-            end: seen.end,
-            found: true,
+        return Some(Near {
             base,
             distance: away,
-        };
+        });
     }
-    seen
+    nearest
 }
 
 // One record more.
-pub(crate) fn seen_with(
-    question: Question,
-    seen: Seen,
-    base: u16,
-    length: u16,
-    state: ReservationState,
-) -> Seen
-    ensures { result ≡ seen_with question seen base length state }
+pub(crate) fn seen_with(question: Question, seen: Seen, row: Reservation) -> Seen
+    ensures { result ≡ seen_with question seen row }
 {
-    let tiled = tile_with(seen, base, length);
-    match question {
-        Question::Sharing { first, cells } => tiled,
-        Question::Within { first, cells } => tiled,
-        Question::Nearest { cell, cells } => near_with(cell, cells, tiled, base, length, state),
+    Seen {
+        end: tile_with(seen.end, row),
+        nearest: match question {
+            Question::Nearest { cell, cells } => near_with(cell, cells, seen.nearest, row),
+            _ => seen.nearest,
+        },
     }
 }
 
@@ -87,38 +72,43 @@ fn bad_list(end: u32, first: u64, cells: u64, room: usize) -> bool
     ((cells == 0) | beyond(end, first, cells)) | (room < 64)
 }
 
+#[tactic(auto, unfolding(crate::specs::Questions::bad_question))]
 fn bad_question(question: Question, end: u32, room: usize) -> bool
     ensures { result ≡ bad_question question end room }
 {
     match question {
-        Question::Sharing { first, cells } => bad_list(end, first, cells, room),
-        Question::Within { first, cells } => bad_list(end, first, cells, room),
-        Question::Nearest { cell, cells } => cells == 0,
+        Question::Sharing { first, cells } | Question::Within { first, cells } => {
+            bad_list(end, first, cells, room)
+        }
+        Question::Nearest { cells, .. } => cells == 0,
     }
 }
 
-// Refusal 25, by what was seen of the records.
-pub(crate) fn judge_with(question: Question, seen: Seen, records: usize, room: usize) -> Judged
-    ensures { result ≡ judge_with question seen records room }
+// Refusal 25, by where the records end.
+pub(crate) fn judge_with(
+    question: Question,
+    end: Option<u32>,
+    records: usize,
+    room: usize,
+) -> Result<(), Refusal>
+    ensures { result ≡ judge_with question end records room }
 {
+    let end = end.ok_or(Refusal::Question)?;
     let sized = (records == 0) | (64 < records);
-    let bad = bad_question(question, seen.end, room);
-    if sized | (!seen.tiled | bad) {
-        return Judged { code: 25, upto: 0 };
+    if sized | bad_question(question, end, room) {
+        return Err(Refusal::Question);
     }
-    Judged {
-        code: 0,
-        upto: records,
-    }
+    Ok(())
 }
 
+#[tactic(auto, unfolding(crate::specs::Questions::is_listed))]
 fn is_listed(question: Question, base: u16, length: u16) -> bool
     ensures { result ≡ is_listed question (span base length) }
 {
     match question {
         Question::Sharing { first, cells } => shares(base, length, first, cells),
         Question::Within { first, cells } => lies_within(base, length, first, cells),
-        Question::Nearest { cell, cells } => false,
+        Question::Nearest { .. } => false,
     }
 }
 
@@ -127,32 +117,29 @@ pub(crate) fn list_with(
     bases: &mut [u16],
     count: usize,
     question: Question,
-    base: u16,
-    length: u16,
+    row: Reservation,
 ) -> usize
-    ensures { listing result bases.new ≡ list_with question (listing count bases.old) base length }
+    ensures { listing result bases.new ≡ list_with question (listing count bases.old) row }
 {
-    if is_listed(question, base, length) & (count < bases.len()) {
-        bases[count] = base;
+    if is_listed(question, row.base, row.length) & (count < bases.len()) {
+        bases[count] = row.base;
         return count + 1;
     }
     count
 }
 
-// The answer to a list's length and to the nearest one.
-pub(crate) fn answer_with(code: u8, seen: Seen, count: usize) -> Answer
-    ensures { result ≡ answer_with code seen count }
+pub(crate) fn base_of(nearest: Option<Near>) -> Option<u16>
+    ensures { result ≡ base_of nearest }
 {
-    if code != 0 {
-        return Answer {
-            code,
-            count: 0,
-            base: 0,
-        };
-    }
-    Answer {
-        code: 0,
-        count: if seen.found { 1 } else { count },
-        base: seen.base,
+    nearest.map(|near| near.base)
+}
+
+// What is found, from a list's length and the nearest one.
+pub(crate) fn answer_with(seen: Seen, count: usize) -> Found
+    ensures { result ≡ answer_with seen count }
+{
+    Found {
+        count: if seen.nearest.is_some() { 1 } else { count },
+        nearest: base_of(seen.nearest),
     }
 }

@@ -16,20 +16,17 @@ use Rattle.calls.proofs.Table.{per_width, parts_of_lem}
 use Rattle.operands.specs.Numbers.{call_of, call_from}
 
 -- `k` is the command that was read.
-pub made : (xs : List ℕ) {k j : ℕ} {r : Call} → k ≡ get_or xs 0 0 → k ≡ j → r ≡ call_of (command_of j) xs → r ≡ call_from xs
+pub made : (xs : List ℕ) {k : ℕ} {c : Call} → get_or xs 0 0 ≡ k → c ≡ call_of (command_of k) xs → c ≡ call_from xs
 unfolding call_from
-made xs first is e = e ∙ ap (λ (m : ℕ). call_of (command_of m) xs) (sym is ∙ first)
+made xs first e = e ∙ ap (λ (m : ℕ). call_of (command_of m) xs) (sym first)
 
 -- A number past the table has take's row, as 0 has.
 past : (k : ℕ) → suc last_byte ≤ k → take_command ≡ command_of k
 past k h = sym (get_or-eq_default commands take_command {n = k - 1} (omega arith))
 
-no_command : (k : ℕ) → NoneTo last_byte k → take_command ≡ command_of k
+pub no_command : (k : ℕ) → NoneTo last_byte k → take_command ≡ command_of k
 no_command zero others = refl
 no_command (suc k) others = past (suc k) (above last_byte (omega arith) others)
-
-pub made_take : (xs : List ℕ) {k : ℕ} {r : Call} → k ≡ get_or xs 0 0 → NoneTo last_byte k → r ≡ call_of (command_of 1) xs → r ≡ call_from xs
-made_take xs {k} first others e = made xs first refl (e ∙ ap (λ (row : Command). call_of row xs) (no_command k others))
 
 -- Operands that each fit the width at their place.
 each_fits : (ws : List ℕ) (x : ℕ → ℕ) → ((i : ℕ) → x i < 256 ^ get_or ws i 0) → Fit ws (per_width ws x)

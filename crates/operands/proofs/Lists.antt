@@ -1,15 +1,17 @@
--- Why the test whether two slices are the same is exact, and what a copy leaves.
-use Prim.Native.Nat.{ℕ, ◌+◌, ◌≤◌, ◌<◌}
+-- Why the test whether two slices are the same is exact.
+use Prim.Native.Nat.{ℕ}
 use native.Mathlib.Nat.{zero-add}
-use native.Mathlib.Numerals.{add-one}
-use native.Mathlib.Omega.{arith}
-use mathlib.Core.Bool.{Bool, true, false, ◌&&◌}
-use mathlib.Core.List.{List, ◌++◌, append-nil}
-use mathlib.Core.Path.{◌≡◌, refl, sym, ap, ◌∙◌}
+use mathlib.Core.Bool.{Bool, true, false}
+use mathlib.Core.List.{List}
+use mathlib.Core.Path.{◌≡◌, refl, sym, subst, ◌∙◌}
 use lib.Dec.{eqb}
-use lib.ListN.{length, get_or, take, set, drop_of_length-le}
-use lib.Seq.{take_all, ext_get_or, paste, paste-suc}
-use borrow.Author.Tests.{eqb-true, eq-eqb, ne_eqb}
+use lib.ListN.{length, get_or}
+use lib.Seq.{ext_get_or}
+use borrow.Author.Tests.{eqb-true, eq-eqb}
+use lib.Pointwise.{pointwise}
+use Rattle.std.specs.Bool.{Decides}
+use Rattle.std.proofs.lemmas.Bool.Decides.{Decides-eqb}
+use Rattle.std.proofs.lemmas.Slice.Eq.{slice_eq-Decides}
 use Rattle.capabilities.specs.Lists.{each}
 use Rattle.capabilities.proofs.Choice.{and_left, and_right, both}
 use Rattle.capabilities.proofs.Lists.{each_at, each_all}
@@ -30,27 +32,14 @@ same_equal xs ys e =
     (λ i h. eqb-true (get_or xs i 0) (get_or ys i 0)
     (rw zero-add at (each_at (agrees ys) 0 xs i 0 h (and_right (eqb (length xs) (length ys)) (each (agrees ys) 0 xs) e))))
 
-pub other_length : (xs ys : List ℕ) → (length xs ≡ length ys → ⊥) → false ≡ same xs ys
-unfolding same
-other_length xs ys h = sym (ap (λ (b : Bool). b && each (agrees ys) 0 xs) (ne_eqb (length xs) (length ys) h))
+-- What the library's `==` says of two lists, `same` says of them in the other order.
+pub same_tested : (xs ys : List ℕ) → pointwise eqb xs ys ≡ same ys xs
+same_tested xs ys = go (pointwise eqb xs ys) refl (same ys xs) refl
+  where
+    told : Decides (pointwise eqb xs ys) (xs ≡ ys)
+    told = slice_eq-Decides Decides-eqb xs ys (pointwise eqb xs ys) refl
 
--- All entries were looked at.
-pub all_looked_at : (xs ys : List ℕ) (i : ℕ) → length xs ≡ length ys → length xs ≤ i → each (agrees ys) 0 (take i xs) ≡ same xs ys
-unfolding same
-all_looked_at xs ys i e h =
-    ap (each (agrees ys) 0) (take_all i xs h)
-    ∙ sym (ap (λ (b : Bool). b && each (agrees ys) 0 xs) (eq-eqb (length xs) (length ys) e))
-
--- A turn of the loop that copies.
-pub one_copied : (from to₀ to : List ℕ) (i : ℕ) → i < length from → i < length to₀ → to ≡ paste to₀ 0 from i
-    → set to i (get_or from i 0) ≡ paste to₀ 0 from (i + 1)
-one_copied from to₀ to i h k e =
-    ap (λ (s : List ℕ). set s i (get_or from i 0)) e
-    ∙ ap (λ (j : ℕ). set (paste to₀ 0 from i) j (get_or from i 0)) (sym (zero-add i))
-    ∙ paste-suc to₀ 0 from i 0 (rw zero-add k) h
-    ∙ ap (paste to₀ 0 from) (sym (add-one i))
-
-pub all_copied : (from to₀ : List ℕ) (i : ℕ) → length from ≡ length to₀ → length from ≤ i → paste to₀ 0 from i ≡ from
-all_copied from to₀ i e h =
-    ap (λ (s : List ℕ). take i from ++ s) (drop_of_length-le to₀ {i = 0 + i} (omega arith))
-    ∙ append-nil (take i from) ∙ take_all i from h
+    go : (b : Bool) → pointwise eqb xs ys ≡ b → (r : Bool) → same ys xs ≡ r → pointwise eqb xs ys ≡ same ys xs
+    go true e r f = e ∙ sym (subst (λ (s : List ℕ). same s xs ≡ true) (told.0 e) (same_self xs))
+    go false e true f = told.1 (sym (same_equal ys xs f)) ∙ sym f
+    go false e false f = e ∙ sym f

@@ -1,4 +1,5 @@
 -- Numbers and calls undo each other, and so do reading and writing numbers. These are the crate's theorems.
+use Rattle.std.specs.Prelude.{Option, Some, None}
 use Prim.Native.Nat.{ℕ, zero, suc, ◌+◌, ◌-◌, ◌%◌, ◌^◌, ◌≤◌, ◌<◌}
 use native.Mathlib.Nat.{mod-eq_of_lt, mod-one}
 use native.Mathlib.Omega.{arith}
@@ -15,8 +16,6 @@ use Rattle.calls.specs.Commands.{command_of, byte_of, operands_of, bytes_of, Fit
 use Rattle.calls.specs.Reader.{read_of}
 use Rattle.calls.specs.Writer.{Outcome, outcome, write_of}
 use Rattle.calls.specs.declared.Call.{Call}
-use Rattle.calls.specs.declared.Reading.{Reading}
-use Rattle.calls.specs.declared.Reading.TheVariants.{Read, Refused}
 use Rattle.calls.proofs.Table.{listed}
 use Rattle.calls.specs.Promises.{ReadFrom}
 use Rattle.calls.proofs.RoundTrip.{round_trip, read_back}
@@ -112,20 +111,20 @@ written_reads xs out into after n seven e some =
 -- If something was read, it is a call, and the numbers are its own.
 record Heard (s : List ℕ) (n : ℕ) (ys : List ℕ) : Type 0 where
   call : Call
-  read : read_of s ≡ Read call n
+  read : read_of s ≡ Some (call, n)
   whole_numbers : ys ≡ numbers_of call
 
 heard : (input : List ℕ) (at : ℕ) (xs ys : List ℕ) (n : ℕ) → read_numbers input at xs ≡ answered n ys → 0 < n → Heard (drop at input) n ys
 heard input at xs ys n e some = go (eqb (length xs) 7) refl (read_of (drop at input)) refl
   where
-    go : (b : Bool) → eqb (length xs) 7 ≡ b → (r : Reading) → read_of (drop at input) ≡ r → Heard (drop at input) n ys
+    go : (b : Bool) → eqb (length xs) 7 ≡ b → (r : Option (Call × ℕ)) → read_of (drop at input) ≡ r → Heard (drop at input) n ys
     go false other r read = absurd (nothing n xs ys some (other_count input at xs (eqb-false (length xs) 7 other) ∙ e))
-    go true seven Refused read = absurd (nothing n xs ys some (none_numbered input at xs (eqb-true (length xs) 7 seven) read ∙ e))
-    go true seven (Read c m) read =
+    go true seven None read = absurd (nothing n xs ys some (none_numbered input at xs (eqb-true (length xs) 7 seven) read ∙ e))
+    go true seven (Some (c, m)) read =
         let same_answer : answered m (numbers_of c) ≡ answered n ys = call_numbered input at xs (eqb-true (length xs) 7 seven) read refl ∙ e in
         record {
           call = c;
-          read = read ∙ ap (Read c) (ap (λ (a : Answered). a.number) same_answer);
+          read = read ∙ ap (λ (m : ℕ). Some (c, m)) (ap (λ (a : Answered). a.number) same_answer);
           whole_numbers = sym (ap (λ (a : Answered). a.slice) same_answer);
         }
 

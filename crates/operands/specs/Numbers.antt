@@ -1,14 +1,12 @@
 -- A call as seven numbers: its command, its operands in the order of their bytes, and 0 after them. Bytes read as their call, calls
 -- write as those bytes, each undoes the other. All of it stands on the one table of commands.
-use Rattle.std.specs.Prelude.{ℕ, suc, ◌-◌, ◌%◌, ◌^◌, ◌<◌, ◌≤◌, Bool, ◌&&◌, List, ◌∷◌, ◌++◌, ◌≡◌, length, get_or, take, drop, replicate, eqb}
+use Rattle.std.specs.Prelude.{ℕ, suc, ◌-◌, ◌%◌, ◌^◌, ◌<◌, ◌≤◌, Bool, ◌&&◌, List, ◌∷◌, ◌++◌, ◌≡◌, length, get_or, take, drop, replicate, eqb, Option, Some, None}
 use Rattle.capabilities.specs.Lists.{pick, each}
 use Rattle.calls.specs.Bytes.{Bytes}
 use Rattle.calls.specs.Commands.{Command, command_of, byte_of, operands_of}
 use Rattle.calls.specs.Reader.{read_of}
 use Rattle.calls.specs.Writer.{Outcome, write_of}
 use Rattle.calls.specs.declared.Call.{Call}
-use Rattle.calls.specs.declared.Reading.{Reading}
-use Rattle.calls.specs.declared.Reading.TheVariants.{Read, Refused}
 
 -- The longest command has six operands.
 unfoldable pub numbers_of : Call → List ℕ
@@ -51,9 +49,9 @@ unfoldable pub write_numbers : List ℕ → List ℕ → Answered
 write_numbers xs out = pick (are_call xs) (length_and_buffer (write_of (call_from xs) out)) (answered 0 out)
 
 -- The bytes that a call used and its numbers; 0 and the numbers as they were where nothing was read.
-abbrev pub numbered : Reading → List ℕ → Answered
-numbered (Read call used) xs = answered used (numbers_of call)
-numbered Refused xs = answered 0 xs
+abbrev pub numbered : Option (Call × ℕ) → List ℕ → Answered
+numbered (Some (call, used)) xs = answered used (numbers_of call)
+numbered None xs = answered 0 xs
 
 -- The call at a place of an input, for which there is room in seven numbers and in no other count.
 unfoldable pub read_numbers : List ℕ → ℕ → List ℕ → Answered

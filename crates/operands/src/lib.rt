@@ -4,42 +4,25 @@
 mod kinds_from;
 mod kinds_numbers;
 mod making;
-mod slices;
 
-ghost use Rattle.std.specs.Prelude.{◌≡◌, length};
+ghost use Rattle.std.specs.Prelude.{◌≡◌};
 ghost use Rattle.operands.specs.Numbers.{answered, write_numbers, read_numbers};
 
-use calls::{Reading, Written, read_at, write_call};
+use calls::{read_at, write_call};
 pub use kinds_from::call_from;
 pub use kinds_numbers::numbers_of;
-use slices::same;
-
-// Copies one slice into another that is as long.
-fn copy(from: &[u64], to: &mut [u64])
-    requires { length from.now ≡ length to.old }
-    ensures { to.new ≡ from.now }
-{
-    let mut i: usize = 0;
-    while i < from.len() {
-        to[i] = from[i];
-        i += 1;
-    }
-}
 
 // Writes the call that numbers are into a lent buffer and answers its length; 0 if they are no call or the buffer is too short,
-// which is left as it was.
+// which is left as it was. A length and no Option: C asks for it.
 pub fn write_numbers(numbers: &[u64], out: &mut [u8]) -> usize
     ensures { answered result out.new ≡ write_numbers numbers.now out.old }
 {
     let call = call_from(numbers);
-    let own = numbers_of(call);
-    if !same(&own, numbers) {
+    let own: &[u64] = &numbers_of(call);
+    if numbers != own {
         return 0;
     }
-    match write_call(call, out) {
-        Written::Wrote { len } => len,
-        Written::TooShort => 0,
-    }
+    write_call(call, out).unwrap_or(0)
 }
 
 // Fills seven lent numbers with those of the call at a place of an input and answers the bytes it used; 0 if no call is there or
@@ -51,11 +34,10 @@ pub fn read_numbers(input: &[u8], at: usize, numbers: &mut [u64]) -> usize
         return 0;
     }
     match read_at(input, at) {
-        Reading::Read { call, used } => {
-            let all = numbers_of(call);
-            copy(&all, numbers);
+        Some((call, used)) => {
+            numbers.copy_from_slice(&numbers_of(call));
             used
         }
-        Reading::Refused => 0,
+        None => 0,
     }
 }

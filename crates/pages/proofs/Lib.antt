@@ -9,5 +9,6 @@ pub mod Shows
 pub mod AllFreed
 pub mod Reading
 pub mod OnNumbers
+pub mod Parts
 pub mod RangeNumbers
 pub mod Testing

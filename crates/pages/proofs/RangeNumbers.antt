@@ -1,67 +1,19 @@
--- The numbers of a range's pages, changed by a loop over these alone: what they read as, and that a layer is written so. Assumes nothing.
-use Prim.Native.Nat.{ℕ, suc, ◌+◌, ◌-◌, ◌/◌, ◌<◌, ◌≤◌, min}
-use native.Mathlib.Nat.{zero-add, add-zero, add-suc, suc-add}
+-- The numbers of a range's pages, changed: what they read as, and that a layer is written so. Assumes nothing.
+use Prim.Native.Nat.{ℕ, suc, ◌+◌, ◌<◌}
+use native.Mathlib.Nat.{add-zero, add-suc, suc-add}
 use native.Mathlib.Omega.{arith}
 use mathlib.Core.Bool.{Bool, true, false, ◌&&◌}
-use mathlib.Core.List.{List, [], ◌∷◌, ◌++◌, map}
+use mathlib.Core.List.{List, [], ◌∷◌, map}
 use mathlib.Core.Path.{◌≡◌, refl, sym, ap, ◌∙◌}
-use lib.ListN.{length, get_or, take, drop, set, length-take, length-drop, take-append-drop, get_or-map}
-use lib.Seq.{length-take-le}
-use lib.Dec.{leb}
-use borrow.Author.Tests.{leb-true, leb-false, le-leb, lt-leb}
+use lib.ListN.{length, get_or, get_or-map}
 use Rattle.capabilities.specs.declared.Range.{Range}
 use Rattle.capabilities.specs.Lists.{pick, map_each}
 use Rattle.capabilities.specs.Range.{page_inside}
-use Rattle.capabilities.proofs.Choice.{pick_yes}
-use Rattle.capabilities.proofs.Lists.{map_each_same, map_each_agree, map_each_append, map_each_turn, map_each_whole, part_length}
 use Rattle.pages.specs.declared.PageState.TheVariants.{Unmapped, Freed}
 use Rattle.pages.specs.Pages.{PageEntry}
 use Rattle.pages.specs.Entries.{is_unmapped, page_entry}
 use Rattle.pages.specs.Mapping.{freed_entry, freed_of, released_entry, released_of}
 use Rattle.pages.specs.Numbers.{page_from, page_code, page_in, layer_of, freed_number, freed_numbers, released_number, released_numbers}
-use Rattle.pages.proofs.OnNumbers.{beyond, passed}
-
--- A loop over the range's pages alone, which makes g of each number.
-module _ (g : ℕ → ℕ) (from : ℕ) (l : List ℕ) where
-  -- What it has made of the first numbers.
-  abbrev pub made_from : ℕ → ℕ → ℕ
-  made_from k x = pick (leb from k) (g x) x
-
-  abbrev pub walked : ℕ → List ℕ
-  walked i = map_each made_from 0 (take i l) ++ drop i l
-
-  pub walk_start : l ≡ walked from
-  walk_start =
-      sym (ap (λ m. m ++ drop from l) (map_each_same made_from 0 (take from l) (λ i x h. rw (zero-add, lt-leb from i (omega (arith, h, length-take from l))))) ∙ take-append-drop from l)
-
-  pub walk_length : (i : ℕ) → length (walked i) ≡ length l
-  walk_length i = part_length made_from i l
-
-  pub walk_more : (t : List ℕ) (i x : ℕ) → from ≤ i → i < length l → t ≡ walked i → x ≡ g (get_or t i 0) → set t i x ≡ walked (i + 1)
-  walk_more t i x p h e y = map_each_turn made_from l t i 0 x h e (y ∙ sym (pick_yes (leb from i) (g (get_or t i 0)) (get_or t i 0) (le-leb from i p)))
-
-  -- Where it stops, all of the range's numbers are made so, and no other.
-  module _ (r : Range) (e : from ≡ (r.base + 15) / 16) where
-    abbrev made_in : ℕ → ℕ → ℕ
-    made_in k x = pick (page_inside r k) (g x) x
-
-    rest : (i : ℕ) → min ((r.base + r.length + 15) / 16) (length l) ≤ i → map_each made_in 0 (take i l) ++ drop i l ≡ map_each made_in 0 l
-    rest i h = go (leb i (length l)) refl
-      where
-        go : (b : Bool) → leb i (length l) ≡ b → map_each made_in 0 (take i l) ++ drop i l ≡ map_each made_in 0 l
-        go true t =
-            let s = leb-true i (length l) t in
-            let kept : map_each made_in i (drop i l) ≡ drop i l = map_each_same made_in i (drop i l) (λ j x q. rw (beyond r (i + j) (omega (arith, h, q, length-drop i l)))) in
-            sym (ap (map_each made_in 0) (sym (take-append-drop i l)) ∙ map_each_append made_in 0 (take i l) (drop i l)
-            ∙ ap (λ (n : ℕ). map_each made_in 0 (take i l) ++ map_each made_in n (drop i l)) (zero-add (length (take i l)) ∙ length-take-le i l s) ∙ ap (λ m. map_each made_in 0 (take i l) ++ m) kept)
-        go false t = let s = leb-false i (length l) t in map_each_whole made_in l i (omega arith)
-
-    pub walk_end : (i : ℕ) → i - from ≤ min ((r.base + r.length + 15) / 16) (length l) - from → min ((r.base + r.length + 15) / 16) (length l) ≤ i
-        → walked i ≡ map_each made_in 0 l
-    walk_end i q h =
-        ap (λ m. m ++ drop i l)
-        (map_each_agree made_from made_in 0 (take i l) (λ k x j. ap (λ b. pick b (g x) x) (sym (passed r (0 + k) from i (length l) e q (omega (arith, j, length-take i l))))))
-        ∙ rest i h
 
 abbrev number : PageEntry → ℕ
 number e = page_code e.state
@@ -91,18 +43,7 @@ kept_at l kept i =
     ∙ ap (λ (m : List ℕ). get_or m i 0) kept
 
 -- 05.
-abbrev pub freed_code : ℕ → ℕ
-freed_code n = pick (is_unmapped (page_from n)) (page_code Freed) n
-
 module _ (r : Range) where
-  pub freed_made : (l : List ℕ) → map_each (λ k x. pick (page_inside r k) (freed_code x) x) 0 l ≡ freed_numbers r l
-  unfolding freed_numbers freed_number
-  freed_made l = map_each_agree _ _ 0 l (λ i x h. go (page_inside r (0 + i)) (is_unmapped (page_from x)) x)
-    where
-      go : (a b : Bool) (x : ℕ) → pick a (pick b (page_code Freed) x) x ≡ pick (a && b) (page_code Freed) x
-      go true b x = refl
-      go false b x = refl
-
   freed_entry_lem : (k x : ℕ) → page_in (freed_number r k x) ≡ freed_entry r k (page_in x)
   unfolding freed_number freed_entry
   freed_entry_lem k x = go (page_inside r k && is_unmapped (page_from x))
@@ -130,10 +71,6 @@ module _ (r : Range) where
 
 -- 07.
 module _ (r : Range) where
-  pub released_made : (l : List ℕ) → map_each (λ k x. pick (page_inside r k) 0 x) 0 l ≡ released_numbers r l
-  unfolding released_numbers released_number page_code
-  released_made l = refl
-
   released_entry_lem : (k x : ℕ) → page_in (released_number r k x) ≡ released_entry r k (page_in x)
   unfolding released_number released_entry
   released_entry_lem k x = go (page_inside r k)

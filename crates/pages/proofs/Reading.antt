@@ -1,12 +1,12 @@
 -- Pages and frames in numbers: what a number reads as, and that what is written reads back. Assumes nothing.
 use Prim.Native.Nat.{ℕ, zero, suc, ◌+◌, ◌-◌, ◌%◌, ◌<◌, ◌≤◌}
 use native.Mathlib.Omega.{arith}
-use mathlib.Core.Bool.{Bool, true, false, false≢true}
+use mathlib.Core.Bool.{Bool, true, false, not, false≢true}
 use mathlib.Core.List.{List, map}
 use mathlib.Core.Path.{◌≡◌, refl, sym, ap, ◌∙◌}
 use lib.ListN.{get_or, get_or-map}
-use lib.Dec.{eqb, ltb}
-use borrow.Author.Tests.{ne_eqb, ltb-true, lt-ltb}
+use lib.Dec.{eqb, leb, ltb}
+use borrow.Author.Tests.{ne_eqb, ltb-true, lt-ltb, lt-leb}
 use Rattle.capabilities.specs.Lists.{pick}
 use Rattle.capabilities.proofs.Codes.{other_code}
 use Rattle.capabilities.proofs.Lists.{back}
@@ -42,11 +42,11 @@ pub frame_shown : (n : ℕ) → 1 < n → frame_from n ≡ Shown
 unfolding frame_from
 frame_shown n h = sym (other_code n Dirty Free Shown (λ z. omega arith) (λ z. omega arith))
 
-pub mapped_code : (n : ℕ) → ltb 1 n ≡ is_mapped (page_from n)
+pub mapped_code : (n : ℕ) → leb n 1 ≡ not (is_mapped (page_from n))
 unfolding page_from
 mapped_code zero = refl
 mapped_code (suc zero) = refl
-mapped_code (suc (suc n)) = lt-ltb 1 (suc (suc n)) (omega arith) ∙ sym (ap is_mapped (page_shown (suc (suc n)) (omega arith)))
+mapped_code (suc (suc n)) = lt-leb (suc (suc n)) 1 (omega arith) ∙ sym (ap (λ (x : PageState). not (is_mapped x)) (page_shown (suc (suc n)) (omega arith)))
 
 pub unmapped_code : (n : ℕ) → eqb n 0 ≡ is_unmapped (page_from n)
 unfolding page_from

@@ -1,4 +1,5 @@
 -- What a page shows: after map what its frame held, and after zero nothing but 0. Assumes nothing.
+use Rattle.std.specs.Prelude.{Some, None}
 use Prim.Native.Nat.{ℕ, ◌+◌, ◌-◌, ◌*◌, ◌/◌, ◌%◌, ◌<◌, ◌≤◌}
 use native.Mathlib.Omega.{arith}
 use mathlib.Core.Bool.{true}
@@ -14,7 +15,6 @@ use Rattle.pages.specs.declared.Frame.{Frame}
 use Rattle.pages.specs.declared.VirtualPage.{VirtualPage}
 use Rattle.pages.specs.declared.PageState.TheVariants.{Mapped}
 use Rattle.pages.specs.declared.FrameState.TheVariants.{Mapped as Shown}
-use Rattle.pages.specs.declared.Place.TheVariants.{At, Nowhere}
 use Rattle.pages.specs.Layer.{page_at, with_page, with_frame}
 use Rattle.pages.specs.Mapping.{mapped, cleared, lookup_of, place_in}
 use Rattle.pages.proofs.Formed.{Sound}
@@ -70,9 +70,9 @@ shows s page frame h m =
 -- A page that was just mapped shows its frame, cell by cell, whatever the frame holds.
 pub map_shows :
     (s : Pages) (page : VirtualPage) (frame : Frame) (i : ℕ) → Sound s → Mappable s page frame → i < 16
-    → lookup_of (mapped s page frame) (16 * page.0 + i) ≡ At (16 * frame.0 + i)
+    → lookup_of (mapped s page frame) (16 * page.0 + i) ≡ Some (16 * frame.0 + i)
 unfolding lookup_of
 map_shows s page frame i h m b =
     let p : (16 * page.0 + i) / 16 ≡ page.0 = omega arith in
     let o : (16 * page.0 + i) % 16 ≡ i = omega arith in
-    rw (p, o, pick_yes (ltb page.0 (mapped s page frame).v) (place_in (page_at (mapped s page frame) page.0) i) Nowhere (low s page frame m), shows s page frame h m)
+    rw (p, o, pick_yes (ltb page.0 (mapped s page frame).v) (place_in (page_at (mapped s page frame) page.0) i) None (low s page frame m), shows s page frame h m)

@@ -14,7 +14,9 @@ use Rattle.capabilities.proofs.Choice.{pick_yes, pick_no, and_left, and_right, s
 use Rattle.capabilities.proofs.Lists.{each_at, each_parts, each_and, each_anywhere, each_map, each_same, map_append}
 use Rattle.pages.specs.Pages.{PageEntry}
 use Rattle.pages.specs.Pages.{FrameEntry}
+use Rattle.pages.specs.declared.Frame.{Frame}
 use Rattle.pages.specs.declared.PageState.{PageState}
+use Rattle.pages.specs.declared.PageState.TheVariants.{Unmapped, Freed, Mapped}
 use Rattle.pages.specs.declared.FrameState.{FrameState}
 use Rattle.pages.specs.Entries.{is_unmapped, maps, maps_below, is_dirty, is_shown, frame_number}
 use Rattle.pages.specs.Layer.{in_range, mappings, Tally, page_sound, frame_sound, well_formed}
@@ -188,23 +190,31 @@ module _ (t pages : List ℕ) (p : ℕ) (h : p < length pages) (u : Tally t (tak
   below : p < length (map page_in pages)
   below = rw (length-map pages page_in) h
 
-  pub count_hit : (n : ℕ) → 1 < get_or pages p 0 → get_or pages p 0 < 130 → n ≡ get_or pages p 0 - 2 → length t ≡ 128
-      → Tally (set t n (get_or t n 0 + 1)) (take (p + 1) (map page_in pages))
-  count_hit n a b e s =
-      let k : (get_or pages p 0 - 2) % 256 ≡ n = omega arith in
-      tally_hit t (map page_in pages) p (page_in 0) n below
-      (sym (ap (λ (x : PageEntry). frame_number x.state) entry ∙ ap frame_number (page_shown (get_or pages p 0) a) ∙ k)) (omega arith) s u
+  pub count_hit : (g : Frame) → page_from (get_or pages p 0) ≡ Mapped g → g.0 < 128 → length t ≡ 128
+      → Tally (set t g.0 (get_or t g.0 0 + 1)) (take (p + 1) (map page_in pages))
+  count_hit g e b s =
+      tally_hit t (map page_in pages) p (page_in 0) g.0 below
+      (sym (ap (λ (x : PageEntry). frame_number x.state) entry ∙ ap frame_number e)) b s u
 
-  pub count_miss : get_or pages p 0 ≤ 1 → Tally t (take (p + 1) (map page_in pages))
-  count_miss a = tally_miss t (map page_in pages) p (page_in 0) below (rw entry (low (get_or pages p 0) a)) u
-    where
-      low : (n : ℕ) → n ≤ 1 → 128 ≤ frame_number (page_from n)
-      low zero q = unfold page_from in omega arith
-      low (suc zero) q = unfold page_from in omega arith
-      low (suc (suc n)) q = let z : ⊥ = omega arith in absurd z
+  pub count_miss : 128 ≤ frame_number (page_from (get_or pages p 0)) → Tally t (take (p + 1) (map page_in pages))
+  count_miss a = tally_miss t (map page_in pages) p (page_in 0) below (rw entry a) u
 
   pub count_most : (k : ℕ) → k < 128 → get_or t k 0 ≤ p
   count_most k q = omega (arith, u k q, mappings_le k (take p (map page_in pages)), length-take-le p (map page_in pages) (omega (arith, below)))
+
+-- A number that is low enough shows a frame below 128.
+pub shows_low : (n : ℕ) (g : Frame) → page_from n ≡ Mapped g → n < 130 → g.0 < 128
+unfolding page_from
+shows_low zero g e b = cc
+shows_low (suc zero) g e b = cc
+shows_low (suc (suc n)) g e b =
+    let k : g.0 ≡ (suc (suc n) - 2) % 256 = ap frame_number (sym e ∙ page_shown (suc (suc n)) (omega arith)) in omega arith
+
+-- A page that shows no frame.
+pub shows_none : (s : PageState) → ((g : Frame) → s ≡ Mapped g → ⊥) → 128 ≤ frame_number s
+shows_none Unmapped f = omega arith
+shows_none Freed f = omega arith
+shows_none (Mapped g) f = absurd (f g refl)
 
 -- Every number is kept if and only if the list, read and written, is the same.
 module _ {A : Type 0} (f : ℕ → A) (g : A → ℕ) where

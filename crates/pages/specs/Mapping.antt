@@ -1,5 +1,5 @@
 -- Commands 08, 09 and 0A, the place of a virtual cell, and what becomes of a range's pages. Assumes nothing.
-use Rattle.std.specs.Prelude.{ℕ, ◌+◌, ◌*◌, ◌/◌, ◌%◌, Bool, not, ◌&&◌, ◌||◌, List, [], ◌∷◌, ◌++◌, take, drop, replicate, leb, ltb, eqb}
+use Rattle.std.specs.Prelude.{ℕ, ◌+◌, ◌*◌, ◌/◌, ◌%◌, Bool, not, ◌&&◌, ◌||◌, List, [], ◌∷◌, ◌++◌, take, drop, replicate, leb, ltb, eqb, Option, Some, None}
 use Rattle.capabilities.specs.declared.Range.{Range}
 use Rattle.capabilities.specs.Lists.{pick, each, map_each}
 use Rattle.capabilities.specs.Range.{page_inside}
@@ -12,8 +12,6 @@ use Rattle.pages.specs.Pages.{PageEntry}
 use Rattle.pages.specs.declared.PageState.{PageState}
 use Rattle.pages.specs.declared.PageState.TheVariants.{Unmapped, Freed, Mapped}
 use Rattle.pages.specs.declared.FrameState.TheVariants.{Dirty, Mapped as Shown}
-use Rattle.pages.specs.declared.Place.{Place}
-use Rattle.pages.specs.declared.Place.TheVariants.{At, Nowhere}
 use Rattle.pages.specs.Entries.{is_unmapped, is_mapped, is_dirty, is_free, page_entry}
 use Rattle.pages.specs.Layer.{page_at, frame_at, with_page, with_frame, serves}
 
@@ -68,14 +66,14 @@ unfoldable pub cleared : Frame → List ℕ → List ℕ
 cleared frame l = take (16 * frame.0) l ++ (replicate 16 0 ++ drop (16 * frame.0 + 16) l)
 
 -- "Lent memory is 16 × F cells ..; frame f begins at 16 × f": the place of a virtual cell whose page is Mapped.
-abbrev pub place_in : PageState → ℕ → Place
-place_in Unmapped offset = Nowhere
-place_in Freed offset = Nowhere
-place_in (Mapped frame) offset = At (16 * frame.0 + offset)
+abbrev pub place_in : PageState → ℕ → Option ℕ
+place_in Unmapped offset = None
+place_in Freed offset = None
+place_in (Mapped frame) offset = Some (16 * frame.0 + offset)
 
 -- None where the page is not Mapped, or lies at V or beyond.
-unfoldable pub lookup_of : Pages → ℕ → Place
-lookup_of s cell = pick (ltb (cell / 16) s.v) (place_in (page_at s (cell / 16)) (cell % 16)) Nowhere
+unfoldable pub lookup_of : Pages → ℕ → Option ℕ
+lookup_of s cell = pick (ltb (cell / 16) s.v) (place_in (page_at s (cell / 16)) (cell % 16)) None
 
 -- A page that lies in the range is not Mapped.
 unfoldable pub not_mapped_in : Range → ℕ → PageEntry → Bool

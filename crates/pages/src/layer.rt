@@ -1,4 +1,4 @@
-// The two sizes of the layer.
+// The two sizes of the layer. They are asked with no branch, where `contains` has one.
 ghost use Rattle.std.specs.Prelude.{◌≡◌};
 ghost use Rattle.pages.specs.Layer.{in_range};
 

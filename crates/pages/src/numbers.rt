@@ -1,31 +1,55 @@
 // How pages and frames lie in memory: one number an entry.
 ghost use Rattle.std.specs.Prelude.{◌≡◌};
-ghost use Rattle.pages.specs.Numbers.{page_from, frame_from};
+ghost use Rattle.pages.specs.Numbers.{page_from, page_code, frame_from, frame_code};
 
 use crate::{Frame, FrameState, PageState};
 
 // The state that a page's number reads as.
-pub fn page_from(code: u16) -> PageState
-    ensures { result ≡ page_from code }
-{
-    if code == 0 {
-        return PageState::Unmapped;
+impl From<u16> for PageState {
+    ghost from_gives = { λ number state. state ≡ page_from number };
+
+    #[tactic(auto, unfolding(crate::specs::Numbers::page_from))]
+    fn from(number: u16) -> PageState {
+        match number {
+            0 => PageState::Unmapped,
+            1 => PageState::Freed,
+            _ => PageState::Mapped(Frame(((number - 2) % 256) as u8)),
+        }
     }
-    if code == 1 {
-        return PageState::Freed;
-    }
-    PageState::Mapped(Frame(((code - 2) % 256) as u8))
 }
 
 // The state that a frame's number reads as.
-pub fn frame_from(code: u8) -> FrameState
-    ensures { result ≡ frame_from code }
-{
-    if code == 0 {
-        return FrameState::Dirty;
+impl From<u8> for FrameState {
+    ghost from_gives = { λ number state. state ≡ frame_from number };
+
+    #[tactic(auto, unfolding(crate::specs::Numbers::frame_from))]
+    fn from(number: u8) -> FrameState {
+        match number {
+            0 => FrameState::Dirty,
+            1 => FrameState::Free,
+            _ => FrameState::Mapped,
+        }
     }
-    if code == 1 {
-        return FrameState::Free;
+}
+
+impl PageState {
+    #[tactic(auto, unfolding(crate::specs::Numbers::page_code))]
+    pub fn number(self) -> u16
+        ensures { result ≡ page_code self }
+    {
+        match self {
+            PageState::Unmapped => 0,
+            PageState::Freed => 1,
+            PageState::Mapped(frame) => 2 + frame.0 as u16,
+        }
     }
-    FrameState::Mapped
+}
+
+impl FrameState {
+    #[tactic(auto, unfolding(crate::specs::Numbers::frame_code))]
+    pub fn number(self) -> u8
+        ensures { result ≡ frame_code self }
+    {
+        self as u8
+    }
 }

@@ -3,35 +3,25 @@ ghost use Rattle.std.specs.Prelude.{◌≤◌, true, ◌&&◌, ◌≡◌, map, l
 ghost use Rattle.capabilities.specs.Lists.{pick, each};
 ghost use Rattle.pages.specs.Layer.{Tally};
 ghost use Rattle.pages.specs.Numbers.{page_in, layer_sound};
-ghost use Rattle.pages.specs.Sound.{is_unused, shows_below, is_counted};
+ghost use Rattle.pages.specs.Sound.{shows_below, is_counted};
 
 use crate::layer::in_range;
+use crate::{FrameState, PageState};
 
-fn pages_unused(pages: &[u16]) -> bool
-    ensures { result ≡ each is_unused 0 pages.now }
+// Whether all are `zero`, as a number at V or F and above must be. It asks all, so that the compiler takes several at once: `all` would stop
+// early.
+#[tactic(auto, unfolding(capabilities::specs::Lists::each))]
+fn unused<T: PartialEq + Copy>(xs: &[T], zero: T) -> bool
+    ensures { result ≡ each (λ i x. T.eq x zero) 0 xs.now }
 {
     let mut unused = true;
-    let mut p: usize = 0;
-    while p < pages.len() {
-        unused = unused & (pages[p] == 0);
-        p += 1;
+    for x in xs {
+        unused = unused & (*x == zero);
     }
     unused
 }
 
-fn frames_unused(frames: &[u8]) -> bool
-    ensures { result ≡ each is_unused 0 frames.now }
-{
-    let mut unused = true;
-    let mut k: usize = 0;
-    while k < frames.len() {
-        unused = unused & (frames[k] == 0);
-        k += 1;
-    }
-    unused
-}
-
-// Whether each page shows, if any, a frame below F; and how many show each frame.
+// Whether each page shows, if any, a frame below F; and how many show each frame. It stops at a frame that the tally has no place for.
 fn counts(f: u16, pages: &[u16], tally: &mut [u16; 128]) -> bool
     requires f_bound { f ≤ 128 }
     requires pages_len_bound { length pages.now ≤ 256 }
@@ -40,38 +30,34 @@ fn counts(f: u16, pages: &[u16], tally: &mut [u16; 128]) -> bool
     ensures tally { result ≡ true → Tally tally.new (map page_in pages.now) }
 {
     let limit = f + 2;
-    let mut p: usize = 0;
-    while p < pages.len() {
-        let code = pages[p];
-        if limit <= code {
+    for number in pages {
+        if limit <= *number {
             return false;
         }
-        if 1 < code {
-            let k = (code - 2) as usize;
-            tally[k] = tally[k] + 1;
+        if let PageState::Mapped(frame) = PageState::from(*number) {
+            tally[frame.0 as usize] = tally[frame.0 as usize] + 1;
         }
-        p += 1;
     }
     true
 }
 
-fn frame_counted(shown: u16, code: u8) -> bool
-    ensures { result ≡ (leb code 2 && eqb shown (pick (eqb code 2) 1 0)) }
+#[tactic(auto, unfolding(crate::specs::Numbers::frame_code))]
+fn frame_counted(shown: u16, number: u8) -> bool
+    ensures { result ≡ (leb number 2 && eqb shown (pick (eqb number 2) 1 0)) }
 {
-    (code <= 2) & (shown == (code == 2) as u16)
+    let mapped = FrameState::Mapped.number();
+    (number <= mapped) & (shown == (number == mapped) as u16)
 }
 
 // Whether each frame is Mapped if one page shows it, and else shown by none.
+#[tactic(auto, unfolding(capabilities::specs::Lists::each))]
 fn frames_counted(frames: &[u8], tally: &[u16; 128]) -> bool
     requires { length frames.now ≤ 128 }
     ensures { result ≡ each (is_counted tally.now) 0 frames.now }
 {
     let mut sound = true;
-    let mut k: usize = 0;
-    while k < frames.len() {
-        let here = frame_counted(tally[k], frames[k]);
-        sound = sound & here;
-        k += 1;
+    for (k, number) in frames.iter().enumerate() {
+        sound = sound & frame_counted(tally[k], *number);
     }
     sound
 }
@@ -88,8 +74,8 @@ pub fn layer_sound(v: u16, f: u16, pages: &[u16], frames: &[u8]) -> bool
     let shown = f as usize;
     let mut tally = [0u16; 128];
     let low = counts(f, &pages[..used], &mut tally);
-    let low_rest = pages_unused(&pages[used..]);
+    let low_rest = unused(&pages[used..], 0);
     let counted = frames_counted(&frames[..shown], &tally);
-    let counted_rest = frames_unused(&frames[shown..]);
+    let counted_rest = unused(&frames[shown..], 0);
     (low & low_rest) & (counted & counted_rest)
 }

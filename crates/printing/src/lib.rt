@@ -9,27 +9,26 @@ use crate::session::{lines, looked_at};
 mod session;
 
 // Counts the lines first, and puts them into the buffer if they fit.
-fn print_counted(checked: bool, input: &[u8], out: &mut [u8]) -> usize
+fn print_counted<const CHECKED: bool>(input: &[u8], out: &mut [u8]) -> usize
     ensures { printed result out.new ≡ print_of (lines_of input.now) out.old }
 {
-    let mut none = [0u8; 1];
-    let len = lines(checked, input, &mut none);
+    let len = lines::<CHECKED>(input, &mut []);
     if out.len() < len {
         return 0;
     }
-    lines(checked, input, out)
+    lines::<CHECKED>(input, out)
 }
 
 // Puts the lines first in the buffer, and answers how long they are; 0 with nothing written if they do not fit. They are counted
-// first only if the buffer could be too short. With `checked` the state is tested at every command.
-pub fn print(checked: bool, input: &[u8], out: &mut [u8]) -> usize
+// first only if the buffer could be too short. With CHECKED the state is tested at every command.
+pub fn print<const CHECKED: bool>(input: &[u8], out: &mut [u8]) -> usize
     ensures { printed result out.new ≡ print_of (lines_of input.now) out.old }
 {
     if out.len() < 6 {
-        return print_counted(checked, input, out);
+        return print_counted::<CHECKED>(input, out);
     }
     if out.len() < 13 * looked_at(input) {
-        return print_counted(checked, input, out);
+        return print_counted::<CHECKED>(input, out);
     }
-    lines(checked, input, out)
+    lines::<CHECKED>(input, out)
 }

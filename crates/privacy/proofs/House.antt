@@ -1,4 +1,5 @@
 -- One history in the house's time: which capabilities into the range there are, and that an effect keeps it so. Assumes nothing.
+use Rattle.std.specs.Prelude.{Some}
 use Prim.Native.Nat.{ℕ, ◌+◌, ◌*◌, ◌/◌, ◌<◌, ◌≤◌}
 use native.Mathlib.Omega.{arith}
 use mathlib.Core.Bool.{Bool, true, false, not, ◌&&◌, true≢false, false≢true}
@@ -14,7 +15,6 @@ use Rattle.capabilities.specs.Lists.{pick}
 use Rattle.capabilities.specs.Range.{inside}
 use Rattle.capabilities.proofs.Choice.{and_left, and_right}
 use Rattle.pages.specs.Pages.{FrameEntry}
-use Rattle.pages.specs.declared.Place.TheVariants.{At}
 use Rattle.pages.specs.Mapping.{lookup_of}
 use Rattle.pages.proofs.Formed.{Sound}
 use Rattle.sweep.specs.Sweep.{shown_at}
@@ -122,7 +122,7 @@ pub record Housed (house : ℕ) (r : Range) (m : Machine) : Type 0 where
   pub around : Around m.state.core.table (lent_as r)
   pub registers : (p d : ℕ) → Good r (eqb p house) (register_of m.state.registers p d)
   pub mailboxes : (p : ℕ) → Apart r (mailbox_of m.state.mailboxes p)
-  pub words : (v at : ℕ) → lookup_of m.state.core.pages v ≡ At at → Good r (inside r v) (word_at m.cells m.tags at)
+  pub words : (v at : ℕ) → lookup_of m.state.core.pages v ≡ Some at → Good r (inside r v) (word_at m.cells m.tags at)
 
 -- What an effect must not bring about.
 abbrev pub RegisterSafe : ℕ → Range → Machine → RegisterChange → Type 0
@@ -137,7 +137,7 @@ MailboxSafe r collect_mailboxes = Unit {0}
 
 abbrev pub WritesSafe : Range → Machine → List Write → Type 0
 WritesSafe r m [] = Unit {0}
-WritesSafe r m (x ∷ writes) = ((v : ℕ) → lookup_of m.state.core.pages v ≡ At x.at → Good r (inside r v) x.word) × WritesSafe r m writes
+WritesSafe r m (x ∷ writes) = ((v : ℕ) → lookup_of m.state.core.pages v ≡ Some x.at → Good r (inside r v) x.word) × WritesSafe r m writes
 
 abbrev pub MemorySafe : Range → Machine → MemoryChange → Type 0
 MemorySafe r m keep_memory = Unit {0}
@@ -162,16 +162,16 @@ mailboxes_apart r m (put_mailbox q w) h s = put_each (Apart r) m.state.mailboxes
 mailboxes_apart r m collect_mailboxes h s =
     λ p. subst (Apart r) (sym (collected_mailboxes m.state.core m.state.mailboxes p)) (collected_apart r m.state.core (get_or m.state.mailboxes p empty) (h p))
 
-writes_good : (r : Range) (m : Machine) (writes : List Write) (v at : ℕ) (w : Slot) → lookup_of m.state.core.pages v ≡ At at → WritesSafe r m writes → Good r (inside r v) w
+writes_good : (r : Range) (m : Machine) (writes : List Write) (v at : ℕ) (w : Slot) → lookup_of m.state.core.pages v ≡ Some at → WritesSafe r m writes → Good r (inside r v) w
     → Good r (inside r v) (written_by writes at w)
 writes_good r m [] v at w q s g = g
 writes_good r m (x ∷ writes) v at w q s g = writes_good r m writes v at (pick (eqb at x.at) x.word w) q s.1 (go (eqb at x.at) refl)
   where
     go : (b : Bool) → eqb at x.at ≡ b → Good r (inside r v) (pick b x.word w)
-    go true e = s.0 v (q ∙ ap At (eqb-true at x.at e))
+    go true e = s.0 v (q ∙ ap Some (eqb-true at x.at e))
     go false e = g
 
-word_good : (r : Range) (m : Machine) (x : MemoryChange) (frames : List FrameEntry) (v at : ℕ) (w : Slot) → lookup_of m.state.core.pages v ≡ At at → MemorySafe r m x → Good r (inside r v) w → Good r (inside r v) (word_by x frames at w)
+word_good : (r : Range) (m : Machine) (x : MemoryChange) (frames : List FrameEntry) (v at : ℕ) (w : Slot) → lookup_of m.state.core.pages v ≡ Some at → MemorySafe r m x → Good r (inside r v) w → Good r (inside r v) (word_by x frames at w)
 word_good r m keep_memory frames v at w q s g = g
 word_good r m (write_words writes) frames v at w q s g = writes_good r m writes v at w q s g
 word_good r m (clear_frame f) frames v at w q s g = go (eqb (at / 16) f.0)
@@ -185,7 +185,7 @@ word_good r m (sweep_cells c from upto) frames v at w q s g =
 module _ (house : ℕ) (r : Range) (m : Machine) (e : Effect) (h : Housed house r m) (ok : Sound m.state.core.pages)
     (size-cells : length m.cells ≡ 16 * m.state.core.pages.f) (size-tags : length m.tags ≡ 16 * m.state.core.pages.f)
     (fits : Fits e.memory (16 * m.state.core.pages.f)) (zero : FreeZero m)
-    (from : (v at : ℕ) → lookup_of e.core.pages v ≡ At at → Came m.state.core.pages e.memory v at)
+    (from : (v at : ℕ) → lookup_of e.core.pages v ≡ Some at → Came m.state.core.pages e.memory v at)
     (table : Around e.core.table (lent_as r))
     (s₁ : RegisterSafe house r m e.registers) (s₂ : MailboxSafe r e.mailboxes) (s₃ : MemorySafe r m e.memory) where
   word : (v at : ℕ) → Came m.state.core.pages e.memory v at

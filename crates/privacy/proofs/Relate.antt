@@ -1,4 +1,5 @@
 -- Two histories: what is equal in both, and that the same effect keeps it so. Assumes nothing.
+use Rattle.std.specs.Prelude.{Option, Some, None}
 use Prim.Native.Nat.{ℕ, ◌+◌, ◌*◌, ◌<◌}
 use native.Mathlib.Omega.{arith}
 use mathlib.Core.Bool.{false}
@@ -7,8 +8,6 @@ use mathlib.Core.Path.{◌≡◌, refl, sym, ap, subst, ◌∙◌}
 use lib.ListN.{length, get_or, set, length-set, length-map}
 use Rattle.pages.specs.declared.FrameState.TheVariants.{Free}
 use Rattle.pages.specs.Pages.{Pages}
-use Rattle.pages.specs.declared.Place.{Place}
-use Rattle.pages.specs.declared.Place.TheVariants.{At, Nowhere}
 use Rattle.pages.specs.Layer.{frame_at}
 use Rattle.pages.specs.Mapping.{lookup_of}
 use Rattle.pages.proofs.Formed.{Sound}
@@ -30,7 +29,7 @@ pub record Rel (house : ℕ) (t : Time) (g h : Machine) : Type 0 where
   pub long : length g.state.registers ≡ length h.state.registers
   pub of_cells : length g.cells ≡ length h.cells
   pub of_tags : length g.tags ≡ length h.tags
-  pub words : (v at : ℕ) → lookup_of g.state.core.pages v ≡ At at → hidden t v ≡ false → word_at g.cells g.tags at ≡ word_at h.cells h.tags at
+  pub words : (v at : ℕ) → lookup_of g.state.core.pages v ≡ Some at → hidden t v ≡ false → word_at g.cells g.tags at ≡ word_at h.cells h.tags at
 
 pub turned : (house : ℕ) (t : Time) (g h : Machine) → Rel house t g h → Rel house t h g
 turned house t g h r =
@@ -59,14 +58,14 @@ alike house t g h r =
       takers = ap (λ k. map (λ row. row.taker) k.table.rows) r.core;
     }
   where
-    at_once : (v : ℕ) (x : Place) → lookup_of g.state.core.pages v ≡ x → sight_at x g.cells g.tags ≡ sight_at x h.cells h.tags → sight g v ≡ sight h v
+    at_once : (v : ℕ) (x : Option ℕ) → lookup_of g.state.core.pages v ≡ x → sight_at x g.cells g.tags ≡ sight_at x h.cells h.tags → sight g v ≡ sight h v
     at_once v x e q =
         unfold sight in
         (ap (λ y. sight_at y g.cells g.tags) e ∙ q ∙ ap (λ y. sight_at y h.cells h.tags) (sym e ∙ ap (λ k. lookup_of k.pages v) r.core))
 
-    see : (v : ℕ) → hidden t v ≡ false → (x : Place) → lookup_of g.state.core.pages v ≡ x → sight g v ≡ sight h v
-    see v n (At at) e = at_once v (At at) e (ap shown (r.words v at e n))
-    see v n Nowhere e = at_once v Nowhere e refl
+    see : (v : ℕ) → hidden t v ≡ false → (x : Option ℕ) → lookup_of g.state.core.pages v ≡ x → sight g v ≡ sight h v
+    see v n (Some at) e = at_once v (Some at) e (ap shown (r.words v at e n))
+    see v n None e = at_once v None e refl
 
 registers_same : (x : RegisterChange) (g h : Machine) (p r : ℕ) → g.state.core ≡ h.state.core → length g.state.registers ≡ length h.state.registers
     → register_of g.state.registers p r ≡ register_of h.state.registers p r
@@ -91,7 +90,7 @@ mailboxes_same (put_mailbox p w) g h k e = ap (λ l. set l p w) e
 mailboxes_same collect_mailboxes g h k e = ap (λ l. map (collected_mailbox g.state.core) l) e ∙ ap (λ c. map (collected_mailbox c) h.state.mailboxes) k
 
 -- The place of a Mapped cell lies in memory.
-pub place_low : (s : Pages) → Sound s → (v at : ℕ) → lookup_of s v ≡ At at → at < 16 * s.f
+pub place_low : (s : Pages) → Sound s → (v at : ℕ) → lookup_of s v ≡ Some at → at < 16 * s.f
 place_low s ok v at e = let k = seen s v at e in omega (arith, seen_low s ok v at k, k.place)
 
 abbrev pub FreeZero : Machine → Type 0
@@ -105,8 +104,8 @@ untouched m l at e = ap (λ x. word_at (cells_after x m.cells) (tags_after x m.s
 module _ (house : ℕ) (t u : Time) (g h : Machine) (e : Effect) (r : Rel house t g h) (ok : Sound g.state.core.pages)
     (size-cells : length g.cells ≡ 16 * g.state.core.pages.f) (size-tags : length g.tags ≡ 16 * g.state.core.pages.f)
     (fits : Fits e.memory (16 * g.state.core.pages.f)) (zero₁ : FreeZero g) (zero₂ : FreeZero h)
-    (from : (v at : ℕ) → lookup_of e.core.pages v ≡ At at → Came g.state.core.pages e.memory v at)
-    (hides : (v at : ℕ) → lookup_of e.core.pages v ≡ At at → hidden u v ≡ false → hidden t v ≡ false) where
+    (from : (v at : ℕ) → lookup_of e.core.pages v ≡ Some at → Came g.state.core.pages e.memory v at)
+    (hides : (v at : ℕ) → lookup_of e.core.pages v ≡ Some at → hidden u v ≡ false → hidden t v ≡ false) where
   fits₁ : Fits e.memory (length g.cells)
   fits₁ = subst (Fits e.memory) (sym size-cells) fits
 

@@ -1,4 +1,5 @@
 -- What each granted call writes in the house's time is safe: the house's discretion, and what the others cannot reach. Assumes nothing.
+use Rattle.std.specs.Prelude.{Some}
 use Prim.Native.Nat.{ℕ, ◌+◌, ◌*◌, ◌<◌}
 use native.Mathlib.Omega.{arith}
 use mathlib.Core.Bool.{Bool, true, false, not, ◌&&◌, ◌||◌, true≢false, false≢true}
@@ -11,7 +12,6 @@ use Rattle.capabilities.specs.Capability.{base_of, length_of, narrowed}
 use Rattle.capabilities.specs.Range.{inside}
 use Rattle.capabilities.proofs.Capabilities.{narrowed_base, narrowed_length}
 use Rattle.capabilities.proofs.Choice.{and_right}
-use Rattle.pages.specs.declared.Place.TheVariants.{At}
 use Rattle.pages.specs.Mapping.{lookup_of}
 use Rattle.pages.proofs.Formed.{Sound}
 use Rattle.table.proofs.Cells.{inside_made}
@@ -180,13 +180,13 @@ module _ (house : ℕ) (r : Range) (m : Machine) (h : Housed house r m) where
 
   module _ (ok : Sound s.core.pages) (p a off x : ℕ) (g : Addressing s.core (register_of s.registers p a) off) where
     -- It is the one virtual cell with this place.
-    pub store_once : (v : ℕ) → lookup_of s.core.pages v ≡ At (aimed_at s p a off) → v ≡ base_of (register_of s.registers p a).cell + off
+    pub store_once : (v : ℕ) → lookup_of s.core.pages v ≡ Some (aimed_at s p a off) → v ≡ base_of (register_of s.registers p a).cell + off
     store_once v e =
         seen_once s.core.pages ok (base_of (register_of s.registers p a).cell + off) (aimed_at s p a off)
         (seen s.core.pages (base_of (register_of s.registers p a).cell + off) (aimed_at s p a off) g.place) v
         (seen s.core.pages v (aimed_at s p a off) e)
 
-    own_store : p < 8 → a < 8 → Quiet (asked p (stores a off x)) → p ≡ house → (b : Bool) → aimed r s p a off ≡ b → (v : ℕ) → lookup_of s.core.pages v ≡ At (aimed_at s p a off) → Good r (inside r v) (stored s.core (register_of s.registers p x))
+    own_store : p < 8 → a < 8 → Quiet (asked p (stores a off x)) → p ≡ house → (b : Bool) → aimed r s p a off ≡ b → (v : ℕ) → lookup_of s.core.pages v ≡ Some (aimed_at s p a off) → Good r (inside r v) (stored s.core (register_of s.registers p x))
     own_store low-p low-a q n true e v l =
         subst (λ b. Good r b (stored s.core (register_of s.registers p x))) (sym (ap (inside r) (store_once v l) ∙ aimed_inside p a off n e g))
         (keep_good r true (register_of s.registers p x) (not (dying s.core (register_of s.registers p x).cell)) (own_tame p x n))
@@ -201,7 +201,7 @@ module _ (house : ℕ) (r : Range) (m : Machine) (h : Housed house r m) where
         first_no true b e f = absurd (true≢false (sym e ∙ f))
         first_no false b e f = refl
 
-    pub store_safe : p < 8 → a < 8 → Quiet (asked p (stores a off x)) → (b : Bool) → eqb p house ≡ b → (v : ℕ) → lookup_of s.core.pages v ≡ At (aimed_at s p a off) → Good r (inside r v) (stored s.core (register_of s.registers p x))
+    pub store_safe : p < 8 → a < 8 → Quiet (asked p (stores a off x)) → (b : Bool) → eqb p house ≡ b → (v : ℕ) → lookup_of s.core.pages v ≡ Some (aimed_at s p a off) → Good r (inside r v) (stored s.core (register_of s.registers p x))
     store_safe low-p low-a q true e v l = own_store low-p low-a q (eqb-true p house e) (aimed r s p a off) refl v l
     store_safe low-p low-a q false e v l =
         apart_good r (inside r v) (stored s.core (register_of s.registers p x))

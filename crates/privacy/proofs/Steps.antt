@@ -1,4 +1,5 @@
 -- One call, in one history and in two. Assumes nothing.
+use Rattle.std.specs.Prelude.{Some}
 use Prim.Native.Nat.{ℕ, ◌+◌, ◌*◌, ◌<◌}
 use native.Mathlib.Omega.{arith}
 use mathlib.Core.Bool.{Bool, true, false, ◌&&◌, true≢false, false≢true}
@@ -11,7 +12,6 @@ use Rattle.capabilities.specs.declared.Range.{Range}
 use Rattle.capabilities.specs.Lists.{pick}
 use Rattle.capabilities.specs.Range.{inside}
 use Rattle.capabilities.proofs.Choice.{and_left, and_right}
-use Rattle.pages.specs.declared.Place.TheVariants.{At}
 use Rattle.pages.specs.Mapping.{lookup_of}
 use Rattle.pages.proofs.Formed.{Sound, sound}
 use Rattle.pages.proofs.Memory.{served}
@@ -119,7 +119,7 @@ own_register house t g h p d w r e b =
       words = r.words;
     }
 
-own_write : (house : ℕ) (t : Time) (g h : Machine) (at : ℕ) (w : Slot) → Rel house t g h → ((v : ℕ) → lookup_of g.state.core.pages v ≡ At at → hidden t v ≡ true)
+own_write : (house : ℕ) (t : Time) (g h : Machine) (at : ℕ) (w : Slot) → Rel house t g h → ((v : ℕ) → lookup_of g.state.core.pages v ≡ Some at → hidden t v ≡ true)
     → Rel house t (machine g.state (set g.cells at w.cell) (set g.tags at (byte_of w.tag))) h
 own_write house t g h at w r hid =
     record {
@@ -132,8 +132,8 @@ own_write house t g h at w r hid =
       words = λ v i q n. go v i q n (eqb i at) refl;
     }
   where
-    go : (v i : ℕ) → lookup_of g.state.core.pages v ≡ At i → hidden t v ≡ false → (b : Bool) → eqb i at ≡ b → word_at (set g.cells at w.cell) (set g.tags at (byte_of w.tag)) i ≡ word_at h.cells h.tags i
-    go v i q n true e = absurd (true≢false (sym (hid v (q ∙ ap At (eqb-true i at e))) ∙ n))
+    go : (v i : ℕ) → lookup_of g.state.core.pages v ≡ Some i → hidden t v ≡ false → (b : Bool) → eqb i at ≡ b → word_at (set g.cells at w.cell) (set g.tags at (byte_of w.tag)) i ≡ word_at h.cells h.tags i
+    go v i q n true e = absurd (true≢false (sym (hid v (q ∙ ap Some (eqb-true i at e))) ∙ n))
     go v i q n false e = written_other g.cells g.tags at w i (eqb-false i at e) ∙ r.words v i q n
 
 module _ (house : ℕ) (r : Range) (g h : Machine) (own : Housed house r g) (rel : Rel house (lasting r) g h) (ok : Sound g.state.core.pages) where
@@ -141,7 +141,7 @@ module _ (house : ℕ) (r : Range) (g h : Machine) (own : Housed house r g) (rel
   s = g.state
 
   store_alone : (p a off x : ℕ) → p ≡ house → aimed r s p a off ≡ true → Addressing s.core (register_of s.registers p a) off
-      → (v : ℕ) → lookup_of s.core.pages v ≡ At (aimed_at s p a off) → hidden (lasting r) v ≡ true
+      → (v : ℕ) → lookup_of s.core.pages v ≡ Some (aimed_at s p a off) → hidden (lasting r) v ≡ true
   unfolding hidden
   store_alone p a off x e aim k v l = ap (inside r) (store_once house r g own ok p a off x k v l) ∙ aimed_inside house r g own p a off e aim k
 

@@ -1,4 +1,5 @@
 -- The reservation around the house's range, and its capability, through each granted call. Assumes nothing.
+use Rattle.std.specs.Prelude.{Some, None}
 use Prim.Native.Nat.{ℕ, ◌+◌, ◌*◌, ◌%◌, ◌<◌, ◌≤◌}
 use native.Mathlib.Omega.{arith}
 use mathlib.Core.Bool.{Bool, true, false, true≢false}
@@ -14,7 +15,6 @@ use Rattle.capabilities.specs.Range.{inside}
 use Rattle.capabilities.specs.Refusals.{first}
 use Rattle.capabilities.proofs.Capabilities.{made_base, made_length}
 use Rattle.capabilities.proofs.Choice.{and_left, and_right}
-use Rattle.pages.specs.declared.Place.TheVariants.{At, Nowhere}
 use Rattle.pages.specs.Mapping.{lookup_of}
 use Rattle.pages.proofs.Formed.{Sound, sound}
 use Rattle.table.specs.Table.{Table}
@@ -148,7 +148,7 @@ module _ (k : Core) (ok : core_sound k ≡ true) where
           record { row = b.row; used = b.used; lent = b.lent; from = omega (arith, b.from, a.from); upto = omega (arith, b.upto, a.upto) }
 
   -- Once the collect came, no cell of a range that it covered is Mapped.
-  pub collect_hides : first (collect_reasons k) ≡ 0 → (r : Range) (v at : ℕ) → contains (revoked k) r ≡ true → lookup_of (collect_of k).core.pages v ≡ At at → inside r v ≡ false
+  pub collect_hides : first (collect_reasons k) ≡ 0 → (r : Range) (v at : ℕ) → contains (revoked k) r ≡ true → lookup_of (collect_of k).core.pages v ≡ Some at → inside r v ≡ false
   collect_hides z r v at n q = go (inside r v) refl
     where
       e : Ends k
@@ -163,8 +163,8 @@ module _ (k : Core) (ok : core_sound k ≡ true) where
           let (from, upto) = contains_bounds (revoked k) r n in
           let hit : inside (revoked k) v ≡ true = inside_made (revoked k) v (omega (arith, j.0)) (omega (arith, j.1)) in
           let none = none_shown k.pages layer (revoked k) (ap (λ y. y.base % 16) e.range ∙ e.whole_base) (ap (λ y. y.length % 16) e.range ∙ e.whole_length) e.freed v hit in
-          let shown = released_shows k.pages layer (revoked k) v at (subst (λ y. lookup_of y.pages v ≡ At at) e.parts q) in
-          absurd (let y : Nowhere ≡ At at = sym none ∙ shown in let u : ◌≡◌ {A = ℕ} 0 1 = cc in omega arith)
+          let shown = released_shows k.pages layer (revoked k) v at (subst (λ y. lookup_of y.pages v ≡ Some at) e.parts q) in
+          absurd (let y : None ≡ Some at = sym none ∙ shown in let u : ◌≡◌ {A = ℕ} 0 1 = cc in omega arith)
       go false x = x
 
 -- What a granted call makes of the table leaves a lent reservation around the range, but for the collect that covers it.

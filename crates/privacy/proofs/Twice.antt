@@ -1,4 +1,5 @@
 -- Both: a call that is left in two histories. Assumes nothing.
+use Rattle.std.specs.Prelude.{Some}
 use Prim.Native.Nat.{ℕ, ◌+◌}
 use mathlib.Core.Bool.{Bool, true, false, ◌&&◌, true≢false, false≢true}
 use mathlib.Core.List.{List, [], ◌∷◌}
@@ -12,7 +13,6 @@ use Rattle.capabilities.specs.Lists.{pick}
 use Rattle.capabilities.specs.Range.{inside}
 use Rattle.capabilities.specs.Refusals.{first}
 use Rattle.capabilities.proofs.Choice.{pick_yes, and_left, and_right}
-use Rattle.pages.specs.declared.Place.TheVariants.{At}
 use Rattle.pages.specs.Layer.{serves}
 use Rattle.pages.specs.Mapping.{lookup_of}
 use Rattle.reservations.specs.Core.{Core}
@@ -88,16 +88,16 @@ collects_by (receives d) e = absurd (false≢true e)
 collects_by plain e = absurd (false≢true e)
 
 hides_by : (r : Range) (m : Machine) (c : Call) (v at : ℕ) → core_sound m.state.core ≡ true → first (reasons_on m.state c m.cells m.tags) ≡ 0 → ending r m c ≡ true
-    → lookup_of (effect_on m.state c m.cells m.tags).core.pages v ≡ At at → inside r v ≡ false
+    → lookup_of (effect_on m.state c m.cells m.tags).core.pages v ≡ Some at → inside r v ≡ false
 unfolding ending
 hides_by r m c v at ok z e q =
     let a = and_left (is_collect c && granted m c) (contains (revoked m.state.core) r) e in
     let k = collected_as m.state (deed m.state c m.cells m.tags z) (collects_by (role_of c).role (and_left (is_collect c) (granted m c) a)) in
     collect_hides m.state.core ok k.clear r v at (and_right (is_collect c && granted m c) (contains (revoked m.state.core) r) e)
-    (subst (λ x. lookup_of x.core.pages v ≡ At at) k.is q)
+    (subst (λ x. lookup_of x.core.pages v ≡ Some at) k.is q)
 
 hides : (t : Time) (m : Machine) (c : Call) (v at : ℕ) → core_sound m.state.core ≡ true → first (reasons_on m.state c m.cells m.tags) ≡ 0
-    → lookup_of (effect_on m.state c m.cells m.tags).core.pages v ≡ At at → hidden (until t m c) v ≡ false → hidden t v ≡ false
+    → lookup_of (effect_on m.state c m.cells m.tags).core.pages v ≡ Some at → hidden (until t m c) v ≡ false → hidden t v ≡ false
 unfolding until hidden
 hides (lasting r) m c v at ok z q e = go (ending r m c) refl e
   where

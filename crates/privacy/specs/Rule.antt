@@ -1,12 +1,10 @@
 -- Document 01, 'The privacy rule', sentence by sentence. What it asks of a call is its caller and its role, by the one table of the kinds
 -- of call (machine, Roles). Assumes nothing.
-use Rattle.std.specs.Prelude.{ℕ, ◌+◌, Bool, true, false, not, ◌&&◌, ◌||◌, List, [], ◌∷◌, map, ◌≡◌, eqb, ltb, leb}
+use Rattle.std.specs.Prelude.{ℕ, ◌+◌, Bool, true, false, not, ◌&&◌, ◌||◌, List, [], ◌∷◌, map, ◌≡◌, eqb, ltb, leb, Option, Some, None}
 use Rattle.capabilities.specs.declared.Range.{Range}
 use Rattle.capabilities.specs.Capability.{base_of, length_of}
 use Rattle.capabilities.specs.Lists.{pick}
 use Rattle.capabilities.specs.Range.{inside}
-use Rattle.pages.specs.declared.Place.{Place}
-use Rattle.pages.specs.declared.Place.TheVariants.{At, Nowhere}
 use Rattle.pages.specs.Mapping.{lookup_of}
 use Rattle.table.specs.Table.{Table}
 use Rattle.table.specs.Find.{find_of, row_of}
@@ -172,9 +170,9 @@ pub data Sight : Type 0 where
   dark : Sight
   shown : Slot → Sight
 
-abbrev pub sight_at : Place → List ℕ → List ℕ → Sight
-sight_at Nowhere cells tags = dark
-sight_at (At at) cells tags = shown (word_at cells tags at)
+abbrev pub sight_at : Option ℕ → List ℕ → List ℕ → Sight
+sight_at None cells tags = dark
+sight_at (Some at) cells tags = shown (word_at cells tags at)
 
 unfoldable pub sight : Machine → ℕ → Sight
 sight m v = sight_at (lookup_of m.state.core.pages v) m.cells m.tags

@@ -1,4 +1,5 @@
 -- What each function leaves and answers on the writing of a machine that a history leaves. Assumes nothing.
+use Rattle.std.specs.Prelude.{Some, None}
 use Prim.Native.Nat.{ℕ, ◌/◌, ◌≤◌, ◌<◌}
 use mathlib.Core.Bool.{Bool, true}
 use mathlib.Core.List.{List, [], ◌++◌, map}
@@ -12,7 +13,6 @@ use Rattle.table.specs.declared.Reservation.{Reservation}
 use Rattle.table.specs.Rows.{live}
 use Rattle.table.specs.Numbers.{row_from}
 use Rattle.calls.specs.declared.Call.{Call}
-use Rattle.calls.specs.declared.Reading.TheVariants.{Read, Refused}
 use Rattle.calls.specs.Reader.{read_of}
 use Rattle.machine.specs.State.{State}
 use Rattle.machine.specs.Formed.{well_formed}
@@ -69,14 +69,14 @@ module _ (m : Machine) (v f : ℕ) (k : Standing m v f) where
         ∙ ap (λ (x : RanOn). done_one x (lent_of a) buffer) e
         ∙ ap (λ (l : Lent). done 1 l t.left.cells t.left.tags (answer_numbers t.left.answer t.used ++ drop 4 buffer)) (lists_over t.left.arrays a)
 
-    call_done : 4 ≤ length buffer → (c : Call) (n : ℕ) → read_of (drop at input) ≡ Read c n
+    call_done : 4 ≤ length buffer → (c : Call) (n : ℕ) → read_of (drop at input) ≡ Some (c, n)
         → command_lent (lent_of a) input at m.cells m.tags buffer ≡ leaves 1 (next m c) (replying c (outcome m c).answer).numbers buffer
     call_done h c n e =
         done_one_lem h _ (command_call m v f k input at c n e)
         ∙ ap (λ (j : ℕ). done 1 (lent_of (arrays_of (next m c).state)) (next m c).cells (next m c).tags (answer_numbers (record { code = (outcome m c).answer.code; number = (outcome m c).answer.number; tag = (outcome m c).answer.tag }) j ++ drop 4 buffer))
         (read_long (drop at input) c n e)
 
-    none_done : 4 ≤ length buffer → read_of (drop at input) ≡ Refused → command_lent (lent_of a) input at m.cells m.tags buffer ≡ leaves 1 m no_call_numbers buffer
+    none_done : 4 ≤ length buffer → read_of (drop at input) ≡ None → command_lent (lent_of a) input at m.cells m.tags buffer ≡ leaves 1 m no_call_numbers buffer
     none_done h e = done_one_lem h _ (command_none m v f k input at e)
 
     nothing_done : length buffer < 4 → command_lent (lent_of a) input at m.cells m.tags buffer ≡ done 0 (lent_of a) m.cells m.tags buffer

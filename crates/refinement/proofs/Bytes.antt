@@ -1,5 +1,6 @@
 -- Bytes are histories: each use on the writing of a history's machine leaves the writing of what its calls lead to, and its answers are
 -- the history's. By induction on the uses. Assumes nothing.
+use Rattle.std.specs.Prelude.{Option, Some, None}
 use Prim.Native.Nat.{ℕ, ◌/◌}
 use native.Mathlib.Omega.{arith}
 use mathlib.Core.Bool.{Bool, true, false, ◌&&◌}
@@ -11,8 +12,6 @@ use borrow.Author.Tests.{leb-true, leb-false}
 use Rattle.capabilities.specs.Lists.{pick}
 use Rattle.capabilities.proofs.Choice.{pick_yes, pick_no, and_left}
 use Rattle.calls.specs.declared.Call.{Call}
-use Rattle.calls.specs.declared.Reading.{Reading}
-use Rattle.calls.specs.declared.Reading.TheVariants.{Read, Refused}
 use Rattle.calls.specs.Commands.{bytes_of}
 use Rattle.calls.specs.Reader.{read_of}
 use Rattle.calls.proofs.RoundTrip.{round_trip}
@@ -68,10 +67,10 @@ module _ (m : Machine) (input : List ℕ) (at : ℕ) (buffer : List ℕ) where
   did_one : Answers (writing m) m → Did m (parse_from (pick (leb 4 (length buffer)) 1 0) input at).calls (command_lent (writing m).lent input at m.cells m.tags buffer)
   did_one g = go (leb 4 (length buffer)) refl
     where
-      reads : (r : Reading) → read_of (drop at input) ≡ r → leb 4 (length buffer) ≡ true
+      reads : (r : Option (Call × ℕ)) → read_of (drop at input) ≡ r → leb 4 (length buffer) ≡ true
           → Did m (read_then r at (ltb at (length input)) (λ next. parse_from 0 input next)).calls (command_lent (writing m).lent input at m.cells m.tags buffer)
-      reads (Read c n) e h = unfold parse_from in subst (Did m (c ∷ [])) (sym (g.call input at buffer (leb-true 4 (length buffer) h) c n e)) (did_call c)
-      reads Refused e h = subst (Did m []) (sym (g.no_call input at buffer (leb-true 4 (length buffer) h) e)) did_no_call
+      reads (Some (c, n)) e h = unfold parse_from in subst (Did m (c ∷ [])) (sym (g.call input at buffer (leb-true 4 (length buffer) h) c n e)) (did_call c)
+      reads None e h = subst (Did m []) (sym (g.no_call input at buffer (leb-true 4 (length buffer) h) e)) did_no_call
 
       go : (b : Bool) → leb 4 (length buffer) ≡ b → Did m (parse_from (pick b 1 0) input at).calls (command_lent (writing m).lent input at m.cells m.tags buffer)
       go true h = unfold parse_from in reads (read_of (drop at input)) refl h
@@ -162,7 +161,7 @@ pub every_history_sent : EveryHistorySent
 unfolding calls_of calls_in parse_from
 every_history_sent [] = refl
 every_history_sent (c ∷ calls) =
-    ap₂ (λ (r : Reading) (l : List Call). (read_then r 0 (ltb 0 (length (bytes_of c))) (λ next. parse_from 0 (bytes_of c) next)).calls ++ l)
+    ap₂ (λ (r : Option (Call × ℕ)) (l : List Call). (read_then r 0 (ltb 0 (length (bytes_of c))) (λ next. parse_from 0 (bytes_of c) next)).calls ++ l)
     (ap read_of (sym (append-nil (bytes_of c))) ∙ round_trip c []) (every_history_sent calls)
 
 pub answered_by_history : AnsweredByHistory

@@ -1,5 +1,6 @@
 -- One command on the writing of a machine that a history leaves: the step of the call that its bytes read as, or refusal 3 with all kept.
 -- Refusals 1 and 2 do not come, since such a machine is well formed and its memory of the right size. Assumes nothing.
+use Rattle.std.specs.Prelude.{Option, Some, None}
 use Prim.Native.Nat.{ℕ, ◌<◌}
 use mathlib.Core.Bool.{Bool, true, false, ◌&&◌}
 use mathlib.Core.List.{List}
@@ -11,8 +12,6 @@ use borrow.Author.Tests.{lt-leb}
 use Rattle.capabilities.proofs.Choice.{pick_yes, never}
 use Rattle.pages.specs.Layer.{serves}
 use Rattle.calls.specs.declared.Call.{Call}
-use Rattle.calls.specs.declared.Reading.{Reading}
-use Rattle.calls.specs.declared.Reading.TheVariants.{Read, Refused}
 use Rattle.calls.specs.Reader.{read_of}
 use Rattle.words.specs.Words.{empty}
 use Rattle.machine.specs.State.{State}
@@ -62,15 +61,15 @@ module _ (m : Machine) (v f : ℕ) (k : Standing m v f) where
         pick_yes (formed_of (arrays_of m.state)) (command_judged_on (arrays_of m.state) input at m.cells m.tags) (ran_on (leaving (answer 1 empty) (arrays_of m.state) m.cells m.tags) 0) passes
         ∙ ap (λ (s : State). ran_of (command_judged s input at m.cells m.tags)) (state_back_again m.state k.formed) ∙ ap ran_of judged_reading
 
-    pub command_call : (c : Call) (n : ℕ) → read_of (drop at input) ≡ Read c n
+    pub command_call : (c : Call) (n : ℕ) → read_of (drop at input) ≡ Some (c, n)
         → command_on (arrays_of m.state) input at m.cells m.tags
         ≡ ran_on (leaving (written (outcome m c).answer) (arrays_of (next m c).state) (next m c).cells (next m c).tags) n
     unfolding ran_of on_reading left_of outcome next
     command_call c n e =
-        by_reading ∙ ap (λ (r : Reading). ran_of (on_reading m.state r m.cells m.tags)) e
+        by_reading ∙ ap (λ (r : Option (Call × ℕ)). ran_of (on_reading m.state r m.cells m.tags)) e
         ∙ ap (λ (o : Outcome). ran_on (left_of o) n) (judged_step m.state c m.cells m.tags k.formed)
 
-    pub command_none : read_of (drop at input) ≡ Refused
+    pub command_none : read_of (drop at input) ≡ None
         → command_on (arrays_of m.state) input at m.cells m.tags ≡ ran_on (leaving (answer 3 empty) (arrays_of m.state) m.cells m.tags) 0
     unfolding ran_of on_reading left_of
-    command_none e = by_reading ∙ ap (λ (r : Reading). ran_of (on_reading m.state r m.cells m.tags)) e
+    command_none e = by_reading ∙ ap (λ (r : Option (Call × ℕ)). ran_of (on_reading m.state r m.cells m.tags)) e

@@ -1,6 +1,7 @@
 -- Demand 3 of the library: what two lists of uses leave is the writing of what their histories leave, and what they answer is the histories'
 -- answers; of these the privacy rule speaks. That the calls of the others are the same follows from what is left, since none of them is
 -- struck; that tag bytes are equal where tags are, since Mapped cells have bytes 0 and 1. Assumes nothing.
+use Rattle.std.specs.Prelude.{Some}
 use Prim.Native.Nat.{ℕ, zero, suc, ◌+◌, ◌*◌, ◌≤◌, ◌<◌}
 use native.Mathlib.Omega.{arith}
 use mathlib.Core.Bool.{Bool, true, false, not, ◌&&◌, true≢false}
@@ -11,7 +12,6 @@ use borrow.Author.Tests.{lt-ltb}
 use Rattle.capabilities.specs.Lists.{pick, filter}
 use Rattle.capabilities.proofs.Choice.{both, and_left, pick_yes, pick_no}
 use Rattle.capabilities.proofs.Flatten.{filter_append}
-use Rattle.pages.specs.declared.Place.TheVariants.{At}
 use Rattle.pages.specs.Mapping.{lookup_of}
 use Rattle.reservations.specs.Core.{Core}
 use Rattle.calls.specs.declared.Call.{Call}
@@ -106,17 +106,17 @@ seen_in (shown w) = w
 
 -- What two histories as in the privacy rule leave, written.
 module _ (house : ℕ) (t : Time) (g h : Machine) (core : g.state.core ≡ h.state.core) (alike : Alike house t g h) (inv₁ : Inv g) (inv₂ : Inv h) where
-  word_at_lem : (n at : ℕ) → hidden t n ≡ false → lookup_of g.state.core.pages n ≡ At at → word_at g.cells g.tags at ≡ word_at h.cells h.tags at
+  word_at_lem : (n at : ℕ) → hidden t n ≡ false → lookup_of g.state.core.pages n ≡ Some at → word_at g.cells g.tags at ≡ word_at h.cells h.tags at
   unfolding sight word_at
   word_at_lem n at d e =
-      let q : lookup_of h.state.core.pages n ≡ At at = ap (λ (k : Core). lookup_of k.pages n) (sym core) ∙ e in
+      let q : lookup_of h.state.core.pages n ≡ Some at = ap (λ (k : Core). lookup_of k.pages n) (sym core) ∙ e in
       ap seen_in (sym (ap (λ x. sight_at x g.cells g.tags) e) ∙ alike.cells n d ∙ ap (λ x. sight_at x h.cells h.tags) q)
 
-  shown_same : (n at : ℕ) → hidden t n ≡ false → lookup_of g.state.core.pages n ≡ At at → SameAt at g.cells h.cells × SameAt at g.tags h.tags
+  shown_same : (n at : ℕ) → hidden t n ≡ false → lookup_of g.state.core.pages n ≡ Some at → SameAt at g.cells h.cells × SameAt at g.tags h.tags
   unfolding word_at
   shown_same n at d e =
       let w = word_at_lem n at d e in
-      let q : lookup_of h.state.core.pages n ≡ At at = ap (λ (k : Core). lookup_of k.pages n) (sym core) ∙ e in (
+      let q : lookup_of h.state.core.pages n ≡ Some at = ap (λ (k : Core). lookup_of k.pages n) (sym core) ∙ e in (
         ap (λ (x : Slot). x.cell) w,
         byte_same (get_or g.tags at 0) (get_or h.tags at 0) (inv₁.memory.bytes n at e) (inv₂.memory.bytes n at q) (ap (λ (x : Slot). x.tag) w),
       )

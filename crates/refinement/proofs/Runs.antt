@@ -1,5 +1,6 @@
 -- A run of commands on the writing of a machine that a history leaves: the steps of the calls that its bytes read as, one after another.
 -- By induction on the room for answers; each answer is the history's, and none of these ends the run. Assumes nothing.
+use Rattle.std.specs.Prelude.{Option, Some, None}
 use Prim.Native.Nat.{ℕ, zero, suc, ◌+◌}
 use native.Mathlib.Omega.{arith}
 use mathlib.Core.Bool.{Bool, true, false}
@@ -11,8 +12,6 @@ use borrow.Author.Tests.{ltb-true, ltb-false}
 use Rattle.capabilities.specs.Lists.{pick}
 use Rattle.capabilities.proofs.Choice.{pick_no}
 use Rattle.calls.specs.declared.Call.{Call}
-use Rattle.calls.specs.declared.Reading.{Reading}
-use Rattle.calls.specs.declared.Reading.TheVariants.{Read, Refused}
 use Rattle.calls.specs.Reader.{read_of}
 use Rattle.words.specs.Words.{byte_of}
 use Rattle.arrays.specs.Reading.{arrays_of}
@@ -47,7 +46,7 @@ run_first m c p =
 
 module _ (input : List ℕ) where
   -- No byte, or bytes that read as no call.
-  stuck_here : (room : ℕ) (m : Machine) (v f : ℕ) (at : ℕ) → Standing m v f → read_of (drop at input) ≡ Refused → (b : Bool) → ltb at (length input) ≡ b
+  stuck_here : (room : ℕ) (m : Machine) (v f : ℕ) (at : ℕ) → Standing m v f → read_of (drop at input) ≡ None → (b : Bool) → ltb at (length input) ≡ b
       → run_on (suc room) (arrays_of m.state) input at m.cells m.tags ≡ run_by m (parse [] at b)
   unfolding run answers replies numbers_of
   stuck_here room m v f at k e true h =
@@ -59,7 +58,7 @@ module _ (input : List ℕ) where
   stuck_here room m v f at k e false h = run_past input at (suc room) (arrays_of m.state) m.cells m.tags (ltb-false at (length input) h)
 
   -- A call, and the run after it.
-  call_here : (room : ℕ) (m : Machine) (v f : ℕ) (at : ℕ) → Standing m v f → (c : Call) (n : ℕ) → read_of (drop at input) ≡ Read c n → (p : Parse)
+  call_here : (room : ℕ) (m : Machine) (v f : ℕ) (at : ℕ) → Standing m v f → (c : Call) (n : ℕ) → read_of (drop at input) ≡ Some (c, n) → (p : Parse)
       → run_on room (arrays_of (next m c).state) input (at + n) (next m c).cells (next m c).tags ≡ run_by (next m c) p
       → run_on (suc room) (arrays_of m.state) input at m.cells m.tags ≡ run_by m (reading c p)
   call_here room m v f at k c n e p later =
@@ -78,12 +77,12 @@ module _ (input : List ℕ) where
   run_parse zero m v f at k = refl
   run_parse (suc room) m v f at k = go (read_of (drop at input)) refl (run_parse room)
     where
-      go : (r : Reading) → read_of (drop at input) ≡ r
+      go : (r : Option (Call × ℕ)) → read_of (drop at input) ≡ r
           → ((m : Machine) (v f : ℕ) (at : ℕ) → Standing m v f → run_on room (arrays_of m.state) input at m.cells m.tags ≡ run_by m (parse_from room input at))
           → run_on (suc room) (arrays_of m.state) input at m.cells m.tags ≡ run_by m (read_then (read_of (drop at input)) at (ltb at (length input)) (λ next. parse_from room input next))
-      go (Read c n) e later =
+      go (Some (c, n)) e later =
           call_here room m v f at k c n e (parse_from room input (at + n)) (later (next m c) v f (at + n) (standing_next m v f c k))
-          ∙ ap (λ (r : Reading). run_by m (read_then r at (ltb at (length input)) (λ next. parse_from room input next))) (sym e)
-      go Refused e later =
+          ∙ ap (λ (r : Option (Call × ℕ)). run_by m (read_then r at (ltb at (length input)) (λ next. parse_from room input next))) (sym e)
+      go None e later =
           stuck_here room m v f at k e (ltb at (length input)) refl
-          ∙ ap (λ (r : Reading). run_by m (read_then r at (ltb at (length input)) (λ next. parse_from room input next))) (sym e)
+          ∙ ap (λ (r : Option (Call × ℕ)). run_by m (read_then r at (ltb at (length input)) (λ next. parse_from room input next))) (sym e)

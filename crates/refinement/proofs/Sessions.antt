@@ -1,4 +1,5 @@
 -- A session's lines are its history's: command by command, by induction on how many may come. Assumes nothing.
+use Rattle.std.specs.Prelude.{Option, Some, None}
 use Prim.Native.Nat.{ℕ, zero, suc, ◌+◌, ◌*◌, ◌≤◌}
 use native.Mathlib.Omega.{arith}
 use mathlib.Core.Bool.{Bool, true, false}
@@ -11,8 +12,6 @@ use Rattle.capabilities.specs.Lists.{pick}
 use Rattle.capabilities.proofs.Choice.{pick_yes, pick_no}
 use Rattle.pages.specs.Layer.{in_range}
 use Rattle.calls.specs.declared.Call.{Call}
-use Rattle.calls.specs.declared.Reading.{Reading}
-use Rattle.calls.specs.declared.Reading.TheVariants.{Read, Refused}
 use Rattle.calls.specs.Reader.{read_of}
 use Rattle.machine.specs.Formed.{start_of}
 use Rattle.machine.specs.Step.{Outcome}
@@ -41,23 +40,23 @@ module _ (input : List ℕ) where
         pick_yes (ltb at (length input)) (following n input at (command_of m.state input at m.cells m.tags)) [] h
         ∙ ap (following n input at) (command_reading m v f k input at)
 
-    call_line : (c : Call) (j : ℕ) → read_of (drop at input) ≡ Read c j → (p : Parse)
+    call_line : (c : Call) (j : ℕ) → read_of (drop at input) ≡ Some (c, j) → (p : Parse)
         → lines_from n (next m c).state input (at + j) (next m c).cells (next m c).tags ≡ history_lines (next m c) p
         → lines_from (suc n) m.state input at m.cells m.tags ≡ history_lines m (reading c p)
     unfolding on_reading outcome next answers answer_lines
     call_line c j e p later =
         let a = (outcome m c).answer in
         here (lt-ltb at (length input) (read_within input at c j e))
-        ∙ ap (λ (r : Reading). following n input at (on_reading m.state r m.cells m.tags)) e
+        ∙ ap (λ (r : Option (Call × ℕ)). following n input at (on_reading m.state r m.cells m.tags)) e
         ∙ ap (λ (o : Outcome). following n input at (used j o)) (judged_step m.state c m.cells m.tags k.formed)
         ∙ ap (λ (l : List ℕ). line_of a.code a.number a.tag ++ l)
         (pick_no (ends_session a.code) [] (lines_from n (next m c).state input (at + j) (next m c).cells (next m c).tags) (goes_on_lem m v f k c) ∙ later)
         ∙ sym (append_assoc (line_of a.code a.number a.tag) (answer_lines (answers (next m c) p.calls)) (pick p.stuck (line_of 3 0 false) []))
 
-    no_line : read_of (drop at input) ≡ Refused → (b : Bool) → ltb at (length input) ≡ b → lines_from (suc n) m.state input at m.cells m.tags ≡ history_lines m (parse [] at b)
+    no_line : read_of (drop at input) ≡ None → (b : Bool) → ltb at (length input) ≡ b → lines_from (suc n) m.state input at m.cells m.tags ≡ history_lines m (parse [] at b)
     unfolding lines_from on_reading answers answer_lines
     no_line e true h =
-        here h ∙ ap (λ (r : Reading). following n input at (on_reading m.state r m.cells m.tags)) e ∙ append-nil (line_of 3 0 false)
+        here h ∙ ap (λ (r : Option (Call × ℕ)). following n input at (on_reading m.state r m.cells m.tags)) e ∙ append-nil (line_of 3 0 false)
     no_line e false h = pick_no (ltb at (length input)) (following n input at (command_of m.state input at m.cells m.tags)) [] h
 
   lines_parse : (n : ℕ) (m : Machine) (v f : ℕ) (at : ℕ) → Standing m v f → lines_from n m.state input at m.cells m.tags ≡ history_lines m (parse_from n input at)
@@ -65,15 +64,15 @@ module _ (input : List ℕ) where
   lines_parse zero m v f at k = refl
   lines_parse (suc n) m v f at k = go (read_of (drop at input)) refl (lines_parse n)
     where
-      go : (r : Reading) → read_of (drop at input) ≡ r
+      go : (r : Option (Call × ℕ)) → read_of (drop at input) ≡ r
           → ((m : Machine) (v f : ℕ) (at : ℕ) → Standing m v f → lines_from n m.state input at m.cells m.tags ≡ history_lines m (parse_from n input at))
           → lines_from (suc n) m.state input at m.cells m.tags ≡ history_lines m (read_then (read_of (drop at input)) at (ltb at (length input)) (λ next. parse_from n input next))
-      go (Read c j) e later =
+      go (Some (c, j)) e later =
           call_line n m v f at k c j e (parse_from n input (at + j)) (later (next m c) v f (at + j) (standing_next m v f c k))
-          ∙ ap (λ (r : Reading). history_lines m (read_then r at (ltb at (length input)) (λ next. parse_from n input next))) (sym e)
-      go Refused e later =
+          ∙ ap (λ (r : Option (Call × ℕ)). history_lines m (read_then r at (ltb at (length input)) (λ next. parse_from n input next))) (sym e)
+      go None e later =
           no_line n m v f at k e (ltb at (length input)) refl
-          ∙ ap (λ (r : Reading). history_lines m (read_then r at (ltb at (length input)) (λ next. parse_from n input next))) (sym e)
+          ∙ ap (λ (r : Option (Call × ℕ)). history_lines m (read_then r at (ltb at (length input)) (λ next. parse_from n input next))) (sym e)
 
   -- After a start.
   module _ (room : ℕ) (enough : length input ≤ room) (v f : ℕ) where

@@ -1,10 +1,9 @@
 -- After any uses, what each function of the boundary leaves and answers, said of the history's machine: a command, with and without a
 -- call in its bytes; a whole run, with the place it reaches; and the questions. Assumes nothing.
-use Rattle.std.specs.Prelude.{ℕ, ◌+◌, ◌/◌, ◌≤◌, ◌<◌, true, List, [], ◌∷◌, ◌++◌, ◌≡◌, length, take, drop}
+use Rattle.std.specs.Prelude.{ℕ, ◌+◌, ◌/◌, ◌≤◌, ◌<◌, true, List, [], ◌∷◌, ◌++◌, ◌≡◌, length, take, drop, Some, None}
 use Rattle.capabilities.specs.Lists.{pick}
 use Rattle.table.specs.Rows.{live}
 use Rattle.calls.specs.declared.Call.{Call}
-use Rattle.calls.specs.declared.Reading.TheVariants.{Read, Refused}
 use Rattle.calls.specs.Reader.{read_of}
 use Rattle.words.specs.Words.{byte_of}
 use Rattle.machine.specs.Cost.{page_cost}
@@ -43,10 +42,10 @@ own_rows l = take (arrays_in l).nums.count l.rows
 
 pub record Answers (s : Served) (m : Machine) : Type 0 where
   -- A command whose bytes read as a call is that call's step.
-  pub call : (input : List ℕ) (at : ℕ) (buffer : List ℕ) → 4 ≤ length buffer → (c : Call) (n : ℕ) → read_of (drop at input) ≡ Read c n
+  pub call : (input : List ℕ) (at : ℕ) (buffer : List ℕ) → 4 ≤ length buffer → (c : Call) (n : ℕ) → read_of (drop at input) ≡ Some (c, n)
       → command_lent s.lent input at s.cells s.tags buffer ≡ leaves 1 (next m c) (replying c (outcome m c).answer).numbers buffer
   -- Bytes that read as no call leave all as it was, and 3 0 0 0 is put.
-  pub no_call : (input : List ℕ) (at : ℕ) (buffer : List ℕ) → 4 ≤ length buffer → read_of (drop at input) ≡ Refused
+  pub no_call : (input : List ℕ) (at : ℕ) (buffer : List ℕ) → 4 ≤ length buffer → read_of (drop at input) ≡ None
       → command_lent s.lent input at s.cells s.tags buffer ≡ done 1 s.lent s.cells s.tags (no_call_numbers ++ drop 4 buffer)
   -- Without room for its answer nothing is done.
   pub no_room : (input : List ℕ) (at : ℕ) (buffer : List ℕ) → length buffer < 4

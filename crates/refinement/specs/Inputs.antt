@@ -1,9 +1,7 @@
 -- The calls that an input reads as from a place on, by the reader alone: no state is asked. They are read one after another, as many as
 -- there is room for, up to the input's end or to the first bytes that read as no call. Assumes nothing.
-use Rattle.std.specs.Prelude.{ℕ, zero, suc, ◌+◌, Bool, false, List, [], ◌∷◌, length, drop, ltb}
+use Rattle.std.specs.Prelude.{ℕ, zero, suc, ◌+◌, Bool, false, List, [], ◌∷◌, length, drop, ltb, Option, Some, None}
 use Rattle.calls.specs.declared.Call.{Call}
-use Rattle.calls.specs.declared.Reading.{Reading}
-use Rattle.calls.specs.declared.Reading.TheVariants.{Read, Refused}
 use Rattle.calls.specs.Reader.{read_of}
 
 -- The calls, the place that they end at, and whether bytes that read as no call stand there, with room for an answer.
@@ -20,9 +18,9 @@ abbrev pub reading : Call → Parse → Parse
 reading c p = parse (c ∷ p.calls) p.at p.stuck
 
 -- What is read at a place, and the rest of the input after it.
-abbrev pub read_then : Reading → ℕ → Bool → (ℕ → Parse) → Parse
-read_then (Read c n) at more rest = reading c (rest (at + n))
-read_then Refused at more rest = parse [] at more
+abbrev pub read_then : Option (Call × ℕ) → ℕ → Bool → (ℕ → Parse) → Parse
+read_then (Some (c, n)) at more rest = reading c (rest (at + n))
+read_then None at more rest = parse [] at more
 
 unfoldable pub parse_from : ℕ → List ℕ → ℕ → Parse
 parse_from zero input at = parse [] at false

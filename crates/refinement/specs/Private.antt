@@ -2,9 +2,8 @@
 -- calls as the privacy rule compares them. Then no number of an answer to another party differs, and of what is lent afterwards nothing
 -- that is not the house's own: a corollary of `privacy:Claim.Privacy` and those beside it. Every two lists of calls are so sent
 -- (`Bytes.EveryHistorySent`), those of `examples:Unnoticed` too. Assumes nothing.
-use Rattle.std.specs.Prelude.{ℕ, ◌+◌, ◌*◌, ◌<◌, Bool, false, not, List, ◌∷◌, ◌++◌, ◌≡◌, get_or}
+use Rattle.std.specs.Prelude.{ℕ, ◌+◌, ◌*◌, ◌<◌, Bool, false, not, List, ◌∷◌, ◌++◌, ◌≡◌, get_or, Some}
 use Rattle.capabilities.specs.Lists.{filter}
-use Rattle.pages.specs.declared.Place.TheVariants.{At}
 use Rattle.pages.specs.Mapping.{lookup_of}
 use Rattle.calls.specs.declared.Call.{Call}
 use Rattle.privacy.specs.Rule.{housed, Time, time_after, hidden}
@@ -36,7 +35,7 @@ pub record Unnoticed (house : ℕ) (t : Time) (g h : Served) (r q : List Reply) 
   pub counts : g.lent.counts ≡ h.lent.counts
   pub registers : (p i : ℕ) → p < 8 → i < 8 → (p ≡ house → ⊥) → SameAt (8 * p + i) g.lent.words h.lent.words × SameAt (8 * p + i) g.lent.marks h.lent.marks
   pub mailboxes : (p : ℕ) → (p ≡ house → ⊥) → SameAt p g.lent.mail h.lent.mail × SameAt p g.lent.flags h.lent.flags
-  pub shown : (n at : ℕ) → hidden t n ≡ false → lookup_of (machine_in g).state.core.pages n ≡ At at → SameAt at g.cells h.cells × SameAt at g.tags h.tags
+  pub shown : (n at : ℕ) → hidden t n ≡ false → lookup_of (machine_in g).state.core.pages n ≡ Some at → SameAt at g.cells h.cells × SameAt at g.tags h.tags
   pub costs : (n : ℕ) → cost_lent g.lent n ≡ cost_lent h.lent n
 
 abbrev pub LibraryPrivacy : Type 0

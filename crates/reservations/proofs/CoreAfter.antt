@@ -1,5 +1,6 @@
 -- The core after a granted revoke and collect; no cell is lost by either; what dies is what the revoked range names.
 -- Assumes nothing.
+use Rattle.std.specs.Prelude.{Option, Some, None}
 use Prim.Native.Nat.{ℕ, ◌+◌, ◌*◌, ◌<◌}
 use native.Mathlib.Omega.{arith}
 use mathlib.Core.Bool.{Bool, true, false, ◌&&◌, true≢false}
@@ -16,8 +17,6 @@ use Rattle.capabilities.specs.Refusals.{first}
 use Rattle.capabilities.proofs.Choice.{pick_yes}
 use Rattle.capabilities.proofs.Deaths.{none_dies}
 use Rattle.pages.specs.Mapping.{freed_of, released_of}
-use Rattle.table.specs.declared.Found.{Found}
-use Rattle.table.specs.declared.Found.TheVariants.{At, Nowhere}
 use Rattle.table.specs.Rows.{is_revoking, live, blank, range_of}
 use Rattle.table.specs.Find.{find_of, begins, missing, revoking_of, row_of, with_row}
 use Rattle.table.specs.Tiling.{table_sound, covers}
@@ -36,9 +35,9 @@ module _ (c : Core) (ok : core_sound c ≡ true) where
   abbrev cells : ℕ
   cells = 16 * c.pages.v
 
-  revoke_at_after : (party base : ℕ) (g : Found) → find_of c.table party base ≡ g → Revokes c g → (i : ℕ) × Replaced c.table (revoke_at c g).table party base i 1 (revoking_row (get_or (live c.table) i blank) ∷ [])
+  revoke_at_after : (party base : ℕ) (g : Option ℕ) → find_of c.table party base ≡ g → Revokes c g → (i : ℕ) × Replaced c.table (revoke_at c g).table party base i 1 (revoking_row (get_or (live c.table) i blank) ∷ [])
   unfolding revoke_at
-  revoke_at_after party base (At i) e k =
+  revoke_at_after party base (Some i) e k =
       let t = c.table in
       let here = found_at (begins party base) (live t) i blank (unfold find_of in e) in
       let row = row_live t i here.0 in (
@@ -47,10 +46,10 @@ module _ (c : Core) (ok : core_sound c ≡ true) where
           found = e;
           within = omega (arith, here.0);
           named = here.1;
-          now = ap (λ r. live (with_row t (At i) (revoking_row r))) row ∙ with_live cells t (sound cells t (core_facts c ok).rows) i here.0 (revoking_row (get_or (live t) i blank));
+          now = ap (λ r. live (with_row t (Some i) (revoking_row r))) row ∙ with_live cells t (sound cells t (core_facts c ok).rows) i here.0 (revoking_row (get_or (live t) i blank));
         },
       )
-  revoke_at_after party base Nowhere e k = absurd (true≢false k.found)
+  revoke_at_after party base None e k = absurd (true≢false k.found)
 
   -- A granted revoke: the named reservation is Revoking, and its pages are freed.
   pub revoke_after : (party base : ℕ) → (revoke_of c party base).code ≡ 0 → (i : ℕ) × Replaced c.table (revoke_of c party base).core.table party base i 1 (revoking_row (get_or (live c.table) i blank) ∷ [])
@@ -61,19 +60,19 @@ module _ (c : Core) (ok : core_sound c ≡ true) where
       let e = pick_yes (eqb (first (revoke_reasons_at c f)) 0) (revoke_at c f) c (eq-eqb (first (revoke_reasons_at c f)) 0 z) in
       (i, record { found = r.found; within = r.within; named = r.named; now = ap (λ x. live x.table) e ∙ r.now })
 
-  collected_after : (f : Found) → revoking_of c.table ≡ f → running c ≡ true
+  collected_after : (f : Option ℕ) → revoking_of c.table ≡ f → running c ≡ true
       → (i : ℕ) × (i < length (live c.table)) × (is_revoking (get_or (live c.table) i blank).state ≡ true)
       × (live (collected c).table ≡ take i (live c.table) ++ collected_row (get_or (live c.table) i blank) ∷ drop (i + 1) (live c.table))
-  collected_after (At i) e run =
+  collected_after (Some i) e run =
       let t = c.table in
       let here = found_at (λ r. is_revoking r.state) (live t) i blank (unfold revoking_of in e) in (
         i,
         here.0,
         here.1,
-        ap (λ x. live x.table) (collected_at c (At i) e) ∙ ap (λ r. live (with_row t (At i) (collected_row r))) (row_live t i here.0)
+        ap (λ x. live x.table) (collected_at c (Some i) e) ∙ ap (λ r. live (with_row t (Some i) (collected_row r))) (row_live t i here.0)
             ∙ with_live cells t (sound cells t (core_facts c ok).rows) i here.0 (collected_row (get_or (live t) i blank)),
       )
-  collected_after Nowhere e run = absurd (true≢false (sym (ap (λ f. missing f) e) ∙ not-true (missing (revoking_of c.table)) (unfold running in run)))
+  collected_after None e run = absurd (true≢false (sym (ap (λ f. missing f) e) ∙ not-true (missing (revoking_of c.table)) (unfold running in run)))
 
   -- A granted collect: the Revoking reservation is Open.
   pub collect_after : (collect_of c).code ≡ 0
@@ -104,10 +103,10 @@ module _ (c : Core) (ok : core_sound c ≡ true) where
       none_lost cells c.table x.table cell (core_facts c ok).rows (subst (λ k. table_sound (16 * k) x.table ≡ true) v (core_facts x (core_collect c ok)).rows)
 
 -- Where no revocation runs the revoked range is empty, so that the range alone says what dies.
-empty_range : (c : Core) (f : Found) → revoking_of c.table ≡ f → running c ≡ false → (revoked c).length ≡ 0
+empty_range : (c : Core) (f : Option ℕ) → revoking_of c.table ≡ f → running c ≡ false → (revoked c).length ≡ 0
 unfolding revoked row_of
-empty_range c (At i) e q = absurd (true≢false (sym (not-false (missing (revoking_of c.table)) (unfold running in q)) ∙ ap missing e))
-empty_range c Nowhere e q = ap (λ f. (range_of (row_of c.table f)).length) e
+empty_range c (Some i) e q = absurd (true≢false (sym (not-false (missing (revoking_of c.table)) (unfold running in q)) ∙ ap missing e))
+empty_range c None e q = ap (λ f. (range_of (row_of c.table f)).length) e
 
 pub dying_dies : (c : Core) (cell : ℕ) → dying c cell ≡ dies (revoked c) cell
 unfolding dying

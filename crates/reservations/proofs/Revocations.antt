@@ -1,4 +1,5 @@
 -- Revoke and collect keep the core well formed, granted or refused, and so does a sweep's new place. Assumes nothing.
+use Rattle.std.specs.Prelude.{Option, Some, None}
 use Prim.Native.Nat.{ℕ, ◌+◌, ◌-◌, ◌*◌, ◌<◌, ◌≤◌, min}
 use native.Mathlib.Omega.{arith}
 use mathlib.Core.Bool.{Bool, true, false, not, ◌&&◌, ◌||◌, true≢false}
@@ -18,8 +19,6 @@ use Rattle.pages.proofs.AllFreed.{freed_all, freed_none_mapped}
 use Rattle.pages.proofs.Freeing.{freed_keeps, released_keeps}
 use Rattle.sweep.specs.Sweep.{passed, reached}
 use Rattle.table.specs.declared.Reservation.{Reservation}
-use Rattle.table.specs.declared.Found.{Found}
-use Rattle.table.specs.declared.Found.TheVariants.{At, Nowhere}
 use Rattle.table.specs.Rows.{is_open, is_revoking, blank, live, range_of}
 use Rattle.table.specs.Find.{missing, find_of, begins, revoking_of, row_of, with_row}
 use Rattle.table.specs.Tiling.{row_sound, revokings, weight}
@@ -58,13 +57,13 @@ none_revoking c e =
     dyings_length l ∙ ap length (none_is (dyings l) (sym (revoking_none c.table) ∙ not-false _ e))
 
 -- What a granted revoke has found.
-pub record Revokes (c : Core) (f : Found) : Type 0 where
+pub record Revokes (c : Core) (f : Option ℕ) : Type 0 where
   pub found : missing f ≡ false
   pub whole : whole_pages (row_of c.table f) ≡ true
   pub free : running c ≡ false
   pub unmapped : any_mapped c.pages (range_of (row_of c.table f)) ≡ false
 
-pub revoke_clear : (c : Core) (f : Found) → first (revoke_reasons_at c f) ≡ 0 → Revokes c f
+pub revoke_clear : (c : Core) (f : Option ℕ) → first (revoke_reasons_at c f) ≡ 0 → Revokes c f
 unfolding revoke_reasons_at
 revoke_clear c f e =
     let after6 = first_clear 6 _ _ (λ z. omega arith) e in
@@ -87,7 +86,7 @@ freed_while c facts run =
     and_right (whole_pages r) (all_freed c.pages (revoked c))
     (sym (pick_yes (running c) (whole_pages r && all_freed c.pages (revoked c)) (eqb c.place 0) run) ∙ (unfold revocation_sound in facts.revocation))
 
-pub collected_at : (c : Core) (f : Found) → revoking_of c.table ≡ f → collected c ≡ unswept c (released_of c.pages (revoked c)) (with_row c.table f (collected_row (row_of c.table f)))
+pub collected_at : (c : Core) (f : Option ℕ) → revoking_of c.table ≡ f → collected c ≡ unswept c (released_of c.pages (revoked c)) (with_row c.table f (collected_row (row_of c.table f)))
 unfolding collected
 collected_at c f e = ap (λ f. unswept c (released_of c.pages (revoked c)) (with_row c.table f (collected_row (row_of c.table f)))) e
 
@@ -107,38 +106,38 @@ any_place p a b (r ∷ d) e = refl
 module _ (c : Core) (ok : core_sound c ≡ true) where
   -- Where no revocation runs, the reservation that is revoked is the one Revoking.
   pub revoking_dies : (i : ℕ) → i < length (live c.table) → running c ≡ false
-      → dyings (live (with_row c.table (At i) (revoking_row (row_of c.table (At i))))) ≡ revoking_row (row_of c.table (At i)) ∷ []
+      → dyings (live (with_row c.table (Some i) (revoking_row (row_of c.table (Some i))))) ≡ revoking_row (row_of c.table (Some i)) ∷ []
   revoking_dies i h run =
       let t = c.table in
       let l = live t in
       let q = drop (i + 1) l in
-      let n = revoking_row (row_of t (At i)) in
+      let n = revoking_row (row_of t (Some i)) in
       let cells = 16 * c.pages.v in
       let zero = none_revoking c run in
       let sums = parts l i h in
       after_dyings cells t (sound cells t (core_facts c ok).rows) i h n ∙ ap (λ d. d ++ dyings (n ∷ q)) (silent (take i l) (omega arith))
       ∙ dyings_yes n q refl ∙ ap (λ d. n ∷ d) (silent q (omega arith))
 
-  revoke_at_kept : (party base : ℕ) (f : Found) → find_of c.table party base ≡ f → Revokes c f → core_sound (revoke_at c f) ≡ true
+  revoke_at_kept : (party base : ℕ) (f : Option ℕ) → find_of c.table party base ≡ f → Revokes c f → core_sound (revoke_at c f) ≡ true
   unfolding revoke_at freed_of
-  revoke_at_kept party base (At i) e k =
+  revoke_at_kept party base (Some i) e k =
       let facts = core_facts c ok in
       let t = c.table in
       let cells = 16 * c.pages.v in
       let s = sound cells t facts.rows in
       let h = (found_at (begins party base) (live t) i blank (unfold find_of in e)).0 in
       let l = live t in
-      let r = row_of t (At i) in
+      let r = row_of t (Some i) in
       let row = row_live t i h in
       let n = revoking_row r in
       let fit : r.base + r.length ≤ cells = subst (λ x. x.base + x.length ≤ cells) (sym row) (tiled_fits cells l 0 i s.tiled h) in
       let sound-n = zero_row (get_or l i blank) n (tiled_row cells l 0 i s.tiled h) (ap (λ x. x.length) row) refl in
       let zero = none_revoking c k.free in
       let rows = row_kept cells t s i n h (ap (λ x. x.base) row) (ap (λ x. x.length) row) sound-n (omega arith) in
-      let x = unswept c (freed_of c.pages (range_of r)) (with_row t (At i) n) in
+      let x = unswept c (freed_of c.pages (range_of r)) (with_row t (Some i) n) in
       core_made x (freed_keeps c.pages (range_of r) fit facts.layer) rows (omega arith)
       (dying_sound_lem x ∙ ap (dying_sound x.pages 0) (revoking_dies i h k.free) ∙ (unfold dying_sound in both (whole_pages r) (all_freed (freed_of c.pages (range_of r)) (range_of r)) k.whole (freed_all c.pages (range_of r) k.unmapped)))
-  revoke_at_kept party base Nowhere e k = absurd (true≢false k.found)
+  revoke_at_kept party base None e k = absurd (true≢false k.found)
 
   -- 05.
   pub core_revoke : (party base : ℕ) → core_sound (revoke_of c party base).core ≡ true
@@ -155,13 +154,13 @@ module _ (c : Core) (ok : core_sound c ≡ true) where
       ap (λ x. dyings (live x.table)) (pick_yes (eqb (first (revoke_reasons_at c f)) 0) (revoke_at c f) c (eq-eqb (first (revoke_reasons_at c f)) 0 z))
       ∙ go f refl (revoke_clear c f z)
     where
-      go : (f : Found) → find_of c.table party base ≡ f → Revokes c f → dyings (live (with_row c.table f (revoking_row (row_of c.table f)))) ≡ revoking_row (row_of c.table f) ∷ []
-      go (At i) e k = revoking_dies i (found_at (begins party base) (live c.table) i blank (unfold find_of in e)).0 k.free
-      go Nowhere e k = absurd (true≢false k.found)
+      go : (f : Option ℕ) → find_of c.table party base ≡ f → Revokes c f → dyings (live (with_row c.table f (revoking_row (row_of c.table f)))) ≡ revoking_row (row_of c.table f) ∷ []
+      go (Some i) e k = revoking_dies i (found_at (begins party base) (live c.table) i blank (unfold find_of in e)).0 k.free
+      go None e k = absurd (true≢false k.found)
 
-  collected_kept : (f : Found) → revoking_of c.table ≡ f → running c ≡ true → core_sound (collected c) ≡ true
+  collected_kept : (f : Option ℕ) → revoking_of c.table ≡ f → running c ≡ true → core_sound (collected c) ≡ true
   unfolding released_of dying_sound
-  collected_kept (At i) e run =
+  collected_kept (Some i) e run =
       let facts = core_facts c ok in
       let t = c.table in
       let cells = 16 * c.pages.v in
@@ -170,7 +169,7 @@ module _ (c : Core) (ok : core_sound c ≡ true) where
       let q = drop (i + 1) l in
       let here = found_at (λ r. is_revoking r.state) l i blank (unfold revoking_of in e) in
       let h = here.0 in
-      let r = row_of t (At i) in
+      let r = row_of t (Some i) in
       let row = row_live t i h in
       let n = collected_row r in
       let one : ◌≡◌ {A = ℕ} (weight (get_or l i blank)) 1 = pick_yes (is_revoking (get_or l i blank).state) 1 0 here.1 in
@@ -179,14 +178,14 @@ module _ (c : Core) (ok : core_sound c ≡ true) where
       let rows = row_kept cells t s i n h (ap (λ x. x.base) row) (ap (λ x. x.length) row) sound-n (omega (arith, s.single)) in
       let range = revoked c in
       let freed : all_freed c.pages range ≡ true = freed_while c facts run in
-      let x = unswept c (released_of c.pages range) (with_row t (At i) n) in
-      let now : dyings (live (with_row t (At i) n)) ≡ [] =
+      let x = unswept c (released_of c.pages range) (with_row t (Some i) n) in
+      let now : dyings (live (with_row t (Some i) n)) ≡ [] =
       after_dyings cells t s i h n ∙ ap (λ d. d ++ dyings (n ∷ q)) (silent (take i l) (omega (arith, s.single)))
       ∙ dyings_not n q refl ∙ silent q (omega (arith, s.single)) in
-      ap core_sound (collected_at c (At i) e)
+      ap core_sound (collected_at c (Some i) e)
       ∙ core_made x (released_keeps c.pages range (freed_none_mapped c.pages range freed) facts.layer) rows (omega arith)
       (dying_sound_lem x ∙ ap (dying_sound x.pages 0) now)
-  collected_kept Nowhere e run = absurd (true≢false (sym (ap (λ f. missing f) e) ∙ not-true (missing (revoking_of c.table)) (unfold running in run)))
+  collected_kept None e run = absurd (true≢false (sym (ap (λ f. missing f) e) ∙ not-true (missing (revoking_of c.table)) (unfold running in run)))
 
   -- 07.
   pub core_collect : core_sound (collect_of c).core ≡ true

@@ -1,4 +1,5 @@
 -- Lent rows and pages after revoke and collect read as the rule's core, and are what that core is written as. Assumes nothing.
+use Rattle.std.specs.Prelude.{Option, Some, None}
 use Prim.Native.Nat.{ℕ, ◌<◌}
 use native.Mathlib.Omega.{arith}
 use mathlib.Core.Bool.{Bool, true, false}
@@ -12,8 +13,6 @@ use Rattle.pages.specs.Mapping.{freed_of, released_of}
 use Rattle.pages.specs.Numbers.{page_code, page_in, layer_of}
 use Rattle.pages.proofs.RangeNumbers.{freed_reads, freed_written, released_reads, released_written}
 use Rattle.table.specs.declared.Reservation.{Reservation}
-use Rattle.table.specs.declared.Found.{Found}
-use Rattle.table.specs.declared.Found.TheVariants.{At, Nowhere}
 use Rattle.table.specs.Table.{Table}
 use Rattle.table.specs.Rows.{is_open, range_of}
 use Rattle.table.specs.Find.{revoking_of, row_of, with_row}
@@ -41,7 +40,7 @@ module _ (rows : List ℕ) (count : ℕ) (pages : List ℕ) where
   abbrev t : Table
   t = table_of rows count
 
-  pub revoke_reads : (g : Found) → ReadsAs count rows pages (revoked_rows rows count g) (revoked_pages rows count g pages) (λ (c : Core). revoke_at c g)
+  pub revoke_reads : (g : Option ℕ) → ReadsAs count rows pages (revoked_rows rows count g) (revoked_pages rows count g pages) (λ (c : Core). revoke_at c g)
   unfolding revoke_at revoked_rows revoked_pages
   revoke_reads g v f place frames claims =
       ap (λ (s : Pages). core s (table_of (put_at rows g (row_code (revoking_row (row_of t g)))) count) 0 claims) (freed_reads (range_of (row_of t g)) pages v f frames)
@@ -59,16 +58,16 @@ module _ (rows : List ℕ) (count : ℕ) (pages : List ℕ) where
     abbrev c : Core
     c = core (layer_of v f pages frames) (table_of rows count) place claims
 
-    put_written : map row_code (map row_from rows) ≡ rows → (g : Found) (x : Reservation) → map row_code (with_row (table_of rows count) g x).rows ≡ put_at rows g (row_code x)
+    put_written : map row_code (map row_from rows) ≡ rows → (g : Option ℕ) (x : Reservation) → map row_code (with_row (table_of rows count) g x).rows ≡ put_at rows g (row_code x)
     unfolding with_row put_at
-    put_written kept (At i) x = map_set row_code (map row_from rows) i x ∙ ap (λ (l : List ℕ). set l i (row_code x)) kept
-    put_written kept Nowhere x = kept
+    put_written kept (Some i) x = map_set row_code (map row_from rows) i x ∙ ap (λ (l : List ℕ). set l i (row_code x)) kept
+    put_written kept None x = kept
 
-    pub revoke_rows : (g : Found) → map row_code (map row_from rows) ≡ rows → map row_code (revoke_at c g).table.rows ≡ revoked_rows rows count g
+    pub revoke_rows : (g : Option ℕ) → map row_code (map row_from rows) ≡ rows → map row_code (revoke_at c g).table.rows ≡ revoked_rows rows count g
     unfolding revoke_at revoked_rows
     revoke_rows g kept = put_written kept g (revoking_row (row_of t g))
 
-    pub revoke_pages : (g : Found) → map (λ (e : PageEntry). page_code e.state) (map page_in pages) ≡ pages
+    pub revoke_pages : (g : Option ℕ) → map (λ (e : PageEntry). page_code e.state) (map page_in pages) ≡ pages
         → map (λ (e : PageEntry). page_code e.state) (revoke_at c g).pages.pages ≡ revoked_pages rows count g pages
     unfolding revoke_at revoked_pages
     revoke_pages g kept = freed_written (range_of (row_of t g)) pages v f frames kept

@@ -1,7 +1,6 @@
 -- What revoke and collect leave in lent rows and pages. Assumes nothing.
-use Rattle.std.specs.Prelude.{ℕ, List, ◌≡◌}
+use Rattle.std.specs.Prelude.{ℕ, List, ◌≡◌, Option}
 use Rattle.pages.specs.Numbers.{layer_of, freed_numbers, released_numbers}
-use Rattle.table.specs.declared.Found.{Found}
 use Rattle.table.specs.Rows.{range_of}
 use Rattle.table.specs.Find.{revoking_of, row_of}
 use Rattle.table.specs.Numbers.{row_code, table_of}
@@ -17,10 +16,10 @@ ReadsAs count rows pages rows' pages' rule =
     → core (layer_of v f pages' frames) (table_of rows' count) 0 claims ≡ rule (core (layer_of v f pages frames) (table_of rows count) place claims)
 
 -- 05, number by number: the row found is Revoking, and its Unmapped pages are Freed.
-unfoldable pub revoked_rows : List ℕ → ℕ → Found → List ℕ
+unfoldable pub revoked_rows : List ℕ → ℕ → Option ℕ → List ℕ
 revoked_rows rows count f = put_at rows f (row_code (revoking_row (row_of (table_of rows count) f)))
 
-unfoldable pub revoked_pages : List ℕ → ℕ → Found → List ℕ → List ℕ
+unfoldable pub revoked_pages : List ℕ → ℕ → Option ℕ → List ℕ → List ℕ
 revoked_pages rows count f pages = freed_numbers (range_of (row_of (table_of rows count) f)) pages
 
 -- 07: the Revoking row is Open, and its pages are Unmapped.

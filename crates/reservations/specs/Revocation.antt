@@ -1,5 +1,5 @@
 -- Commands 05 to 07, which need the table and the page layer, with refusals 6, 7, 10, 11 and 13. Assumes nothing.
-use Rattle.std.specs.Prelude.{ℕ, ◌*◌, ◌%◌, Bool, not, ◌&&◌, ◌||◌, List, [], ◌∷◌, leb, eqb}
+use Rattle.std.specs.Prelude.{ℕ, ◌*◌, ◌%◌, Bool, not, ◌&&◌, ◌||◌, List, [], ◌∷◌, leb, eqb, Option}
 use Rattle.capabilities.specs.declared.Range.{Range}
 use Rattle.capabilities.specs.Death.{dies}
 use Rattle.capabilities.specs.Lists.{pick}
@@ -10,7 +10,6 @@ use Rattle.pages.specs.Layer.{well_formed, in_range, fresh_of}
 use Rattle.pages.specs.Mapping.{any_mapped, freed_of, released_of}
 use Rattle.table.specs.declared.Reservation.{Reservation}
 use Rattle.table.specs.declared.ReservationState.TheVariants.{Open, Revoking}
-use Rattle.table.specs.declared.Found.{Found}
 use Rattle.table.specs.Table.{Table}
 use Rattle.table.specs.Rows.{is_open, is_revoking, no_taker, reservation, range_of, forget_table}
 use Rattle.table.specs.Find.{missing, find_of, revoking_of, row_of, with_row}
@@ -47,13 +46,13 @@ abbrev pub whole_pages : Reservation → Bool
 whole_pages r = eqb (r.base % 16) 0 && eqb (r.length % 16) 0
 
 -- 05 revoke of a row, told whether a revocation runs: 6, 7 if it is Revoking, 10, 11 if one runs, 13 if a page of it is Mapped.
-abbrev pub revoke_reasons_of : Pages → Table → Found → Bool → List Reason
+abbrev pub revoke_reasons_of : Pages → Table → Option ℕ → Bool → List Reason
 revoke_reasons_of s t f runs =
     let r = row_of t f in
     reason 6 (missing f)
     ∷ reason 7 (is_revoking r.state) ∷ reason 10 (not (whole_pages r)) ∷ reason 11 runs ∷ reason 13 (any_mapped s (range_of r)) ∷ []
 
-unfoldable pub revoke_reasons_at : Core → Found → List Reason
+unfoldable pub revoke_reasons_at : Core → Option ℕ → List Reason
 revoke_reasons_at c f = revoke_reasons_of c.pages c.table f (running c)
 
 unfoldable pub revoke_reasons : Core → ℕ → ℕ → List Reason
@@ -67,7 +66,7 @@ abbrev pub revoking_row : Reservation → Reservation
 revoking_row r = reservation r.base r.length Revoking 0 (revoking_taker r)
 
 -- "Becomes Revoking, its Unmapped pages Freed, sweep place 0."
-unfoldable pub revoke_at : Core → Found → Core
+unfoldable pub revoke_at : Core → Option ℕ → Core
 revoke_at c f =
     let r = row_of c.table f in
     unswept c (freed_of c.pages (range_of r)) (with_row c.table f (revoking_row r))

@@ -8,7 +8,6 @@ ghost use Rattle.table.specs.Rows.{range_of};
 ghost use Rattle.reservations.specs.Revocation.{whole_pages, revoking_taker, revoking_row, collected_row};
 
 use capabilities::Range;
-use table::row::is_open;
 use table::{Reservation, ReservationState};
 
 pub fn range_of(row: Reservation) -> Range
@@ -30,19 +29,21 @@ pub fn whole_pages(row: Reservation) -> bool
 pub fn revoking_taker(row: Reservation) -> u8
     ensures { result ≡ revoking_taker row }
 {
-    let state = row.state;
-    if is_open(state) { 0 } else { row.taker }
+    if row.state == ReservationState::Open {
+        0
+    } else {
+        row.taker
+    }
 }
 
 pub fn revoking_row(row: Reservation) -> Reservation
     ensures { result ≡ revoking_row row }
 {
     Reservation {
-        base: row.base,
-        length: row.length,
         state: ReservationState::Revoking,
         holder: 0,
         taker: revoking_taker(row),
+        ..row
     }
 }
 
@@ -50,10 +51,9 @@ pub fn collected_row(row: Reservation) -> Reservation
     ensures { result ≡ collected_row row }
 {
     Reservation {
-        base: row.base,
-        length: row.length,
         state: ReservationState::Open,
         holder: 0,
         taker: 9,
+        ..row
     }
 }

@@ -10,5 +10,5 @@ use printing::print;
 pub fn cetomuhi_session(input: &[u8], out: &mut [u8]) -> usize
     ensures { printed result out.new ≡ print_of (lines_of input.now) out.old }
 {
-    print(false, input, out)
+    print::<false>(input, out)
 }

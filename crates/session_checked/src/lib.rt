@@ -10,5 +10,5 @@ use printing::print;
 pub fn cetomuhi_session_checked(input: &[u8], out: &mut [u8]) -> usize
     ensures { printed result out.new ≡ print_of (lines_of input.now) out.old }
 {
-    print(true, input, out)
+    print::<true>(input, out)
 }

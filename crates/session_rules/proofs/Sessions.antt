@@ -1,4 +1,5 @@
 -- A session goes on from command to command to its input's end. Assumes nothing.
+use Rattle.std.specs.Prelude.{Some, None}
 use Prim.Native.Nat.{ℕ, zero, suc, ◌+◌, ◌*◌, ◌≤◌, ◌<◌}
 use native.Mathlib.Omega.{arith}
 use mathlib.Core.Bool.{Bool, true, false, ◌&&◌, ◌||◌}
@@ -9,7 +10,6 @@ use lib.Dec.{ltb, leb, eqb}
 use borrow.Author.Tests.{lt-ltb, le-ltb, ltb-true, leb-true, eqb-true, le-leb, lt-leb}
 use Rattle.capabilities.specs.Lists.{pick}
 use Rattle.pages.specs.Layer.{serves, in_range}
-use Rattle.calls.specs.declared.Reading.TheVariants.{Read, Refused}
 use Rattle.calls.specs.Commands.{lengths, command_length, call_at}
 use Rattle.calls.specs.Reader.{whole, read_of, first_byte}
 use Rattle.capabilities.proofs.Choice.{and_left, and_right}
@@ -75,7 +75,7 @@ module _ (s : State) (input : List ℕ) (at : ℕ) (cells tags : List ℕ) (h : 
   unfolding on_reading read_of
   read_used =
       pick_by (λ r. Used input at (on_reading s r cells tags)) (whole (drop at input))
-      (Read (call_at (first_byte (drop at input)) (drop at input)) (command_length (first_byte (drop at input)))) Refused
+      (Some (call_at (first_byte (drop at input)) (drop at input), command_length (first_byte (drop at input)))) None
       (λ w.
       let fits : command_length (first_byte (drop at input)) ≤ length (drop at input) = whole_fits (drop at input) w in
       let long : length (drop at input) + at ≡ length input = simp length-drop (omega arith) in
@@ -229,11 +229,6 @@ pub take_zeroed : (n m : ℕ) → n ≤ m → take {A = ℕ} n (replicate m 0) �
 take_zeroed zero m h = refl
 take_zeroed (suc n) zero h = let z : ⊥ = omega arith in absurd z
 take_zeroed (suc n) (suc m) h = ap (λ (l : List ℕ). 0 ∷ l) (take_zeroed n m (omega arith))
-
-pub laid_zeroed :
-    (f : ℕ) (input : List ℕ) (s : State) (begin : ℕ) (out : List ℕ) (end : ℕ) (out₁ l : List ℕ) → l ≡ zeroed f
-    → Laid (lines_from (length input) s input 3 l l) begin out end out₁ → Laid (lines_from (length input) s input 3 (zeroed f) (zeroed f)) begin out end out₁
-laid_zeroed f input s begin out end out₁ l e = subst (λ (x : List ℕ). Laid (lines_from (length input) s input 3 x x) begin out end out₁) e
 
 -- The line of a start that is refused.
 pub refused_short : length (line_of 1 0 false) ≡ 6

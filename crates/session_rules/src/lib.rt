@@ -7,5 +7,5 @@ ghost use Rattle.session_rules.specs.Session.{ends_session};
 pub fn ends(code: u8) -> bool
     ensures { result ≡ ends_session code }
 {
-    (1 <= code) & (code <= 3)
+    (1..=3).contains(&code)
 }

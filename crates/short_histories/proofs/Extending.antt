@@ -2,13 +2,14 @@
 -- Assumes nothing.
 use Prim.Native.Nat.{ℕ, suc, ◌-◌, ◌<◌, ◌≤◌}
 use native.Mathlib.Omega.{arith}
-use mathlib.Core.Bool.{Bool, true, false}
+use mathlib.Core.Bool.{true}
+use Rattle.std.specs.Prelude.{Option, Some, None, option_map}
 use mathlib.Core.List.{List, [], ◌++◌, map, flatten}
 use mathlib.Core.Path.{◌≡◌, refl, sym, ◌∙◌, ap}
 use lib.ListN.{length, get_or}
 use lib.Dec.{leb}
 use borrow.Author.Tests.{leb-true}
-use Rattle.capabilities.specs.Lists.{pick, each, map_each}
+use Rattle.capabilities.specs.Lists.{each, map_each}
 use Rattle.capabilities.proofs.Lists.{each_at}
 use Rattle.calls.specs.Commands.{bytes_of}
 use Rattle.calls.specs.declared.Call.{Call}
@@ -17,7 +18,7 @@ use Rattle.arrays.specs.declared.Arrays.{Arrays}
 use Rattle.step.specs.Entries.{step_on}
 use Rattle.short_histories.specs.Listed.{choices, operands, listed}
 use Rattle.short_histories.specs.Text.{hex_line}
-use Rattle.short_histories.specs.Walk.{leading, led_by, onward, lines_on}
+use Rattle.short_histories.specs.Walk.{Led, led_by, onward, lines_on}
 use Rattle.short_histories.proofs.Numbered.{listed_length}
 
 -- The listed command of a number; of no other is asked.
@@ -47,16 +48,17 @@ module _ (more : ℕ) (bytes : List ℕ) (a : Arrays) (cells tags : List ℕ) wh
       let up : more ≡ suc (more - 1) = omega (arith, f) in
       ap (λ n. lines_on n bytes a cells tags) up ∙ unfold lines_on in refl
 
-  module _ (k : ℕ) (call : Call) (is : call ≡ numbered_call k) (granted : Bool) (b : Arrays) (cells₂ tags₂ : List ℕ)
-      (led : leading granted b cells₂ tags₂ ≡ led_by (step_on a call cells tags)) where
-    tried : part_of more bytes a cells tags (numbered_call k) ≡ pick granted (lines_on (more - 1) (bytes ++ bytes_of call) b cells₂ tags₂) []
-    tried = ap (part_of more bytes a cells tags) (sym is) ∙ ap (onward (lines_on (more - 1)) bytes call) (sym led) ∙ unfold onward in refl
+  -- A call was tried, and led somewhere or nowhere.
+  module _ {M : Type 0} (k : ℕ) (call : Call) (is : call ≡ numbered_call k) (o : Option M) (at : M → Led) (led : option_map at o ≡ led_by (step_on a call cells tags)) where
+    tried : part_of more bytes a cells tags (numbered_call k) ≡ onward (lines_on (more - 1)) bytes call (option_map at o)
+    tried = ap (part_of more bytes a cells tags) (sym is) ∙ ap (onward (lines_on (more - 1)) bytes call) (sym led)
 
-    pub part_granted : granted ≡ true → (longer : List ℕ) → longer ≡ bytes ++ bytes_of call
-        → lines_on (more - 1) longer b cells₂ tags₂ ≡ part_of more bytes a cells tags (numbered_call k)
-    part_granted g longer e =
-        ap (λ l. lines_on (more - 1) l b cells₂ tags₂) e
-        ∙ sym (tried ∙ ap (λ t. pick t (lines_on (more - 1) (bytes ++ bytes_of call) b cells₂ tags₂) []) g)
+    pub part_granted : (m : M) → o ≡ Some m → (longer : List ℕ) → longer ≡ bytes ++ bytes_of call
+        → lines_on (more - 1) longer (at m).arrays (at m).cells (at m).tags ≡ part_of more bytes a cells tags (numbered_call k)
+    unfolding onward
+    part_granted m e longer l =
+        ap (λ x. lines_on (more - 1) x (at m).arrays (at m).cells (at m).tags) l ∙ sym (tried ∙ ap (λ x. onward (lines_on (more - 1)) bytes call (option_map at x)) e)
 
-    pub part_refused : granted ≡ false → [] ≡ part_of more bytes a cells tags (numbered_call k)
-    part_refused g = sym (tried ∙ ap (λ t. pick t (lines_on (more - 1) (bytes ++ bytes_of call) b cells₂ tags₂) []) g)
+    pub part_refused : o ≡ None → [] ≡ part_of more bytes a cells tags (numbered_call k)
+    unfolding onward
+    part_refused e = sym (tried ∙ ap (λ x. onward (lines_on (more - 1)) bytes call (option_map at x)) e)

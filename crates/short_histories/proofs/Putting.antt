@@ -4,7 +4,7 @@ use native.Mathlib.Omega.{arith}
 use native.Mathlib.Numerals.{add-one}
 use mathlib.Core.List.{List, [], ◌∷◌, ◌++◌, map, map-append, flatten, append-nil}
 use mathlib.Core.Path.{◌≡◌, refl, sym, ◌∙◌, ap, subst}
-use lib.ListN.{length, get_or, take, drop, set, length-append, length-map, length-set, take-append-drop}
+use lib.ListN.{length, get_or, take, drop, set, length-append, length-set, take-append-drop}
 use lib.Seq.{take-suc, take_all}
 use Rattle.capabilities.proofs.Flatten.{flatten_append}
 use Rattle.lines.specs.Laid.{Laid}
@@ -120,8 +120,3 @@ module _ {A : Type 0} (part : A → List ℕ) (l : List A) (d : A) (at : ℕ) (a
 
     pub parts_all : length l ≤ k → Laid (flatten (map part l)) at a end b
     parts_all h = subst (λ m. Laid (flatten (map part m)) at a end b) (take_all k l h) p.laid
-
--- ---- Arrays
--- How long an array is that a struct holds.
-pub length_under : (X Y : Type 0) (f : X → Y) (l : List X) (n : ℕ) → length (map f l) ≡ n → length l ≡ n
-length_under X Y f l n e = sym (length-map l f) ∙ e

@@ -6,6 +6,7 @@ use mathlib.Core.Bool.{Bool, true, false}
 use mathlib.Core.List.{List, [], ◌∷◌, ◌++◌, map, map-map, flatten, append-nil, append_assoc}
 use mathlib.Core.Path.{◌≡◌, refl, sym, ◌∙◌, ap}
 use lib.ListN.{get_or}
+use Rattle.std.specs.Prelude.{Some, None}
 use Rattle.capabilities.specs.Lists.{pick}
 use Rattle.capabilities.proofs.Flatten.{map_flatten, map_same, flatten_flatten}
 use Rattle.calls.specs.Commands.{bytes_of}
@@ -45,7 +46,7 @@ unfolding step_on judged_on step_of
 step_written s c cells tags w = rw (passing (arrays_of s) (written_formed s w), state_back_again s w, w)
 
 led_to : (m : Machine) (c : Call) → well_formed m.state ≡ true
-    → led_by (step_on (arrays_of m.state) c m.cells m.tags) ≡ leading (granted m c) (arrays_of (next m c).state) (next m c).cells (next m c).tags
+    → led_by (step_on (arrays_of m.state) c m.cells m.tags) ≡ pick (granted m c) (Some (leading (arrays_of (next m c).state) (next m c).cells (next m c).tags)) None
 unfolding led_by left_of outcome next
 led_to m c w = ap led_by (step_written m.state c m.cells m.tags w)
 
@@ -76,7 +77,7 @@ lines_on_lem (suc n) bytes m v f s =
   where
     go : (b : Bool) (c : Call)
         → lines_on n (bytes ++ bytes_of c) (arrays_of (next m c).state) (next m c).cells (next m c).tags ≡ behind bytes (map (λ h. c ∷ h) (continued n (next m c)))
-        → pick b (lines_on n (bytes ++ bytes_of c) (arrays_of (next m c).state) (next m c).cells (next m c).tags) []
+        → onward (lines_on n) bytes c (pick b (Some (leading (arrays_of (next m c).state) (next m c).cells (next m c).tags)) None)
         ≡ behind bytes (pick b (map (λ h. c ∷ h) (continued n (next m c))) [])
     go true c e = e
     go false c e = unfold flatten in refl

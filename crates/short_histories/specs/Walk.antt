@@ -1,5 +1,5 @@
 -- What the walk puts: the lines of all histories that go on from some arrays. Assumes nothing.
-use Rattle.std.specs.Prelude.{ℕ, zero, suc, Bool, eqb}
+use Rattle.std.specs.Prelude.{ℕ, zero, suc, eqb, Option, Some, None}
 use mathlib.Core.List.{List, [], ◌++◌, map, flatten}
 use Rattle.capabilities.specs.Lists.{pick}
 use Rattle.calls.specs.Commands.{bytes_of}
@@ -10,22 +10,22 @@ use Rattle.step.specs.Entries.{step_on}
 use Rattle.short_histories.specs.Listed.{listed}
 use Rattle.short_histories.specs.Text.{hex_line}
 
--- Whether a call was granted, and where it led.
+-- Where a granted call led.
 pub record Led : Type 0 where
-  pub granted : Bool
   pub arrays : Arrays
   pub cells : List ℕ
   pub tags : List ℕ
 
-abbrev pub leading : Bool → Arrays → List ℕ → List ℕ → Led
-leading granted a cells tags = record { granted = granted; arrays = a; cells = cells; tags = tags }
+abbrev pub leading : Arrays → List ℕ → List ℕ → Led
+leading a cells tags = record { arrays = a; cells = cells; tags = tags }
 
-unfoldable pub led_by : Leaving → Led
-led_by l = leading (eqb l.answer.code 0) l.arrays l.cells l.tags
+unfoldable pub led_by : Leaving → Option Led
+led_by l = pick (eqb l.answer.code 0) (Some (leading l.arrays l.cells l.tags)) None
 
 -- The lines that go on behind a call, if it was granted: its bytes stand behind the earlier ones.
-unfoldable pub onward : (List ℕ → Arrays → List ℕ → List ℕ → List ℕ) → List ℕ → Call → Led → List ℕ
-onward lines bytes c t = pick t.granted (lines (bytes ++ bytes_of c) t.arrays t.cells t.tags) []
+unfoldable pub onward : (List ℕ → Arrays → List ℕ → List ℕ → List ℕ) → List ℕ → Call → Option Led → List ℕ
+onward lines bytes c (Some t) = lines (bytes ++ bytes_of c) t.arrays t.cells t.tags
+onward lines bytes c None = []
 
 -- The lines of all histories that begin with some bytes and go on from some arrays and lent memory with n listed commands.
 unfoldable pub lines_on : ℕ → List ℕ → Arrays → List ℕ → List ℕ → List ℕ

@@ -114,35 +114,17 @@ fn zero(n: u8) -> Call
 pub(crate) fn command(k: u8) -> Call
     ensures { result ≡ get_or listed k (Call.Collect 0) }
 {
-    if k < 4 {
-        return take(k);
+    match k {
+        0..4 => take(k),
+        4..12 => split(k - 4),
+        12..16 => merge(k - 12),
+        16..24 => give(k - 16),
+        24..28 => revoke(k - 24),
+        28..32 => sweep(k - 28),
+        32..34 => Call::Collect { party: k - 32 },
+        34..36 => map(k - 34),
+        36..38 => unmap(k - 36),
+        38..COUNT => zero(k - 38),
+        _ => Call::Collect { party: 0 },
     }
-    if k < 12 {
-        return split(k - 4);
-    }
-    if k < 16 {
-        return merge(k - 12);
-    }
-    if k < 24 {
-        return give(k - 16);
-    }
-    if k < 28 {
-        return revoke(k - 24);
-    }
-    if k < 32 {
-        return sweep(k - 28);
-    }
-    if k < 34 {
-        return Call::Collect { party: k - 32 };
-    }
-    if k < 36 {
-        return map(k - 34);
-    }
-    if k < 38 {
-        return unmap(k - 36);
-    }
-    if k < COUNT {
-        return zero(k - 38);
-    }
-    Call::Collect { party: 0 }
 }

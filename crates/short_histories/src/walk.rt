@@ -1,6 +1,6 @@
 // The walk over all short histories. From a state it tries each listed command, and goes on from where a granted one leads with one
 // command less to come; so it ends.
-ghost use Rattle.std.specs.Prelude.{◌≡◌, ◌++◌, ◌+◌, ◌*◌, ◌≤◌, length, take};
+ghost use Rattle.std.specs.Prelude.{◌≡◌, ◌++◌, ◌+◌, ◌*◌, ◌≤◌, length, take, option_map};
 ghost use Rattle.calls.specs.Commands.{bytes_of};
 ghost use Rattle.lines.specs.Laid.{Laid};
 ghost use Rattle.step.specs.Entries.{step_on};
@@ -11,8 +11,8 @@ ghost use Rattle.short_histories.specs.Walk.{leading, led_by, lines_on};
 
 use crate::LENGTH;
 use crate::commands::{COUNT, command};
-use crate::digits::{high, low};
-use calls::{Call, Written, write_call};
+use crate::digits::digit;
+use calls::{Call, write_call};
 use entries::State;
 
 // The most commands of a history.
@@ -29,49 +29,34 @@ struct Machine {
     tags: [u8; 16],
 }
 
-// Whether a call was granted, and where it led.
-#[derive(Clone, Copy)]
-struct Led {
-    granted: bool,
-    machine: Machine,
-}
-
-// The bytes of the commands so far.
-#[derive(Clone, Copy)]
-struct History {
-    bytes: [u8; LONGEST],
-    len: usize,
-}
-
 // A call on a copy of the state and its memory.
-fn attempt(machine: Machine, call: Call) -> Led
-    ensures { leading result.granted result.machine.state.arrays result.machine.cells result.machine.tags ≡ led_by (step_on machine.state.arrays call machine.cells machine.tags) }
+fn attempt(machine: Machine, call: Call) -> Option<Machine>
+    ensures { option_map (λ m. leading m.state.arrays m.cells m.tags) result ≡ led_by (step_on machine.state.arrays call machine.cells machine.tags) }
 {
     let mut cells = machine.cells;
     let mut tags = machine.tags;
-    let before = machine.state;
-    let done = before.call(call, &mut cells, &mut tags);
-    let answer = done.answer;
-    let granted = answer.code == 0;
-    let state = done.state;
-    let machine = Machine { state, cells, tags };
-    Led { granted, machine }
+    let done = machine.state.call(call, &mut cells, &mut tags);
+    if done.answer.code != 0 {
+        return None;
+    }
+    Some(Machine {
+        state: done.state,
+        cells,
+        tags,
+    })
 }
 
-// A history with one command more.
-fn longer(history: History, call: Call) -> History
-    requires { history.len + length (bytes_of call) ≤ 18 }
-    ensures bytes_value { take result.len result.bytes ≡ take history.len history.bytes ++ bytes_of call }
-    ensures len_value { result.len ≡ history.len + length (bytes_of call) }
+// Puts a history with one command more first in a buffer, and answers how long it is.
+fn longer(history: &[u8], call: Call, bytes: &mut [u8; LONGEST]) -> usize
+    requires { length history.now + length (bytes_of call) ≤ 18 }
+    ensures bytes_value { take result bytes.new ≡ history.now ++ bytes_of call }
+    ensures len_value { result ≡ length history.now + length (bytes_of call) }
 {
-    let mut bytes = history.bytes;
-    let at = history.len;
+    let at = history.len();
+    bytes[..at].copy_from_slice(history);
     match write_call(call, &mut bytes[at..]) {
-        Written::Wrote { len } => History {
-            bytes,
-            len: at + len,
-        },
-        Written::TooShort => history,
+        Some(len) => at + len,
+        None => at,
     }
 }
 
@@ -81,13 +66,10 @@ fn put_line(bytes: &[u8], at: usize, out: &mut [u8]) -> usize
     ensures { Laid (hex_line bytes.now) at out.old result out.new }
 {
     let mut end = at;
-    let mut i: usize = 0;
-    while i < bytes.len() {
-        let byte = bytes[i];
-        out[end] = high(byte);
-        out[end + 1] = low(byte);
+    for byte in bytes {
+        out[end] = digit(*byte / 16);
+        out[end + 1] = digit(*byte % 16);
         end += 2;
-        i += 1;
     }
     out[end] = b'\n';
     end + 1
@@ -95,26 +77,22 @@ fn put_line(bytes: &[u8], at: usize, out: &mut [u8]) -> usize
 
 // The lines of all histories that begin with one and have so many commands more, put at a place that has room for them; answers
 // where they end.
-fn extend(machine: Machine, history: History, more: u8, at: usize, out: &mut [u8]) -> usize
-    requires more_bound { history.len + 6 * more ≤ 18 }
-    requires tags_in_bounds { at + length (lines_on more (take history.len history.bytes) machine.state.arrays machine.cells machine.tags) ≤ length out.old }
-    ensures { Laid (lines_on more (take history.len history.bytes) machine.state.arrays machine.cells machine.tags) at out.old result out.new }
+fn extend(machine: Machine, history: &[u8], more: u8, at: usize, out: &mut [u8]) -> usize
+    requires more_bound { length history.now + 6 * more ≤ 18 }
+    requires tags_in_bounds { at + length (lines_on more history.now machine.state.arrays machine.cells machine.tags) ≤ length out.old }
+    ensures { Laid (lines_on more history.now machine.state.arrays machine.cells machine.tags) at out.old result out.new }
 {
     if more == 0 {
-        let bytes = history.bytes;
-        let len = history.len;
-        return put_line(&bytes[..len], at, out);
+        return put_line(history, at, out);
     }
     let mut end = at;
-    let mut k: u8 = 0;
-    while k < COUNT {
+    for k in 0..COUNT {
         let call = command(k);
-        let led = attempt(machine, call);
-        if led.granted {
-            let next = led.machine;
-            end = extend(next, longer(history, call), more - 1, end, out);
+        if let Some(next) = attempt(machine, call) {
+            let mut bytes = [0; LONGEST];
+            let len = longer(history, call, &mut bytes);
+            end = extend(next, &bytes[..len], more - 1, end, out);
         }
-        k += 1;
     }
     end
 }
@@ -124,22 +102,14 @@ fn put_all(out: &mut [u8]) -> usize
     requires { length text ≤ length out.old }
     ensures { Laid text 0 out.old result out.new }
 {
-    let started = State::start(1, 1);
-    let state = started.state;
     let machine = Machine {
-        state,
+        state: State::start(1, 1).state,
         cells: [0; 16],
         tags: [0; 16],
     };
-    let history = History {
-        bytes: [0; LONGEST],
-        len: 0,
-    };
-    let mut end: usize = 0;
-    let mut count: u8 = 0;
-    while count <= MOST {
-        end = extend(machine, history, count, end, out);
-        count += 1;
+    let mut end = 0;
+    for count in 0..=MOST {
+        end = extend(machine, &[], count, end, out);
     }
     end
 }

@@ -1,6 +1,7 @@
 -- A command on well-formed arrays: read, and then its call or refusal 3. And on any arrays: refusals 1 and 2. Assumes nothing.
+use Rattle.std.specs.Prelude.{Option, Some, None}
 use Prim.Native.Nat.{ℕ, ◌*◌}
-use mathlib.Core.Bool.{Bool, true, false, ◌&&◌}
+use mathlib.Core.Bool.{true, false}
 use mathlib.Core.List.{List}
 use mathlib.Core.Path.{◌≡◌, refl, sym, ap, ◌∙◌}
 use lib.ListN.{length, drop}
@@ -10,22 +11,17 @@ use Rattle.capabilities.proofs.Choice.{pick_yes, pick_no, and_left, and_right}
 use Rattle.table.proofs.Truth.{both}
 use Rattle.pages.specs.Layer.{serves}
 use Rattle.calls.specs.declared.Call.{Call}
-use Rattle.calls.specs.declared.Reading.{Reading}
-use Rattle.calls.specs.declared.Reading.TheVariants.{Read, Refused}
 use Rattle.calls.specs.Reader.{read_of}
 use Rattle.words.specs.Words.{empty}
 use Rattle.machine.specs.Step.{refused, ruled, judged}
 use Rattle.machine.specs.Command.{used, on_reading, command_judged}
 use Rattle.arrays.specs.declared.Arrays.{Arrays}
 use Rattle.arrays.specs.Reading.{core_of, state_of, Formed}
+use Rattle.arrays.specs.Lent.{fits}
 use Rattle.arrays.specs.Steps.{Leaving, answer, leaving, left_of}
 use Rattle.arrays.proofs.Ruling.{wrote}
 use Rattle.formed.specs.Test.{formed_of}
 use Rattle.step.specs.Entries.{ruled_on, judged_on, step_on, RanOn, ran_on, ran_of, command_judged_on, command_on}
-
--- Lent memory is of the right size.
-abbrev pub fits : Arrays → List ℕ → List ℕ → Bool
-fits a cells tags = eqb (length cells) (16 * a.nums.f) && eqb (length tags) (16 * a.nums.f)
 
 pub fitting : (a : Arrays) (cells tags : List ℕ) → length cells ≡ 16 * a.nums.f → length tags ≡ 16 * a.nums.f → fits a cells tags ≡ true
 fitting a cells tags hc ht =
@@ -42,19 +38,19 @@ module _ (a : Arrays) (cells tags : List ℕ) (e : fits a cells tags ≡ true) w
       d ∙ ap left_of (sym (pick_yes (serves (state_of a).core.pages (length cells) (length tags)) (ruled (state_of a) c cells tags) (refused 2 (state_of a) cells tags) (served a cells tags ∙ e)))
 
   module _ (input : List ℕ) (at : ℕ) where
-    command_fits : (t : Reading) → read_of (drop at input) ≡ t → ran_of (on_reading (state_of a) t cells tags) ≡ command_judged_on a input at cells tags
+    command_fits : (t : Option (Call × ℕ)) → read_of (drop at input) ≡ t → ran_of (on_reading (state_of a) t cells tags) ≡ command_judged_on a input at cells tags
     unfolding command_judged_on command_judged
     command_fits t r =
-        ap (λ (x : Reading). ran_of (on_reading (state_of a) x cells tags)) (sym r)
+        ap (λ (x : Option (Call × ℕ)). ran_of (on_reading (state_of a) x cells tags)) (sym r)
         ∙ ap ran_of (sym (pick_yes (serves (state_of a).core.pages (length cells) (length tags)) (on_reading (state_of a) (read_of (drop at input)) cells tags) (used 0 (refused 2 (state_of a) cells tags)) (served a cells tags ∙ e)))
 
-    pub command_reads : (c : Call) (n : ℕ) → read_of (drop at input) ≡ Read c n → (x : Leaving) → x ≡ ruled_on a c cells tags → ran_on x n ≡ command_judged_on a input at cells tags
+    pub command_reads : (c : Call) (n : ℕ) → read_of (drop at input) ≡ Some (c, n) → (x : Leaving) → x ≡ ruled_on a c cells tags → ran_on x n ≡ command_judged_on a input at cells tags
     unfolding ran_of on_reading judged_on
-    command_reads c n r x d = ap (λ (y : Leaving). ran_on y n) (call_fits c x d) ∙ command_fits (Read c n) r
+    command_reads c n r x d = ap (λ (y : Leaving). ran_on y n) (call_fits c x d) ∙ command_fits (Some (c, n)) r
 
-    pub command_none : Formed a → read_of (drop at input) ≡ Refused → ran_on (leaving (answer 3 empty) a cells tags) 0 ≡ command_judged_on a input at cells tags
+    pub command_none : Formed a → read_of (drop at input) ≡ None → ran_on (leaving (answer 3 empty) a cells tags) 0 ≡ command_judged_on a input at cells tags
     unfolding ran_of on_reading
-    command_none f r = ap (λ (y : Leaving). ran_on y 0) (wrote 3 empty (state_of a) a cells tags (sym f.kept)) ∙ command_fits Refused r
+    command_none f r = ap (λ (y : Leaving). ran_on y 0) (wrote 3 empty (state_of a) a cells tags (sym f.kept)) ∙ command_fits None r
 
 -- Refusal 2.
 module _ (a : Arrays) (f : Formed a) (cells tags : List ℕ) (e : fits a cells tags ≡ false) where

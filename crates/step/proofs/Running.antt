@@ -54,31 +54,3 @@ module _ (a : Arrays) (f : Formed a) (input : List ℕ) (at : ℕ) (cells tags :
   pub ran_sized : a'.nums.f ≡ a.nums.f
   unfolding state_of core_of
   ran_sized = ap (λ (s : State). s.core.pages.f) back ∙ (command_same (state_of a) input at cells tags).of_f
-
--- Arrays keep their lengths as long as they are well formed.
-pub record Kept (a₀ a : Arrays) : Type 0 where
-  pub words : length a.words ≡ length a₀.words
-  pub marks : length a.marks ≡ length a₀.marks
-  pub mail : length a.mail ≡ length a₀.mail
-  pub flags : length a.flags ≡ length a₀.flags
-  pub rows : length a.rows ≡ length a₀.rows
-  pub pages : length a.pages ≡ length a₀.pages
-  pub frames : length a.frames ≡ length a₀.frames
-  pub principals : length a.principals ≡ length a₀.principals
-  pub counts : length a.counts ≡ length a₀.counts
-
-pub kept : {a₀ a : Arrays} → Formed a₀ → Formed a → Kept a₀ a
-kept {a₀} {a} f₀ f =
-    let l₀ = lengths a₀ f₀ in
-    let l = lengths a f in
-    record {
-      words = l.words ∙ sym l₀.words;
-      marks = l.marks ∙ sym l₀.marks;
-      mail = l.mail ∙ sym l₀.mail;
-      flags = l.flags ∙ sym l₀.flags;
-      rows = l.rows ∙ sym l₀.rows;
-      pages = l.pages ∙ sym l₀.pages;
-      frames = l.frames ∙ sym l₀.frames;
-      principals = l.principals ∙ sym l₀.principals;
-      counts = l.counts ∙ sym l₀.counts;
-    }

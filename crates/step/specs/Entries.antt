@@ -6,9 +6,6 @@ use Rattle.words.specs.Words.{empty}
 use Rattle.machine.specs.Step.{outcome_with, ruled, judged}
 use Rattle.machine.specs.Command.{Ran, command_judged}
 use Rattle.arrays.specs.declared.Arrays.{Arrays}
-use Rattle.arrays.specs.declared.Answer.{Answer}
-use Rattle.arrays.specs.declared.Numbers.{Numbers}
-use Rattle.calls_in_place.specs.declared.Stepped.{Stepped}
 use Rattle.arrays.specs.Reading.{state_of, Formed}
 use Rattle.arrays.specs.Steps.{Leaving, answer, leaving, left_of}
 use Rattle.formed.specs.Test.{formed_of}
@@ -16,9 +13,6 @@ use Rattle.formed.specs.Test.{formed_of}
 -- What is promised on well-formed arrays and lent memory of the right size, and on no other.
 abbrev pub OnFormed : Arrays → List ℕ → List ℕ → Type 0 → Type 0
 OnFormed a cells tags p = Formed a → (length cells ≡ 16 * a.nums.f) × (length tags ≡ 16 * a.nums.f) → p
-
-abbrev pub stepped : Answer → Numbers → Stepped
-stepped r n = record { answer = r; nums = n }
 
 -- A call on well-formed arrays, by refusals from 4 on; and by refusal 2 first.
 unfoldable pub ruled_on : Arrays → Call → List ℕ → List ℕ → Leaving

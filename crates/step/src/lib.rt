@@ -3,73 +3,74 @@
 #![tactic(auto)]
 
 ghost use Rattle.std.specs.Prelude.{◌≡◌};
-ghost use Rattle.arrays.specs.Reading.{arrays};
-ghost use Rattle.arrays.specs.Steps.{leaving};
-ghost use Rattle.step.specs.Entries.{OnFormed, stepped, ruled_on, ran_on, command_judged_on};
+ghost use Rattle.arrays.specs.Lent.{held, left_in, SameLists};
+ghost use Rattle.step.specs.Entries.{OnFormed, ruled_on, ran_on, command_judged_on};
 
-use arrays::{Answer, Numbers};
-use calls::{Call, Reading, read_at};
-use calls_in_place::Stepped;
+use arrays::{Answer, Machine};
+use calls::{Call, read_at};
 use calls_in_place::claim_calls::{claim, create, destroy, release};
 use calls_in_place::collect_calls::collect;
 use calls_in_place::page_calls::{map, unmap, zero};
 use calls_in_place::revoke_calls::revoke;
 use calls_in_place::sweep_calls::sweep;
 use calls_in_place::table_calls::{PLAIN, give, merge, split, take};
-use calls_in_place::word_calls::{coded, grant, load, narrow, number, receive, store};
+use calls_in_place::word_calls::{grant, load, narrow, number, receive, store};
+use capabilities::refusal::Refusal;
 
-// What a command hands back: its answer, the small numbers, and how many bytes it used. The arrays are changed where they lie.
+// What a command hands back: its answer, and how many bytes it used.
 #[derive(Clone, Copy)]
 pub struct Ended {
     pub answer: Answer,
-    pub nums: Numbers,
     pub used: usize,
 }
 
-// What a call leaves that keeps the small numbers.
-fn on(nums: Numbers, answer: Answer) -> Stepped
-    ensures { result ≡ stepped answer nums }
-{
-    Stepped { answer, nums }
-}
-
 // One call.
-pub fn step(
-    nums: Numbers,
-    call: Call,
-    words: &mut [u64],
-    marks: &mut [u8],
-    mail: &mut [u64],
-    flags: &mut [u8],
-    rows: &mut [u64],
-    pages: &mut [u16],
-    frames: &mut [u8],
-    principals: &mut [u64],
-    counts: &mut [u16],
-    cells: &mut [u64],
-    tags: &mut [u8],
-) -> Stepped
-    ensures { OnFormed (arrays nums words.old marks.old mail.old flags.old rows.old pages.old frames.old principals.old counts.old) cells.old tags.old (leaving result.answer (arrays result.nums words.new marks.new mail.new flags.new rows.new pages.new frames.new principals.new counts.new) cells.new tags.new ≡ ruled_on (arrays nums words.old marks.old mail.old flags.old rows.old pages.old frames.old principals.old counts.old) call cells.old tags.old) }
+pub fn step(machine: &mut Machine<'_>, call: Call) -> Answer
+    ensures lists { SameLists machine.new machine.old }
+    ensures ruled { OnFormed (held machine.old) machine.old.cells.now machine.old.tags.now (left_in result machine.new ≡ ruled_on (held machine.old) call machine.old.cells.now machine.old.tags.now) }
 {
+    // One by one: where a call only reads a list, lending it and another straight from the machine has no rule.
+    let nums = &mut machine.nums;
+    let words = &mut *machine.words;
+    let marks = &mut *machine.marks;
+    let mail = &mut *machine.mail;
+    let flags = &mut *machine.flags;
+    let rows = &mut *machine.rows;
+    let pages = &mut *machine.pages;
+    let frames = &mut *machine.frames;
+    let principals = &mut *machine.principals;
+    let counts = &mut *machine.counts;
+    let cells = &mut *machine.cells;
+    let tags = &mut *machine.tags;
     match call {
-        Call::Take { party, base, reg } => take(nums, rows, words, marks, party, base, reg, PLAIN),
-        Call::Split { party, base, len } => split(nums, rows, party, base, len),
-        Call::Merge { party, base } => merge(nums, rows, party, base),
-        Call::Give { party, base, to } => on(nums, give(nums.count, rows, party, base, to)),
-        Call::Revoke { party, base } => revoke(nums, rows, pages, party, base),
-        Call::Sweep { party, n } => sweep(nums, frames, party, n, cells, tags),
-        Call::Collect { party } => collect(nums, rows, pages, words, marks, mail, flags, party),
-        Call::Map { party, page, frame } => on(nums, map(nums, pages, frames, party, page, frame)),
-        Call::Unmap { party, page } => on(nums, unmap(nums, pages, frames, counts, party, page)),
-        Call::Zero { party, frame } => on(nums, zero(nums.f, frames, party, frame, cells, tags)),
-        Call::Load { party, a, off, d } => {
-            let answer = load(words, marks, nums, pages, party, a, off, d, cells, tags);
-            on(nums, answer)
+        Call::Take { party, base, reg } => {
+            Answer::from(take(nums.count, rows, words, marks, party, base, reg, PLAIN))
         }
-        Call::Store { party, a, off, s } => {
-            let answer = store(words, marks, nums, pages, party, a, off, s, cells, tags);
-            on(nums, answer)
+        Call::Split { party, base, len } => {
+            Answer::from(split(&mut nums.count, rows, party, base, len))
         }
+        Call::Merge { party, base } => Answer::from(merge(&mut nums.count, rows, party, base)),
+        Call::Give { party, base, to } => Answer::from(give(nums.count, rows, party, base, to)),
+        Call::Revoke { party, base } => Answer::from(revoke(nums, rows, pages, party, base)),
+        Call::Sweep { party, n } => Answer::from(sweep(nums, frames, party, n, cells, tags)),
+        Call::Collect { party } => Answer::from(collect(
+            nums, rows, pages, words, marks, mail, flags, party,
+        )),
+        Call::Map { party, page, frame } => {
+            Answer::from(map(*nums, pages, frames, party, page, frame))
+        }
+        Call::Unmap { party, page } => {
+            Answer::from(unmap(*nums, pages, frames, counts, party, page))
+        }
+        Call::Zero { party, frame } => {
+            Answer::from(zero(nums.f, frames, party, frame, cells, tags))
+        }
+        Call::Load { party, a, off, d } => Answer::from(load(
+            words, marks, *nums, pages, party, a, off, d, cells, tags,
+        )),
+        Call::Store { party, a, off, s } => Answer::from(store(
+            words, marks, *nums, pages, party, a, off, s, cells, tags,
+        )),
         Call::Narrow {
             party,
             s,
@@ -77,88 +78,54 @@ pub fn step(
             len,
             mask,
             d,
-        } => on(nums, narrow(words, marks, party, s, off, len, mask, d)),
-        Call::Number { party, d, value } => on(nums, number(words, marks, party, d, value)),
-        Call::Grant { party, s, to } => on(nums, grant(words, marks, mail, flags, party, s, to)),
-        Call::Receive { party, d } => on(nums, receive(words, marks, mail, flags, party, d)),
+        } => Answer::from(narrow(words, marks, party, s, off, len, mask, d)),
+        Call::Number { party, d, value } => Answer::from(number(words, marks, party, d, value)),
+        Call::Grant { party, s, to } => {
+            Answer::from(grant(words, marks, mail, flags, party, s, to))
+        }
+        Call::Receive { party, d } => Answer::from(receive(words, marks, mail, flags, party, d)),
         Call::TakeMasked {
             party,
             base,
             reg,
             mask,
-        } => take(nums, rows, words, marks, party, base, reg, mask),
+        } => Answer::from(take(nums.count, rows, words, marks, party, base, reg, mask)),
         Call::Create {
             party,
             parent,
             child,
             limit,
             holder,
-        } => {
-            let answer = create(principals, party, parent, child, limit, holder);
-            on(nums, answer)
-        }
+        } => Answer::from(create(principals, party, parent, child, limit, holder)),
         Call::Claim {
             party,
             principal,
             page,
-        } => {
-            let answer = claim(nums.v, principals, counts, party, principal, page);
-            on(nums, answer)
-        }
+        } => Answer::from(claim(nums.v, principals, counts, party, principal, page)),
         Call::Release {
             party,
             principal,
             page,
-        } => {
-            let answer = release(nums.v, principals, counts, party, principal, page);
-            on(nums, answer)
-        }
+        } => Answer::from(release(nums.v, principals, counts, party, principal, page)),
         Call::Destroy { party, principal } => {
-            on(nums, destroy(principals, counts, party, principal))
+            Answer::from(destroy(principals, counts, party, principal))
         }
     }
 }
 
 // The command at a place of the input.
-pub fn command(
-    nums: Numbers,
-    input: &[u8],
-    at: usize,
-    words: &mut [u64],
-    marks: &mut [u8],
-    mail: &mut [u64],
-    flags: &mut [u8],
-    rows: &mut [u64],
-    pages: &mut [u16],
-    frames: &mut [u8],
-    principals: &mut [u64],
-    counts: &mut [u16],
-    cells: &mut [u64],
-    tags: &mut [u8],
-) -> Ended
-    ensures { OnFormed (arrays nums words.old marks.old mail.old flags.old rows.old pages.old frames.old principals.old counts.old) cells.old tags.old (ran_on (leaving result.answer (arrays result.nums words.new marks.new mail.new flags.new rows.new pages.new frames.new principals.new counts.new) cells.new tags.new) result.used ≡ command_judged_on (arrays nums words.old marks.old mail.old flags.old rows.old pages.old frames.old principals.old counts.old) input.now at cells.old tags.old) }
+pub fn command(machine: &mut Machine<'_>, input: &[u8], at: usize) -> Ended
+    ensures lists { SameLists machine.new machine.old }
+    ensures judged { OnFormed (held machine.old) machine.old.cells.now machine.old.tags.now (ran_on (left_in result.answer machine.new) result.used ≡ command_judged_on (held machine.old) input.now at machine.old.cells.now machine.old.tags.now) }
 {
     match read_at(input, at) {
-        Reading::Read { call, used } => {
-            let done = step(
-                nums, call, words, marks, mail, flags, rows, pages, frames, principals, counts,
-                cells, tags,
-            );
-            let next = done.nums;
-            let answer = done.answer;
-            Ended {
-                answer,
-                nums: next,
-                used,
-            }
-        }
-        Reading::Refused => {
-            let answer = coded(3);
-            Ended {
-                answer,
-                nums,
-                used: 0,
-            }
-        }
+        Some((call, used)) => Ended {
+            answer: step(machine, call),
+            used,
+        },
+        None => Ended {
+            answer: Answer::refused(Refusal::Command),
+            used: 0,
+        },
     }
 }

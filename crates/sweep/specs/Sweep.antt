@@ -1,6 +1,8 @@
 -- Command 06 over lent memory. Assumes nothing.
-use Rattle.std.specs.Prelude.{ℕ, ◌+◌, ◌-◌, ◌*◌, ◌/◌, min, Bool, ◌&&◌, List, length, get_or, leb, ltb}
+use Rattle.std.specs.Prelude.{ℕ, ◌+◌, ◌-◌, ◌*◌, ◌/◌, min, Bool, ◌&&◌, List, length, get_or, leb, ltb, Result, Ok, Err}
 use Rattle.capabilities.specs.declared.Range.{Range}
+use Rattle.capabilities.specs.declared.refusal.Refusal.{Refusal}
+use Rattle.capabilities.specs.Refusals.{number_of}
 use Rattle.capabilities.specs.Death.{dies}
 use Rattle.capabilities.specs.Lists.{pick, map_each}
 use Rattle.pages.specs.Pages.{Pages}
@@ -33,19 +35,30 @@ swept_tag frames r from upto cells i t =
 unfoldable pub swept_tags : List FrameEntry → Range → ℕ → ℕ → List ℕ → List ℕ → List ℕ
 swept_tags frames r from upto cells tags = map_each (swept_tag frames r from upto cells) 0 tags
 
--- What a sweep answers, together with the tags after it.
+-- What a sweep answers: 0 or the refusal's number, the cells left and the place reached.
+pub record Answer : Type 0 where
+  pub code : ℕ
+  pub left : ℕ
+  pub place : ℕ
+
+-- The same, together with the tags after it.
 pub record Passed : Type 0 where
-  pub answer : Swept
+  pub answer : Answer
   pub tags : List ℕ
 
-abbrev pub swept : ℕ → ℕ → ℕ → Swept
+abbrev pub swept : ℕ → ℕ → ℕ → Answer
 swept code left place = record { code = code; left = left; place = place }
 
-abbrev pub passing : Swept → List ℕ → Passed
+abbrev pub passing : Answer → List ℕ → Passed
 passing answer tags = record { answer = answer; tags = tags }
 
+-- The answer that a result says; refused, no cells are left and the place is as it was.
+abbrev pub answered : Result Swept Refusal → ℕ → Answer
+answered (Ok s) place = swept 0 s.left s.place
+answered (Err refusal) place = swept (number_of refusal) 0 place
+
 -- The place that a granted sweep of n cells reaches; and it "answers the cells left".
-abbrev pub swept_from : Pages → ℕ → ℕ → Swept
+abbrev pub swept_from : Pages → ℕ → ℕ → Answer
 swept_from s place n = swept 0 (cells_left s (reached s place n)) (reached s place n)
 
 -- The sweep over lent memory, of which one of another size is refusal 2.

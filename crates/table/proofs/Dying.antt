@@ -1,4 +1,5 @@
 -- The Revoking reservations of a table, as a list; what the search for one finds is its first. Assumes nothing.
+use Rattle.std.specs.Prelude.{Option, Some, None}
 use Prim.Native.Nat.{ℕ, suc, ◌+◌, ◌<◌}
 use native.Mathlib.Nat.{add-zero, zero-add}
 use native.Mathlib.Omega.{arith}
@@ -10,8 +11,6 @@ use Rattle.capabilities.specs.Lists.{pick}
 use Rattle.capabilities.proofs.Choice.{pick_yes, pick_no}
 use Rattle.table.specs.declared.Reservation.{Reservation}
 use Rattle.table.specs.Table.{Table}
-use Rattle.table.specs.declared.Found.{Found}
-use Rattle.table.specs.declared.Found.TheVariants.{At, Nowhere}
 use Rattle.table.specs.Rows.{is_revoking, blank, live}
 use Rattle.table.specs.Find.{seek, missing, revoking_of, row_of}
 use Rattle.table.specs.Tiling.{revokings}
@@ -36,16 +35,16 @@ first_of (r ∷ l) = r
 abbrev P : Reservation → Bool
 P r = is_revoking r.state
 
-abbrev row_by : (ℕ → Reservation) → Found → Reservation
-row_by rows (At i) = rows i
-row_by rows Nowhere = blank
+abbrev row_by : (ℕ → Reservation) → Option ℕ → Reservation
+row_by rows (Some i) = rows i
+row_by rows None = blank
 
 seek_first : (rows : ℕ → Reservation) (k : ℕ) (l : List Reservation) → ((j : ℕ) → j < length l → rows (k + j) ≡ get_or l j blank) → row_by rows (seek P k l) ≡ first_of (dyings l)
 unfolding seek dyings
 seek_first rows k [] f = refl
 seek_first rows k (r ∷ l) f = go (P r) refl (seek_first rows (suc k) l)
   where
-    go : (b : Bool) → P r ≡ b → (((j : ℕ) → j < length l → rows (suc k + j) ≡ get_or l j blank) → row_by rows (seek P (suc k) l) ≡ first_of (dyings l)) → row_by rows (pick (P r) (At k) (seek P (suc k) l)) ≡ first_of (pick (P r) (r ∷ dyings l) (dyings l))
+    go : (b : Bool) → P r ≡ b → (((j : ℕ) → j < length l → rows (suc k + j) ≡ get_or l j blank) → row_by rows (seek P (suc k) l) ≡ first_of (dyings l)) → row_by rows (pick (P r) (Some k) (seek P (suc k) l)) ≡ first_of (pick (P r) (r ∷ dyings l) (dyings l))
     go true e g = rw e (ap rows (sym (add-zero k)) ∙ f 0 (omega arith))
     go false e g = rw e (g (λ j h. ap rows (let n : suc k + j ≡ k + suc j = omega arith in n) ∙ f (suc j) (omega arith)))
 
@@ -54,14 +53,14 @@ unfolding seek dyings
 seek_none k [] = refl
 seek_none k (r ∷ l) = go (P r) refl (seek_none (suc k) l)
   where
-    go : (b : Bool) → P r ≡ b → missing (seek P (suc k) l) ≡ none (dyings l) → missing (pick (P r) (At k) (seek P (suc k) l)) ≡ none (pick (P r) (r ∷ dyings l) (dyings l))
+    go : (b : Bool) → P r ≡ b → missing (seek P (suc k) l) ≡ none (dyings l) → missing (pick (P r) (Some k) (seek P (suc k) l)) ≡ none (pick (P r) (r ∷ dyings l) (dyings l))
     go true e g = rw e refl
     go false e g = rw e g
 
-row_by_lem : (t : Table) (f : Found) → row_of t f ≡ row_by (λ i. get_or t.rows i blank) f
+row_by_lem : (t : Table) (f : Option ℕ) → row_of t f ≡ row_by (λ i. get_or t.rows i blank) f
 unfolding row_of
-row_by_lem t (At i) = refl
-row_by_lem t Nowhere = refl
+row_by_lem t (Some i) = refl
+row_by_lem t None = refl
 
 -- The Revoking row of a table is the first of its Revoking ones; it has none if there is none.
 pub revoking_row_lem : (t : Table) → row_of t (revoking_of t) ≡ first_of (dyings (live t))

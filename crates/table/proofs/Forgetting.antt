@@ -1,5 +1,6 @@
 -- No rule of the table looks at a taker but to write one. So a search finds the same row, the same reasons apply, and what an operation
 -- makes of a table without takers is, its own taker forgotten, what it makes of the table. Assumes nothing.
+use Rattle.std.specs.Prelude.{Option, Some, None}
 use Prim.Native.Nat.{ℕ, suc, ◌+◌, ◌-◌, ◌≤◌}
 use mathlib.Core.Bool.{Bool, true, false, not, ◌&&◌}
 use mathlib.Core.List.{List, [], ◌∷◌, ◌++◌, map}
@@ -10,8 +11,6 @@ use Rattle.capabilities.specs.Lists.{pick}
 use Rattle.capabilities.specs.Refusals.{Reason, reason, first}
 use Rattle.capabilities.proofs.Choice.{and_left, and_right}
 use Rattle.table.specs.declared.Reservation.{Reservation}
-use Rattle.table.specs.declared.Found.{Found}
-use Rattle.table.specs.declared.Found.TheVariants.{At, Nowhere}
 use Rattle.table.specs.Table.{Table}
 use Rattle.table.specs.Rows.{is_open, is_revoking, is_blank, held, blank, table, forget_row, forget_table, live, splice, spread, gather}
 use Rattle.table.specs.Lent.{spread_at}
@@ -50,7 +49,7 @@ live_forgets t = sym (map_take forget_row t.count t.rows)
 seek_forgets : (P : Reservation → Bool) → ((r : Reservation) → P (forget_row r) ≡ P r) → (i : ℕ) (l : List Reservation) → seek P i (map forget_row l) ≡ seek P i l
 unfolding seek
 seek_forgets P h i [] = refl
-seek_forgets P h i (r ∷ l) = ap (λ b. pick b (At i) (seek P (suc i) (map forget_row l))) (h r) ∙ ap (pick (P r) (At i)) (seek_forgets P h (suc i) l)
+seek_forgets P h i (r ∷ l) = ap (λ b. pick b (Some i) (seek P (suc i) (map forget_row l))) (h r) ∙ ap (pick (P r) (Some i)) (seek_forgets P h (suc i) l)
 
 -- What is found, and what stands there.
 module _ (t : Table) where
@@ -65,21 +64,21 @@ module _ (t : Table) where
   used_forgets : length (live (forget_table t)) ≡ length (live t)
   used_forgets = ap length (live_forgets t) ∙ length-map (live t) forget_row
 
-  next_forgets : (f : Found) → next_of (forget_table t) f ≡ next_of t f
+  next_forgets : (f : Option ℕ) → next_of (forget_table t) f ≡ next_of t f
   unfolding next_of
-  next_forgets (At i) = ap (λ n. pick (ltb (i + 1) n) (At (i + 1)) Nowhere) used_forgets
-  next_forgets Nowhere = refl
+  next_forgets (Some i) = ap (λ n. pick (ltb (i + 1) n) (Some (i + 1)) None) used_forgets
+  next_forgets None = refl
 
-  pub row_forgets : (f : Found) → row_of (forget_table t) f ≡ forget_row (row_of t f)
+  pub row_forgets : (f : Option ℕ) → row_of (forget_table t) f ≡ forget_row (row_of t f)
   unfolding row_of
-  row_forgets (At i) = get_or-map forget_row t.rows i blank
-  row_forgets Nowhere = refl
+  row_forgets (Some i) = get_or-map forget_row t.rows i blank
+  row_forgets None = refl
 
   -- One row put in place of another, one row more, one row less.
-  put_forgets : (f : Found) (r : Reservation) → forget_table (with_row t f r) ≡ with_row (forget_table t) f (forget_row r)
+  put_forgets : (f : Option ℕ) (r : Reservation) → forget_table (with_row t f r) ≡ with_row (forget_table t) f (forget_row r)
   unfolding with_row
-  put_forgets (At i) r = ap (λ l. table l t.count) (map_set forget_row t.rows i r)
-  put_forgets Nowhere r = refl
+  put_forgets (Some i) r = ap (λ l. table l t.count) (map_set forget_row t.rows i r)
+  put_forgets None r = refl
 
   spread_forgets : (i : ℕ) (a b : Reservation) → forget_table (spread t i a b) ≡ spread (forget_table t) i (forget_row a) (forget_row b)
   unfolding spread spread_at live
@@ -116,7 +115,7 @@ module _ (t : Table) where
       ap (λ f. split_reasons_at (forget_table t) f len) (find_forgets t party base)
       ∙ ap (λ r. reason 6 (missing (find_of t party base)) ∷ reason 7 (not (is_open r.state)) ∷ reason 8 (bad_split r len) ∷ reason 9 (full t) ∷ []) (row_forgets t (find_of t party base))
 
-  mergeable_forgets : (f : Found) (party : ℕ) → mergeable (forget_table t) f party ≡ mergeable t f party
+  mergeable_forgets : (f : Option ℕ) (party : ℕ) → mergeable (forget_table t) f party ≡ mergeable t f party
   unfolding mergeable
   mergeable_forgets f party =
       let bare = forget_table t in
@@ -131,7 +130,7 @@ module _ (t : Table) where
 
   -- What the operations leave. First a row made of the one that stood there, by a rule that writes a taker at most.
   pub put_by :
-      (g : Reservation → Reservation) → ((r : Reservation) → forget_row (g (forget_row r)) ≡ forget_row (g r)) → (e f : Found) → e ≡ f
+      (g : Reservation → Reservation) → ((r : Reservation) → forget_row (g (forget_row r)) ≡ forget_row (g r)) → (e f : Option ℕ) → e ≡ f
       → forget_table (with_row (forget_table t) e (g (row_of (forget_table t) e))) ≡ forget_table (with_row t f (g (row_of t f)))
   put_by g h e f p =
       ap (λ x. forget_table (with_row (forget_table t) x (g (row_of (forget_table t) x)))) p
@@ -162,29 +161,29 @@ module _ (t : Table) where
       (put_by (λ r. given_row r to) (λ r. refl) (find_of (forget_table t) party base) (find_of t party base) (find_forgets t party base))
       (table_twice t)
 
-  split_at_forgets : (f : Found) (len : ℕ) → forget_table (split_at (forget_table t) f len) ≡ forget_table (split_at t f len)
+  split_at_forgets : (f : Option ℕ) (len : ℕ) → forget_table (split_at (forget_table t) f len) ≡ forget_table (split_at t f len)
   unfolding split_at
-  split_at_forgets (At i) len =
-      let r = row_of (forget_table t) (At i) in
+  split_at_forgets (Some i) len =
+      let r = row_of (forget_table t) (Some i) in
       spread_forgets (forget_table t) i (lower_part r len) (upper_part r len)
       ∙ ap (λ u. spread u i (forget_row (lower_part r len)) (forget_row (upper_part r len))) (table_twice t)
-      ∙ ap (λ x. spread (forget_table t) i (forget_row (lower_part x len)) (forget_row (upper_part x len))) (row_forgets t (At i))
-      ∙ sym (spread_forgets t i (lower_part (row_of t (At i)) len) (upper_part (row_of t (At i)) len))
-  split_at_forgets Nowhere len = table_twice t
+      ∙ ap (λ x. spread (forget_table t) i (forget_row (lower_part x len)) (forget_row (upper_part x len))) (row_forgets t (Some i))
+      ∙ sym (spread_forgets t i (lower_part (row_of t (Some i)) len) (upper_part (row_of t (Some i)) len))
+  split_at_forgets None len = table_twice t
 
-  merge_at_forgets : (f : Found) → forget_table (merge_at (forget_table t) f) ≡ forget_table (merge_at t f)
+  merge_at_forgets : (f : Option ℕ) → forget_table (merge_at (forget_table t) f) ≡ forget_table (merge_at t f)
   unfolding merge_at
-  merge_at_forgets (At i) =
+  merge_at_forgets (Some i) =
       let bare = forget_table t in
-      let r = row_of bare (At i) in
-      let g = next_of t (At i) in
-      ap (λ h. forget_table (gather bare i (joined r (row_of bare h)))) (next_forgets t (At i))
+      let r = row_of bare (Some i) in
+      let g = next_of t (Some i) in
+      ap (λ h. forget_table (gather bare i (joined r (row_of bare h)))) (next_forgets t (Some i))
       ∙ gather_forgets bare i (joined r (row_of bare g))
       ∙ ap (λ u. gather u i (forget_row (joined r (row_of bare g)))) (table_twice t)
-      ∙ ap (λ x. gather bare i (forget_row (joined x (row_of bare g)))) (row_forgets t (At i))
-      ∙ ap (λ x. gather bare i (forget_row (joined (row_of t (At i)) x))) (row_forgets t g)
-      ∙ sym (gather_forgets t i (joined (row_of t (At i)) (row_of t g)))
-  merge_at_forgets Nowhere = table_twice t
+      ∙ ap (λ x. gather bare i (forget_row (joined x (row_of bare g)))) (row_forgets t (Some i))
+      ∙ ap (λ x. gather bare i (forget_row (joined (row_of t (Some i)) x))) (row_forgets t g)
+      ∙ sym (gather_forgets t i (joined (row_of t (Some i)) (row_of t g)))
+  merge_at_forgets None = table_twice t
 
   pub split_forgets : (party base len : ℕ) → forget_table (split_of (forget_table t) party base len).table ≡ forget_table (split_of t party base len).table
   unfolding split_of

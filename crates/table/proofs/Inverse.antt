@@ -1,4 +1,5 @@
 -- Merge takes back what split did, and split what a merge of two Open ones did, to the bit. Assumes nothing.
+use Rattle.std.specs.Prelude.{Option, Some, None}
 use Prim.Native.Nat.{ℕ, suc, ◌+◌, ◌-◌, ◌<◌}
 use native.Mathlib.Numerals.{add-one}
 use native.Mathlib.Omega.{arith}
@@ -16,8 +17,6 @@ use Rattle.table.specs.declared.Reservation.{Reservation}
 use Rattle.table.specs.declared.ReservationState.{ReservationState}
 use Rattle.table.specs.declared.ReservationState.TheVariants.{Open, Taken, Revoking}
 use Rattle.table.specs.Table.{Table}
-use Rattle.table.specs.declared.Found.{Found}
-use Rattle.table.specs.declared.Found.TheVariants.{At, Nowhere}
 use Rattle.table.specs.Rows.{is_open, is_blank, held, live, table, blank, splice, spread, gather}
 use Rattle.table.specs.Find.{seek, row_of, find_of, begins, next_of, missing}
 use Rattle.table.specs.Tiling.{all_blank, table_sound, taker_sound, takers_sound}
@@ -26,7 +25,7 @@ use Rattle.table.specs.Operations.{alike, joined, mergeable, merge_reasons_at, m
 use Rattle.table.specs.Promises.{table_done, MergeAfterSplit, SplitAfterMerge}
 use Rattle.table.proofs.Truth.{both, or_right}
 use Rattle.table.proofs.Finding.{found_at, seek_same, next_at, next_below}
-use Rattle.table.proofs.Walking.{blank_more}
+use Rattle.table.proofs.Tiled.{blank_more}
 use Rattle.table.proofs.Answers.{Splits, split_clear, merge_clear, merge_next}
 use Rattle.table.proofs.Tiled.{tiled_some, tiled_next, tiled_fits}
 use Rattle.table.proofs.Sound.{Sound, sound, live_made, rows_parts}
@@ -150,37 +149,37 @@ done_is : (code : ℕ) (before after : Table) → code ≡ 0 → tabled code bef
 done_is code before after e = rw e
 
 -- What is found and not refused is granted.
-merge_granted : (t : Table) (party base i : ℕ) → find_of t party base ≡ At i → mergeable t (At i) party ≡ true → merge_of t party base ≡ table_done (merge_at t (At i))
+merge_granted : (t : Table) (party base i : ℕ) → find_of t party base ≡ Some i → mergeable t (Some i) party ≡ true → merge_of t party base ≡ table_done (merge_at t (Some i))
 unfolding merge_of merge_reasons merge_reasons_at first
 merge_granted t party base i e m =
     ap (λ f. tabled (first (merge_reasons_at t f party)) t (merge_at t f)) e
-    ∙ done_is (pick (not (mergeable t (At i) party)) 7 0) t (merge_at t (At i)) (ap (λ b. pick (not b) 7 0) m)
+    ∙ done_is (pick (not (mergeable t (Some i) party)) 7 0) t (merge_at t (Some i)) (ap (λ b. pick (not b) 7 0) m)
 
-split_granted : (t : Table) (party base len i : ℕ) → find_of t party base ≡ At i → Splits t (At i) len → split_of t party base len ≡ table_done (split_at t (At i) len)
+split_granted : (t : Table) (party base len i : ℕ) → find_of t party base ≡ Some i → Splits t (Some i) len → split_of t party base len ≡ table_done (split_at t (Some i) len)
 unfolding split_of split_reasons split_reasons_at first
 split_granted t party base len i e k =
     ap (λ f. tabled (first (split_reasons_at t f len)) t (split_at t f len)) e
-    ∙ done_is (first (split_reasons_at t (At i) len)) t (split_at t (At i) len)
-    (ap (λ b. pick (not b) 7 (pick (bad_split (row_of t (At i)) len) 8 (pick (full t) 9 0))) k.isopen
+    ∙ done_is (first (split_reasons_at t (Some i) len)) t (split_at t (Some i) len)
+    (ap (λ b. pick (not b) 7 (pick (bad_split (row_of t (Some i)) len) 8 (pick (full t) 9 0))) k.isopen
     ∙ ap (λ b. pick b 8 (pick (full t) 9 0)) k.fits ∙ ap (λ b. pick b 9 0) k.room)
 
 -- In a table whose rows in use are pre, y and others, what was found at y's place is found there again.
-found_again : (t u : Table) (party base i : ℕ) (xs ys : List Reservation) (y : Reservation) → i < length (live t) → find_of t party base ≡ At i → live t ≡ take i (live t) ++ get_or (live t) i blank ∷ xs → live u ≡ take i (live t) ++ y ∷ ys → begins party base y ≡ true → find_of u party base ≡ At i
+found_again : (t u : Table) (party base i : ℕ) (xs ys : List Reservation) (y : Reservation) → i < length (live t) → find_of t party base ≡ Some i → live t ≡ take i (live t) ++ get_or (live t) i blank ∷ xs → live u ≡ take i (live t) ++ y ∷ ys → begins party base y ≡ true → find_of u party base ≡ Some i
 unfolding find_of
 found_again t u party base i xs ys y h e cut now p =
     let n : 0 + length (take i (live t)) ≡ i = omega (arith, length-take-le i (live t) (omega arith)) in
     let P = begins party base in
     ap (seek P 0) now
-    ∙ seek_same P 0 (take i (live t)) (get_or (live t) i blank) y xs ys p (sym (ap (seek P 0) cut) ∙ e ∙ ap At (sym n))
-    ∙ ap At n
+    ∙ seek_same P 0 (take i (live t)) (get_or (live t) i blank) y xs ys p (sym (ap (seek P 0) cut) ∙ e ∙ ap Some (sym n))
+    ∙ ap Some n
 
-row_again : (t u : Table) (i : ℕ) (ys : List Reservation) (y : Reservation) → i < length (live t) → live u ≡ take i (live t) ++ y ∷ ys → row_of u (At i) ≡ y
+row_again : (t u : Table) (i : ℕ) (ys : List Reservation) (y : Reservation) → i < length (live t) → live u ≡ take i (live t) ++ y ∷ ys → row_of u (Some i) ≡ y
 row_again t u i ys y h now =
     let n = length-take-le i (live t) (omega arith) in
     let k : length (live u) ≡ i + suc (length ys) = ap length now ∙ length-append (take i (live t)) (y ∷ ys) ∙ ap (λ m. m + suc (length ys)) n in
     row_live u i (omega arith) ∙ ap (λ m. get_or m i blank) now ∙ get_or_at (take i (live t)) y ys blank i n
 
-next_again : (t u : Table) (i : ℕ) (ys : List Reservation) (x y : Reservation) → i < length (live t) → live u ≡ take i (live t) ++ x ∷ y ∷ ys → (next_of u (At i) ≡ At (i + 1)) × (row_of u (At (i + 1)) ≡ y)
+next_again : (t u : Table) (i : ℕ) (ys : List Reservation) (x y : Reservation) → i < length (live t) → live u ≡ take i (live t) ++ x ∷ y ∷ ys → (next_of u (Some i) ≡ Some (i + 1)) × (row_of u (Some (i + 1)) ≡ y)
 next_again t u i ys x y h now =
     let n = length-take-le i (live t) (omega arith) in
     let k : length (live u) ≡ i + suc (suc (length ys)) = ap length now ∙ length-append (take i (live t)) (x ∷ y ∷ ys) ∙ ap (λ m. m + suc (suc (length ys))) n in (
@@ -195,7 +194,7 @@ rejoined r len n o k e =
     same_row (joined (lower_part r len) (upper_part r len)) r refl (omega arith) (sym (open_is r.state o)) refl (sym (open_taker r o k))
 
 module _ (cells : ℕ) (t : Table) (ok : table_sound cells t ≡ true) (takers : takers_sound (live t) ≡ true) (fits : cells < 65536) (party base : ℕ) where
-  merge_split_at : (len i : ℕ) → find_of t party base ≡ At i → Splits t (At i) len → merge_of (split_at t (At i) len) party base ≡ table_done t
+  merge_split_at : (len i : ℕ) → find_of t party base ≡ Some i → Splits t (Some i) len → merge_of (split_at t (Some i) len) party base ≡ table_done t
   unfolding split_at mergeable merge_at
   merge_split_at len i e k =
       let s = sound cells t ok in
@@ -216,14 +215,14 @@ module _ (cells : ℕ) (t : Table) (ok : table_sound cells t ≡ true) (takers :
       let fit : bad_split r len ≡ false = sym (ap (λ x. bad_split x len) row) ∙ k.fits in
       let short : r.length < 65536 = omega (arith, tiled_fits cells (live t) 0 i s.tiled h) in
       let holds : held up party ≡ true = and_right (eqb r.base base) (held r party) found.1 in
-      let may : mergeable u (At i) party ≡ true =
-      ap (λ f. not (missing f) && (held (row_of u f) party && alike (row_of u (At i)).state (row_of u f).state)) next.0
-      ∙ ap (λ x. held x party && alike (row_of u (At i)).state x.state) next.1
+      let may : mergeable u (Some i) party ≡ true =
+      ap (λ f. not (missing f) && (held (row_of u f) party && alike (row_of u (Some i)).state (row_of u f).state)) next.0
+      ∙ ap (λ x. held x party && alike (row_of u (Some i)).state x.state) next.1
       ∙ ap (λ x. held up party && alike x.state Open) low ∙ both (held up party) true holds refl in
       ap (λ x. merge_of (spread t i (lower_part x len) (upper_part x len)) party base) row
       ∙ merge_granted u party base i again may
       ∙ ap table_done
-      (ap (λ x. gather u i (joined x (row_of u (next_of u (At i))))) low ∙ ap (λ x. gather u i (joined lo x)) high
+      (ap (λ x. gather u i (joined x (row_of u (next_of u (Some i))))) low ∙ ap (λ x. gather u i (joined lo x)) high
       ∙ ap (gather u i) (rejoined r len short still (takers_row (live t) i takers h) fit)
       ∙ gather_spread cells t s i h lo up (leb-false 64 t.count k.room))
 
@@ -233,19 +232,19 @@ module _ (cells : ℕ) (t : Table) (ok : table_sound cells t ≡ true) (takers :
       ap (λ u. merge_of u party base) (ap (λ a. a.table) (done_is (first (split_reasons_at t (find_of t party base) len)) t (split_at t (find_of t party base) len) z))
       ∙ go (find_of t party base) refl (split_clear t (find_of t party base) len z)
     where
-      go : (f : Found) → find_of t party base ≡ f → Splits t f len → merge_of (split_at t f len) party base ≡ table_done t
-      go (At i) e k = merge_split_at len i e k
-      go Nowhere e k = absurd (true≢false k.found)
+      go : (f : Option ℕ) → find_of t party base ≡ f → Splits t f len → merge_of (split_at t f len) party base ≡ table_done t
+      go (Some i) e k = merge_split_at len i e k
+      go None e k = absurd (true≢false k.found)
 
   -- Split after merge of what split made gives back what split made.
   pub split_merge_split : (len : ℕ) → (split_of t party base len).code ≡ 0 → split_of (merge_of (split_of t party base len).table party base).table party base len ≡ split_of t party base len
   split_merge_split len z = ap (λ a. split_of a.table party base len) (undone len z)
 
-  split_merge_at : (i : ℕ) → find_of t party base ≡ At i → mergeable t (At i) party ≡ true → is_open (row_of t (At i)).state ≡ true → split_of (merge_at t (At i)) party base (row_of t (At i)).length ≡ table_done t
+  split_merge_at : (i : ℕ) → find_of t party base ≡ Some i → mergeable t (Some i) party ≡ true → is_open (row_of t (Some i)).state ≡ true → split_of (merge_at t (Some i)) party base (row_of t (Some i)).length ≡ table_done t
   unfolding split_at mergeable merge_at
   split_merge_at i e m o =
       let w = sound cells t ok in
-      let b = next_below t i (merge_next t (At i) party m) in
+      let b = next_below t i (merge_next t (Some i) party m) in
       let found = found_at (begins party base) (live t) i blank (unfold find_of in e) in
       let h = found.0 in
       let r = get_or (live t) i blank in
@@ -264,11 +263,11 @@ module _ (cells : ℕ) (t : Table) (ok : table_sound cells t ≡ true) (takers :
       let some = tiled_some cells (live t) 0 i w.tiled h in
       let more = tiled_some cells (live t) 0 (i + 1) w.tiled b in
       let open-r : is_open r.state ≡ true = sym (ap (λ x. is_open x.state) row) ∙ o in
-      let rest = and_right (not (missing (next_of t (At i)))) (held (row_of t (next_of t (At i))) party && alike (row_of t (At i)).state (row_of t (next_of t (At i))).state) m in
-      let both-held : held s party ≡ true = sym (ap (λ x. held x party) above) ∙ and_left (held (row_of t (next_of t (At i))) party) (alike (row_of t (At i)).state (row_of t (next_of t (At i))).state) rest in
+      let rest = and_right (not (missing (next_of t (Some i)))) (held (row_of t (next_of t (Some i))) party && alike (row_of t (Some i)).state (row_of t (next_of t (Some i))).state) m in
+      let both-held : held s party ≡ true = sym (ap (λ x. held x party) above) ∙ and_left (held (row_of t (next_of t (Some i))) party) (alike (row_of t (Some i)).state (row_of t (next_of t (Some i))).state) rest in
       let both-alike : alike r.state s.state ≡ true =
-      sym (ap (λ x. alike (row_of t (At i)).state x.state) above ∙ ap (λ x. alike x.state s.state) row)
-      ∙ and_right (held (row_of t (next_of t (At i))) party) (alike (row_of t (At i)).state (row_of t (next_of t (At i))).state) rest in
+      sym (ap (λ x. alike (row_of t (Some i)).state x.state) above ∙ ap (λ x. alike x.state s.state) row)
+      ∙ and_right (held (row_of t (next_of t (Some i))) party) (alike (row_of t (Some i)).state (row_of t (next_of t (Some i))).state) rest in
       let holder : r.holder ≡ s.holder = eqb-true r.holder party (and_right (eqb r.base base) (held r party) found.1) ∙ sym (eqb-true s.holder party both-held) in
       let open-s = both_open r.state s.state both-alike open-r in
       let lo : lower_part j r.length ≡ r = same_row (lower_part j r.length) r refl refl (sym (open_is r.state open-r)) refl (sym (open_taker r open-r (takers_row (live t) i takers h))) in
@@ -276,8 +275,8 @@ module _ (cells : ℕ) (t : Table) (ok : table_sound cells t ≡ true) (takers :
       let fit : bad_split j r.length ≡ false =
       ap (λ x. x || leb j.length r.length) (ne_eqb r.length 0 (λ z. omega arith)) ∙ lt-leb j.length r.length (omega arith) in
       let room : full u ≡ false = lt-leb 64 u.count (unfold gather in omega (arith, w)) in
-      let k : Splits u (At i) r.length = record { found = refl; isopen = ap (λ x. is_open x.state) here ∙ open-r; fits = ap (λ x. bad_split x r.length) here ∙ fit; room = room } in
-      ap (λ x. split_of (gather t i (joined x (row_of t (next_of t (At i))))) party base x.length) row
+      let k : Splits u (Some i) r.length = record { found = refl; isopen = ap (λ x. is_open x.state) here ∙ open-r; fits = ap (λ x. bad_split x r.length) here ∙ fit; room = room } in
+      ap (λ x. split_of (gather t i (joined x (row_of t (next_of t (Some i))))) party base x.length) row
       ∙ ap (λ x. split_of (gather t i (joined r x)) party base r.length) above
       ∙ split_granted u party base r.length i again k
       ∙ ap table_done
@@ -291,9 +290,9 @@ module _ (cells : ℕ) (t : Table) (ok : table_sound cells t ≡ true) (takers :
       ap (λ u. split_of u party base (row_of t (find_of t party base)).length) (ap (λ a. a.table) (done_is (first (merge_reasons_at t (find_of t party base) party)) t (merge_at t (find_of t party base)) z))
       ∙ go (find_of t party base) refl (merge_clear t (find_of t party base) party z) o
     where
-      go : (f : Found) → find_of t party base ≡ f → mergeable t f party ≡ true → is_open (row_of t f).state ≡ true → split_of (merge_at t f) party base (row_of t f).length ≡ table_done t
-      go (At i) e m p = split_merge_at i e m p
-      go Nowhere e m p = absurd (true≢false (merge_next t Nowhere party m))
+      go : (f : Option ℕ) → find_of t party base ≡ f → mergeable t f party ≡ true → is_open (row_of t f).state ≡ true → split_of (merge_at t f) party base (row_of t f).length ≡ table_done t
+      go (Some i) e m p = split_merge_at i e m p
+      go None e m p = absurd (true≢false (merge_next t None party m))
 
 pub merge_after_split : MergeAfterSplit
 merge_after_split cells t ok takers fits party base = undone cells t ok takers fits party base

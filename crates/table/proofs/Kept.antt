@@ -1,4 +1,5 @@
 -- Every operation on the table keeps it well formed. Assumes nothing.
+use Rattle.std.specs.Prelude.{Option, Some, None}
 use Prim.Native.Nat.{ℕ, suc, ◌+◌, ◌-◌, ◌%◌, ◌<◌, ◌≤◌}
 use native.Mathlib.Numerals.{add-one}
 use native.Mathlib.Omega.{arith}
@@ -16,8 +17,6 @@ use Rattle.table.specs.declared.Reservation.{Reservation}
 use Rattle.table.specs.declared.ReservationState.{ReservationState}
 use Rattle.table.specs.declared.ReservationState.TheVariants.{Open, Taken, Revoking}
 use Rattle.table.specs.Table.{Table}
-use Rattle.table.specs.declared.Found.{Found}
-use Rattle.table.specs.declared.Found.TheVariants.{At, Nowhere}
 use Rattle.table.specs.Rows.{is_open, is_revoking, is_blank, no_taker, live, table, blank, splice, spread, gather}
 use Rattle.table.specs.Find.{with_row, row_of, find_of, begins, next_of}
 use Rattle.table.specs.Tiling.{row_sound, tiles, all_blank, revokings, weight, table_sound}
@@ -28,7 +27,7 @@ use Rattle.table.proofs.Truth.{both, or_left, or_right, or_first}
 use Rattle.table.proofs.Moving.{live_at}
 use Rattle.table.proofs.Finding.{found_at, next_below, next_at}
 use Rattle.table.proofs.Answers.{Splits, open_clear, split_clear, merge_clear, merge_next}
-use Rattle.table.proofs.Walking.{blank_more}
+use Rattle.table.proofs.Tiled.{blank_more}
 use Rattle.table.proofs.Tiled.{tiles_begin, tiles_made, tiles_swap, revokings_append, revokings_first, row_some, row_holder, row_resized, row_open, tiled_row}
 use Rattle.table.proofs.Sound.{Sound, sound, made_sound, with_made}
 
@@ -50,7 +49,7 @@ module _ (cells : ℕ) (t : Table) (s : Sound cells t) (i : ℕ) where
   r = get_or l i blank
 
   -- A row is exchanged for one of the same range.
-  pub row_kept : (n : Reservation) → i < length l → n.base ≡ r.base → n.length ≡ r.length → row_sound n ≡ true → weight n + revokings l ≤ 1 + weight r → table_sound cells (with_row t (At i) n) ≡ true
+  pub row_kept : (n : Reservation) → i < length l → n.base ≡ r.base → n.length ≡ r.length → row_sound n ≡ true → weight n + revokings l ≤ 1 + weight r → table_sound cells (with_row t (Some i) n) ≡ true
   row_kept n h base size row w =
       let q = drop (i + 1) l in
       let cut : set l i n ≡ take i l ++ n ∷ q = rw (add-one i) (set_split l i n h) in
@@ -121,7 +120,7 @@ module _ (cells : ℕ) (fits : cells < 65536) where
       (subst (λ j. tiles j cells q ≡ true) size k.rest)
 
 -- A row that was found, and that is named with its table's rows or with those in use.
-pub row_live : (t : Table) (i : ℕ) → i < length (live t) → row_of t (At i) ≡ get_or (live t) i blank
+pub row_live : (t : Table) (i : ℕ) → i < length (live t) → row_of t (Some i) ≡ get_or (live t) i blank
 unfolding row_of
 row_live t i h = sym (live_at t i blank h)
 
@@ -149,8 +148,8 @@ module _ (cells : ℕ) (t : Table) (ok : table_sound cells t ≡ true) where
       go false e = ap (table_sound cells) (pick_no (eqb code 0) x t e) ∙ ok
 
   -- A found row becomes another of the same range, not Revoking.
-  with_kept : (party base : ℕ) (f : Found) (n : Reservation) → find_of t party base ≡ f → n.base ≡ (row_of t f).base → n.length ≡ (row_of t f).length → is_revoking n.state ≡ false → (row_sound (row_of t f) ≡ true → row_sound n ≡ true) → table_sound cells (with_row t f n) ≡ true
-  with_kept party base (At i) n e b k w row =
+  with_kept : (party base : ℕ) (f : Option ℕ) (n : Reservation) → find_of t party base ≡ f → n.base ≡ (row_of t f).base → n.length ≡ (row_of t f).length → is_revoking n.state ≡ false → (row_sound (row_of t f) ≡ true → row_sound n ≡ true) → table_sound cells (with_row t f n) ≡ true
+  with_kept party base (Some i) n e b k w row =
       let s = sound cells t ok in
       let h = (found_at (begins party base) (live t) i blank (unfold find_of in e)).0 in
       let r = row_live t i h in
@@ -158,11 +157,11 @@ module _ (cells : ℕ) (t : Table) (ok : table_sound cells t ≡ true) where
       row_kept cells t s i n h (b ∙ ap (λ x. x.base) r) (k ∙ ap (λ x. x.length) r)
       (row (ap row_sound r ∙ tiled_row cells (live t) 0 i s.tiled h))
       (omega (arith, s.single))
-  with_kept party base Nowhere n e b k w row = unfold with_row in ok
+  with_kept party base None n e b k w row = unfold with_row in ok
 
-  split_at_kept : cells < 65536 → (party base len : ℕ) (f : Found) → find_of t party base ≡ f → Splits t f len → table_sound cells (split_at t f len) ≡ true
+  split_at_kept : cells < 65536 → (party base len : ℕ) (f : Option ℕ) → find_of t party base ≡ f → Splits t f len → table_sound cells (split_at t f len) ≡ true
   unfolding split_at
-  split_at_kept fits party base len (At i) e k =
+  split_at_kept fits party base len (Some i) e k =
       let s = sound cells t ok in
       let h = (found_at (begins party base) (live t) i blank (unfold find_of in e)).0 in
       let r = get_or (live t) i blank in
@@ -171,20 +170,20 @@ module _ (cells : ℕ) (t : Table) (ok : table_sound cells t ≡ true) where
       let below = leb-false r.length len (or_right (eqb len 0) (leb r.length len) fit) in
       ap (λ x. table_sound cells (spread t i (lower_part x len) (upper_part x len))) (row_live t i h)
       ∙ spread_kept cells t s i (lower_part r len) (upper_part r len) h (leb-false 64 t.count k.room) (split_tiles cells fits r len (omega (arith, some)) below) (omega arith)
-  split_at_kept fits party base len Nowhere e k = ok
+  split_at_kept fits party base len None e k = ok
 
-  merge_at_kept : cells < 65536 → (party : ℕ) (f : Found) → mergeable t f party ≡ true → table_sound cells (merge_at t f) ≡ true
+  merge_at_kept : cells < 65536 → (party : ℕ) (f : Option ℕ) → mergeable t f party ≡ true → table_sound cells (merge_at t f) ≡ true
   unfolding merge_at
-  merge_at_kept fits party (At i) e =
+  merge_at_kept fits party (Some i) e =
       let s = sound cells t ok in
-      let h = next_below t i (merge_next t (At i) party e) in
+      let h = next_below t i (merge_next t (Some i) party e) in
       let r = get_or (live t) i blank in
       let q = get_or (live t) (i + 1) blank in
-      ap (λ x. table_sound cells (gather t i (joined x (row_of t (next_of t (At i)))))) (row_live t i (omega arith))
+      ap (λ x. table_sound cells (gather t i (joined x (row_of t (next_of t (Some i)))))) (row_live t i (omega arith))
       ∙ ap (λ f. table_sound cells (gather t i (joined r (row_of t f)))) (next_at t i h)
       ∙ ap (λ x. table_sound cells (gather t i (joined r x))) (row_live t (i + 1) h)
       ∙ gather_kept cells t s i (joined r q) h (join_tiles cells fits r q) (omega arith)
-  merge_at_kept fits party Nowhere e = ok
+  merge_at_kept fits party None e = ok
 
   -- 01 to 04, refused or granted.
   pub take_kept : (party base : ℕ) → table_sound cells (take_of t party base).table ≡ true

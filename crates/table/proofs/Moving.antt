@@ -38,9 +38,9 @@ module _ {A : Type 0} where
   raise_next (x ∷ l) (suc j) (suc n) d a b = ap (λ (r : List A). x ∷ r) (raise_next l j n d (omega arith) (omega arith))
 
   -- One turn of the loop that moves up.
-  pub raise_more : (l m o : List A) (k c j n : ℕ) (d : A) → m ≡ raised l k n → o ≡ set m k (get_or m c d) → c ≡ j → k ≡ suc j → j < n → n < length l → o ≡ raised l j n
-  raise_more l m o k c j n d before turn e f a b =
-      turn ∙ ap (λ r. set r k (get_or r c d)) before ∙ rw (e, f) (raise_next l j n d a b)
+  pub raise_more : (l m o : List A) (k w c j n : ℕ) (d : A) → m ≡ raised l k n → o ≡ set m w (get_or m c d) → c ≡ j → w ≡ suc j → k ≡ suc j → j < n → n < length l → o ≡ raised l j n
+  raise_more l m o k w c j n d before turn e f g a b =
+      turn ∙ ap (λ r. set r w (get_or r c d)) before ∙ rw (e, f, g) (raise_next l j n d a b)
 
   raise_end : (l : List A) (i n : ℕ) (x y : A) → i < n → n < length l → set (set (raised l (suc i) n) (suc i) y) i x ≡ (take i (take n l) ++ x ∷ y ∷ drop (suc i) (take n l)) ++ drop (suc n) l
   unfolding raised

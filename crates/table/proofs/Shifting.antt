@@ -1,10 +1,11 @@
 -- What the movers' loops leave is what the definitions say, and it reads as the table's own. Assumes nothing.
-use Prim.Native.Nat.{ℕ, zero, suc, ◌+◌, ◌-◌, ◌<◌, ◌≤◌}
+use Prim.Native.Nat.{ℕ, suc, ◌+◌, ◌-◌, ◌<◌, ◌≤◌}
 use native.Mathlib.Numerals.{add-one, add-two}
 use native.Mathlib.Omega.{arith}
 use mathlib.Core.List.{List, [], ◌∷◌, ◌++◌, map}
-use mathlib.Core.Path.{◌≡◌, refl, ap, ◌∙◌}
-use lib.ListN.{length, take, drop, set}
+use mathlib.Core.Path.{◌≡◌, ap, ◌∙◌}
+use lib.ListN.{length, take, drop, set, length-take}
+use Rattle.std.proofs.lemmas.List.{take_min}
 use Rattle.table.specs.declared.Reservation.{Reservation}
 use Rattle.table.specs.Rows.{live, splice, spread, gather, table, blank}
 use Rattle.table.proofs.Moving.{raise_put, lower_put}
@@ -33,11 +34,6 @@ module _ {A : Type 0} where
       ∙ rw (last, add-two i)
       (lower_put l a i j x b p (omega arith) h (omega arith)
       ∙ ap (λ c. (take i (take c l) ++ x ∷ drop (suc (suc i)) (take c l)) ++ b ∷ drop c l) c)
-
-  take_own : (n : ℕ) (l : List A) → take (length (take n l)) l ≡ take n l
-  take_own zero l = refl
-  take_own (suc n) [] = refl
-  take_own (suc n) (x ∷ l) = ap (λ (r : List A). x ∷ r) (take_own n l)
 
 module _ {A B : Type 0} (f : A → B) where
   pub map_splice : (i k : ℕ) (new l : List A) → map f (splice i k new l) ≡ splice i k (map f new) (map f l)
@@ -72,7 +68,7 @@ spread_reads l n i a b lower upper p q =
 
 own_live : (l : List ℕ) (count : ℕ) → take (length (live (table_of l count))) (map row_from l) ≡ live (table_of l count)
 unfolding live
-own_live l count = take_own count (map row_from l)
+own_live l count = ap (λ n. take n (map row_from l)) (length-take count (map row_from l)) ∙ take_min count (map row_from l)
 
 pub gather_reads : (l : List ℕ) (count n i a : ℕ) (joined : Reservation) → row_from a ≡ joined → n ≡ length (live (table_of l count)) → table_of (gather_at l n i a 0) (n - 1) ≡ gather (table_of l count) i joined
 unfolding gather gather_at

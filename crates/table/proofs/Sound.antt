@@ -1,4 +1,5 @@
 -- A well-formed table as plain facts, and a table made of its used and unused rows. Assumes nothing.
+use Rattle.std.specs.Prelude.{Some}
 use Prim.Native.Nat.{ℕ, ◌+◌, ◌<◌, ◌≤◌}
 use native.Mathlib.Omega.{arith}
 use mathlib.Core.Bool.{Bool, true, ◌&&◌}
@@ -11,7 +12,6 @@ use lib.Seq.{take-append_seam, drop-append_seam, set-append_left}
 use Rattle.capabilities.proofs.Choice.{and_left, and_right}
 use Rattle.table.specs.declared.Reservation.{Reservation}
 use Rattle.table.specs.Table.{Table}
-use Rattle.table.specs.declared.Found.TheVariants.{At}
 use Rattle.table.specs.Rows.{live, table}
 use Rattle.table.specs.Find.{with_row}
 use Rattle.table.specs.Tiling.{tiles, all_blank, revokings, sized, table_sound}
@@ -82,7 +82,7 @@ unfolding live
 rows_parts t = sym (take-append-drop t.count t.rows)
 
 -- A row in use is put in place of the old one.
-pub with_made : (cells : ℕ) (t : Table) (i : ℕ) (r : Reservation) → Sound cells t → i < length (live t) → with_row t (At i) r ≡ table (set (live t) i r ++ drop t.count t.rows) (length (set (live t) i r))
+pub with_made : (cells : ℕ) (t : Table) (i : ℕ) (r : Reservation) → Sound cells t → i < length (live t) → with_row t (Some i) r ≡ table (set (live t) i r ++ drop t.count t.rows) (length (set (live t) i r))
 unfolding with_row
 with_made cells t i r s h =
     let n : t.count ≡ length (set (live t) i r) = sym (length-set (live t) i r ∙ s.used) in

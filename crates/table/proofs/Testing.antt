@@ -2,26 +2,27 @@
 use Prim.Native.Nat.{ℕ, zero, suc, ◌+◌, ◌*◌, ◌/◌, ◌%◌, ◌<◌, ◌≤◌, min}
 use native.Mathlib.Numerals.{add-one}
 use native.Mathlib.Omega.{arith}
-use mathlib.Core.Bool.{Bool, true, false, ◌&&◌, ◌||◌, and_assoc, and_comm, and-true, true≢false}
+use mathlib.Core.Bool.{Bool, true, false, cond, ◌&&◌, ◌||◌, and_assoc, and_comm, true≢false}
 use mathlib.Core.List.{List, [], ◌∷◌, map}
 use mathlib.Core.Path.{◌≡◌, refl, sym, ap, ◌∙◌}
 use borrow.Author.Tests.{eqb-true, eqb-false, eq-eqb, ne_eqb, ltb-true, leb-true, le-leb, lt-ltb}
 use lib.Dec.{eqb, ltb, leb}
-use lib.ListN.{length, get_or, take, drop, length-take, drop_of_length-le}
-use lib.Seq.{drop-cons, get_or-take}
+use lib.ListN.{length, get_or, take, drop}
+use lib.Seq.{drop-cons}
 use Rattle.capabilities.specs.Lists.{pick}
 use Rattle.capabilities.proofs.Choice.{and_left, and_right, pick_yes, pick_no, cross}
-use Rattle.table.specs.Table.{Table}
-use Rattle.table.specs.Rows.{is_open, is_blank, no_taker, several_takers, live, blank}
+use Rattle.table.specs.Rows.{is_open, is_revoking, is_blank, no_taker, several_takers, live, blank}
 use Rattle.table.specs.Tiling.{follows, row_sound, tiles, all_blank, revokings, taker_sound, takers_sound, table_sound, sized}
 use Rattle.table.proofs.Truth.{both, or_first, or_second, same_test}
-use Rattle.table.proofs.Walking.{tiles_more, tiles_end, takers_more, takers_end}
 use Rattle.table.specs.Numbers.{state_from, row_from, row_code, table_of, written, all_written}
 use Rattle.table.specs.Sound.{all_zero, top_sound, sound_numbers}
 use Rattle.table.proofs.Numbers.{state_open, state_taken, state_revoking, write_back}
 use Rattle.table.proofs.Inverse.{blank_is}
 use Rattle.table.proofs.Mapping.{map_drop}
-use Rattle.table.proofs.Reading.{used_length, live_read}
+use Rattle.table.proofs.Reading.{live_numbers}
+use Rattle.std.specs.List.{count_by}
+use Rattle.std.proofs.lemmas.List.{take_min}
+use Rattle.std.proofs.lemmas.List.Recursion.{is_count_by}
 
 shuffle : (s t w b v r : Bool) → (s && (t && w)) && ((b && v) && r) ≡ (((s && t) && (b && r)) && (w && v))
 shuffle false t w b v r = refl
@@ -49,59 +50,40 @@ or_no : (a b : Bool) → a ≡ false → a || b ≡ b
 or_no true b e = absurd (true≢false e)
 or_no false b e = refl
 
-module _ (l : List ℕ) (i : ℕ) (h : i < length l) where
-  all_more : all_written (drop i l) ≡ (written (get_or l i 0) && all_written (drop (i + 1) l))
-  unfolding all_written
-  all_more = rw (add-one i, drop-cons l i 0 h)
+-- What is left to test, one number more.
+pub zero_more : (l : List ℕ) (i : ℕ) → i < length l → all_zero (drop i l) ≡ (eqb (get_or l i 0) 0 && all_zero (drop (i + 1) l))
+unfolding all_zero
+zero_more l i h = rw (add-one i, drop-cons l i 0 h)
 
-  pub zero_more : all_zero (drop i l) ≡ (eqb (get_or l i 0) 0 && all_zero (drop (i + 1) l))
-  unfolding all_zero
-  zero_more = rw (add-one i, drop-cons l i 0 h)
+-- Numbers of reservations that tile the cells from one up to another, and whose takers fit.
+abbrev pub tiled_by : ℕ → ℕ → List ℕ → Bool
+tiled_by from end l = (tiles from end (map row_from l) && takers_sound (map row_from l)) && all_written l
 
-module _ (l : List ℕ) (i : ℕ) (h : length l ≤ i) where
-  all_end : all_written (drop i l) ≡ true
-  unfolding all_written
-  all_end = rw (drop_of_length-le l h)
+pub tile_more : (l : List ℕ) (end i from : ℕ) → i < length l
+    → tiled_by from end (drop i l)
+    ≡ (((follows from (row_from (get_or l i 0)) && taker_sound (row_from (get_or l i 0))) && written (get_or l i 0)) && tiled_by (from + (row_from (get_or l i 0)).length) end (drop (i + 1) l))
+unfolding tiles takers_sound all_written
+tile_more l end i from h =
+    let n = get_or l i 0 in
+    let rest = drop (suc i) l in
+    let more = from + (row_from n).length in
+    rw (add-one i, drop-cons l i 0 h)
+    (ap (λ z. z && (written n && all_written rest)) (cross (follows from (row_from n)) (tiles more end (map row_from rest)) (taker_sound (row_from n)) (takers_sound (map row_from rest)))
+    ∙ cross (follows from (row_from n) && taker_sound (row_from n)) (tiles more end (map row_from rest) && takers_sound (map row_from rest)) (written n) (all_written rest))
 
-  pub zero_end : all_zero (drop i l) ≡ true
-  unfolding all_zero
-  zero_end = rw (drop_of_length-le l h)
+-- The same of the rows in use.
+pub tiled_used : (l : List ℕ) (count end : ℕ)
+    → ((tiles 0 end (live (table_of l count)) && takers_sound (live (table_of l count))) && all_written (take count l)) ≡ tiled_by 0 end (take (min count (length l)) l)
+tiled_used l count end = rw (live_numbers l count, sym (take_min count l))
 
--- What is left to tile, one reservation more, and its end.
-module _ (l : List ℕ) (count end : ℕ) where
-  abbrev t : Table
-  t = table_of l count
-
-  pub tile_more : (i from : ℕ) → i < length (live t)
-      → ((tiles from end (drop i (live t)) && takers_sound (drop i (live t))) && all_written (drop i (take count l)))
-      ≡ (((follows from (row_from (get_or l i 0)) && taker_sound (row_from (get_or l i 0))) && written (get_or l i 0))
-      && ((tiles (from + (row_from (get_or l i 0)).length) end (drop (i + 1) (live t)) && takers_sound (drop (i + 1) (live t))) && all_written (drop (i + 1) (take count l))))
-  tile_more i from h =
-      let x = get_or l i 0 in
-      let len : length (take count l) ≡ min count (length l) = length-take count l in
-      let k : i < length (take count l) = omega (arith, h, len, used_length l count) in
-      let below : i < count = omega (arith, h, used_length l count) in
-      let a = tiles_more (live t) i blank h from end ∙ ap (λ r. follows from r && tiles (from + r.length) end (drop (i + 1) (live t))) (live_read l count i h) in
-      let b = all_more (take count l) i k ∙ ap (λ n. written n && all_written (drop (i + 1) (take count l))) (get_or-take count l i 0 below) in
-      let c = takers_more (live t) i blank h ∙ ap (λ r. taker_sound r && takers_sound (drop (i + 1) (live t))) (live_read l count i h) in
-      let f = follows from (row_from x) in
-      let g = tiles (from + (row_from x).length) end (drop (i + 1) (live t)) in
-      let u = taker_sound (row_from x) in
-      let v = takers_sound (drop (i + 1) (live t)) in
-      ap (λ z. (z && takers_sound (drop i (live t))) && all_written (drop i (take count l))) a
-      ∙ ap (λ z. ((f && g) && z) && all_written (drop i (take count l))) c
-      ∙ ap (λ z. ((f && g) && (u && v)) && z) b
-      ∙ ap (λ z. z && (written x && all_written (drop (i + 1) (take count l)))) (cross f g u v)
-      ∙ cross (f && u) (g && v) (written x) (all_written (drop (i + 1) (take count l)))
-
-  pub tile_end : (i from : ℕ) → length (live t) ≤ i → ((tiles from end (drop i (live t)) && takers_sound (drop i (live t))) && all_written (drop i (take count l))) ≡ eqb from end
-  tile_end i from h =
-      let len : length (take count l) ≡ min count (length l) = length-take count l in
-      let k : length (take count l) ≤ i = omega (arith, h, len, used_length l count) in
-      ap (λ z. (z && takers_sound (drop i (live t))) && all_written (drop i (take count l))) (tiles_end (live t) i h from end)
-      ∙ ap (λ z. (eqb from end && z) && all_written (drop i (take count l))) (takers_end (live t) i h)
-      ∙ ap (λ z. z && all_written (drop i (take count l))) (and-true (eqb from end))
-      ∙ ap (λ z. eqb from end && z) (all_end (take count l) i k) ∙ and-true (eqb from end)
+-- How many of the rows in use are Revoking.
+pub revokings_used : (l : List ℕ) (count : ℕ) → revokings (live (table_of l count)) ≡ count_by (λ n. is_revoking (row_from n).state) (take (min count (length l)) l)
+unfolding revokings
+revokings_used l count = ap revokings (live_numbers l count) ∙ is_count_by (λ m. revokings (map row_from m)) (λ n. is_revoking (row_from n).state) refl (λ n m. counts (is_revoking (row_from n).state) (revokings (map row_from m))) (take (min count (length l)) l)
+  where
+    counts : (b : Bool) (k : ℕ) → pick b 1 0 + k ≡ cond b (1 + k) k
+    counts true k = refl
+    counts false k = omega arith
 
 -- Where a reservation that begins at a cell ends.
 pub end_of : (x from : ℕ) → follows from (row_from x) ≡ true → from + (row_from x).length ≡ x % 65536 + x / 65536 % 65536

@@ -6,12 +6,14 @@ use mathlib.Core.List.{List, [], ◌∷◌, ◌++◌}
 use mathlib.Core.Path.{◌≡◌, refl, ap, ◌∙◌}
 use borrow.Author.Tests.{eqb-true, eq-eqb, ltb-true, lt-ltb}
 use lib.Dec.{eqb, ltb, leb}
-use lib.ListN.{length, get_or}
+use lib.ListN.{length, get_or, drop}
+use lib.Seq.{drop-cons}
+use native.Mathlib.Numerals.{add-one}
 use Rattle.capabilities.proofs.Choice.{and_left, and_right}
 use Rattle.table.specs.declared.Reservation.{Reservation}
 use Rattle.table.specs.declared.ReservationState.TheVariants.{Open}
-use Rattle.table.specs.Rows.{is_open, blank, reservation}
-use Rattle.table.specs.Tiling.{row_sound, follows, tiles, revokings, weight}
+use Rattle.table.specs.Rows.{is_open, is_blank, blank, reservation}
+use Rattle.table.specs.Tiling.{row_sound, follows, tiles, all_blank, revokings, weight}
 use Rattle.table.proofs.Truth.{both}
 
 -- What a tiling says of its first reservation.
@@ -100,3 +102,8 @@ pub tiled_fits : (upto : ℕ) (l : List Reservation) (from i : ℕ) → tiles fr
 tiled_fits upto [] from i e h = absurd (omega arith)
 tiled_fits upto (r ∷ l) from zero e h = let g = tiles_begin from upto r l e in omega (arith, g)
 tiled_fits upto (r ∷ l) from (suc i) e h = tiled_fits upto l (from + r.length) i (tiles_begin from upto r l e).rest (omega arith)
+
+-- What is left of the unused rows, one row more.
+pub blank_more : (l : List Reservation) (i : ℕ) (d : Reservation) → i < length l → all_blank (drop i l) ≡ (is_blank (get_or l i d) && all_blank (drop (i + 1) l))
+unfolding all_blank
+blank_more l i d h = rw (add-one i, drop-cons l i d h)

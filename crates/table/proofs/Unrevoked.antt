@@ -1,4 +1,5 @@
 -- The Revoking reservations of a table: what exchanging a row does to them, and that 01 to 04 touch none. Assumes nothing.
+use Rattle.std.specs.Prelude.{Option, Some, None}
 use Prim.Native.Nat.{ℕ, ◌+◌, ◌<◌}
 use native.Mathlib.Numerals.{add-one}
 use native.Mathlib.Omega.{arith}
@@ -16,8 +17,6 @@ use Rattle.table.specs.declared.Reservation.{Reservation}
 use Rattle.table.specs.declared.ReservationState.{ReservationState}
 use Rattle.table.specs.declared.ReservationState.TheVariants.{Open, Taken, Revoking}
 use Rattle.table.specs.Table.{Table}
-use Rattle.table.specs.declared.Found.{Found}
-use Rattle.table.specs.declared.Found.TheVariants.{At, Nowhere}
 use Rattle.table.specs.Rows.{is_open, is_revoking, held, blank, live}
 use Rattle.table.specs.Find.{missing, find_of, begins, next_of, row_of, with_row}
 use Rattle.table.specs.Operations.{open_reasons, take_reasons, taken_row, take_of, give_reasons, given_row, give_of}
@@ -36,7 +35,7 @@ module _ (cells : ℕ) (t : Table) (s : Sound cells t) (i : ℕ) (h : i < length
   abbrev l : List Reservation
   l = live t
 
-  pub with_live : live (with_row t (At i) n) ≡ take i l ++ n ∷ drop (i + 1) l
+  pub with_live : live (with_row t (Some i) n) ≡ take i l ++ n ∷ drop (i + 1) l
   with_live =
       ap live (with_made cells t i n s h) ∙ live_made (set l i n) (drop t.count t.rows) ∙ set_split l i n h
       ∙ ap (λ k. take i l ++ n ∷ drop k l) (sym (add-one i))
@@ -44,10 +43,10 @@ module _ (cells : ℕ) (t : Table) (s : Sound cells t) (i : ℕ) (h : i < length
   pub before_dyings : dyings l ≡ dyings (take i l) ++ dyings (get_or l i blank ∷ drop (i + 1) l)
   before_dyings = ap dyings (cut_one l i h) ∙ dyings_append (take i l) (get_or l i blank ∷ drop (i + 1) l)
 
-  pub after_dyings : dyings (live (with_row t (At i) n)) ≡ dyings (take i l) ++ dyings (n ∷ drop (i + 1) l)
+  pub after_dyings : dyings (live (with_row t (Some i) n)) ≡ dyings (take i l) ++ dyings (n ∷ drop (i + 1) l)
   after_dyings = ap dyings with_live ∙ dyings_append (take i l) (n ∷ drop (i + 1) l)
 
-  pub same_dyings : is_revoking (get_or l i blank).state ≡ false → is_revoking n.state ≡ false → dyings (live (with_row t (At i) n)) ≡ dyings l
+  pub same_dyings : is_revoking (get_or l i blank).state ≡ false → is_revoking n.state ≡ false → dyings (live (with_row t (Some i) n)) ≡ dyings l
   same_dyings a b =
       after_dyings ∙ ap (λ d. dyings (take i l) ++ d) (dyings_not n (drop (i + 1) l) b ∙ sym (dyings_not (get_or l i blank) (drop (i + 1) l) a)) ∙ sym before_dyings
 
@@ -69,49 +68,49 @@ module _ (cells : ℕ) (t : Table) (ok : table_sound cells t ≡ true) where
       go true e = ap (λ u. dyings (live u)) (pick_yes (eqb code 0) x t e) ∙ f (eqb-true code 0 e)
       go false e = ap (λ u. dyings (live u)) (pick_no (eqb code 0) x t e)
 
-  pub with_same : (party base : ℕ) (f : Found) (n : Reservation) → find_of t party base ≡ f → is_open (row_of t f).state ≡ true → is_revoking n.state ≡ false → dyings (live (with_row t f n)) ≡ dyings (live t)
-  with_same party base (At i) n e o w =
+  pub with_same : (party base : ℕ) (f : Option ℕ) (n : Reservation) → find_of t party base ≡ f → is_open (row_of t f).state ≡ true → is_revoking n.state ≡ false → dyings (live (with_row t f n)) ≡ dyings (live t)
+  with_same party base (Some i) n e o w =
       let h = (found_at (begins party base) (live t) i blank (unfold find_of in e)).0 in
       same_dyings cells t (sound cells t ok) i h n (open_still (get_or (live t) i blank).state (sym (ap (λ r. is_open r.state) (row_live t i h)) ∙ o)) w
-  with_same party base Nowhere n e o w = unfold with_row in refl
+  with_same party base None n e o w = unfold with_row in refl
 
-  pub split_same : (party base len : ℕ) (f : Found) → find_of t party base ≡ f → Splits t f len → dyings (live (split_at t f len)) ≡ dyings (live t)
+  pub split_same : (party base len : ℕ) (f : Option ℕ) → find_of t party base ≡ f → Splits t f len → dyings (live (split_at t f len)) ≡ dyings (live t)
   unfolding split_at
-  split_same party base len (At i) e k =
+  split_same party base len (Some i) e k =
       let s = sound cells t ok in
       let h = (found_at (begins party base) (live t) i blank (unfold find_of in e)).0 in
       let l = live t in
       let q = drop (i + 1) l in
       let r = get_or l i blank in
-      let lo = lower_part (row_of t (At i)) len in
-      let up = upper_part (row_of t (At i)) len in
+      let lo = lower_part (row_of t (Some i)) len in
+      let up = upper_part (row_of t (Some i)) len in
       let still : is_revoking r.state ≡ false = open_still r.state (sym (ap (λ x. is_open x.state) (row_live t i h)) ∙ k.isopen) in
       ap dyings (spread_live cells t s i h lo up) ∙ dyings_append (take i l) (lo ∷ up ∷ q)
       ∙ ap (λ d. dyings (take i l) ++ d) (dyings_not lo (up ∷ q) refl ∙ dyings_not up q refl ∙ sym (dyings_not r q still))
       ∙ sym (dyings_append (take i l) (r ∷ q)) ∙ sym (ap dyings (cut_one l i h))
-  split_same party base len Nowhere e k = refl
+  split_same party base len None e k = refl
 
-  pub merge_same : (party : ℕ) (f : Found) → mergeable t f party ≡ true → dyings (live (merge_at t f)) ≡ dyings (live t)
+  pub merge_same : (party : ℕ) (f : Option ℕ) → mergeable t f party ≡ true → dyings (live (merge_at t f)) ≡ dyings (live t)
   unfolding merge_at mergeable
-  merge_same party (At i) m =
+  merge_same party (Some i) m =
       let w = sound cells t ok in
-      let h = next_below t i (merge_next t (At i) party m) in
+      let h = next_below t i (merge_next t (Some i) party m) in
       let l = live t in
       let q = drop (i + 2) l in
       let r = get_or l i blank in
       let s = get_or l (i + 1) blank in
-      let g = row_of t (next_of t (At i)) in
-      let j = joined (row_of t (At i)) g in
+      let g = row_of t (next_of t (Some i)) in
+      let j = joined (row_of t (Some i)) g in
       let row = row_live t i (omega arith) in
       let above = ap (row_of t) (next_at t i h) ∙ row_live t (i + 1) h in
-      let same = alike_still (row_of t (At i)).state g.state
-      (and_right (held g party) (alike (row_of t (At i)).state g.state) (and_right (not (missing (next_of t (At i)))) (held g party && alike (row_of t (At i)).state g.state) m)) in
+      let same = alike_still (row_of t (Some i)).state g.state
+      (and_right (held g party) (alike (row_of t (Some i)).state g.state) (and_right (not (missing (next_of t (Some i)))) (held g party && alike (row_of t (Some i)).state g.state) m)) in
       let still-r : is_revoking r.state ≡ false = sym (ap (λ x. is_revoking x.state) row) ∙ same.0 in
       let still-s : is_revoking s.state ≡ false = sym (ap (λ x. is_revoking x.state) above) ∙ same.1 in
       ap dyings (gather_live cells t w i h j) ∙ dyings_append (take i l) (j ∷ q)
       ∙ ap (λ d. dyings (take i l) ++ d) (dyings_not j q same.0 ∙ sym (dyings_not r (s ∷ q) still-r ∙ dyings_not s q still-s))
       ∙ sym (dyings_append (take i l) (r ∷ s ∷ q)) ∙ sym (ap dyings (cut_two l i h))
-  merge_same party Nowhere m = refl
+  merge_same party None m = refl
 
   -- The same of each call, granted or refused.
   pub take_still : (party base : ℕ) → dyings (live (take_of t party base).table) ≡ dyings (live t)

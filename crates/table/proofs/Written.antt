@@ -1,12 +1,11 @@
 -- Written numbers stay written: moved, or one put in place of another. Assumes nothing.
+use Rattle.std.specs.Prelude.{Option, Some, None}
 use Prim.Native.Nat.{ℕ, zero, suc, ◌+◌}
 use mathlib.Core.Bool.{true}
 use mathlib.Core.List.{List, [], ◌∷◌, ◌++◌}
 use mathlib.Core.Path.{◌≡◌, refl}
 use lib.ListN.{take, drop, set}
 use Rattle.capabilities.proofs.Choice.{and_left, and_right}
-use Rattle.table.specs.declared.Found.{Found}
-use Rattle.table.specs.declared.Found.TheVariants.{At, Nowhere}
 use Rattle.table.specs.Rows.{splice}
 use Rattle.table.proofs.Truth.{both}
 use Rattle.table.specs.Numbers.{written, all_written}
@@ -47,10 +46,10 @@ all_set [] i x w p = refl
 all_set (n ∷ l) zero x w p = both (written x) (all_written l) w (and_right (written n) (all_written l) p)
 all_set (n ∷ l) (suc i) x w p = both (written n) (all_written (set l i x)) (and_left (written n) (all_written l) p) (all_set l i x w (and_right (written n) (all_written l) p))
 
-pub all_put : (l : List ℕ) (f : Found) (x : ℕ) → written x ≡ true → all_written l ≡ true → all_written (put_at l f x) ≡ true
+pub all_put : (l : List ℕ) (f : Option ℕ) (x : ℕ) → written x ≡ true → all_written l ≡ true → all_written (put_at l f x) ≡ true
 unfolding put_at
-all_put l (At i) x w p = all_set l i x w p
-all_put l Nowhere x w p = p
+all_put l (Some i) x w p = all_set l i x w p
+all_put l None x w p = p
 
 all_splice : (i k : ℕ) (new l : List ℕ) → all_written new ≡ true → all_written l ≡ true → all_written (splice i k new l) ≡ true
 unfolding splice

@@ -1,11 +1,9 @@
 -- What a call on a lent table leaves: its answer, and the table read from the numbers. Assumes nothing.
-use Rattle.std.specs.Prelude.{ℕ, suc, ◌+◌, true, not, ◌&&◌, List, [], ◌∷◌, ◌++◌, ◌≡◌, length, take, drop, set, eqb, leb}
+use Rattle.std.specs.Prelude.{ℕ, suc, ◌+◌, true, not, ◌&&◌, List, [], ◌∷◌, ◌++◌, ◌≡◌, length, take, drop, set, eqb, leb, Option, Some, None}
 use Rattle.capabilities.specs.Lists.{pick}
 use Rattle.table.specs.declared.Reservation.{Reservation}
 use Rattle.table.specs.Table.{Tabled}
 use Rattle.table.specs.Table.{Taken as Took}
-use Rattle.table.specs.declared.Found.{Found}
-use Rattle.table.specs.declared.Found.TheVariants.{At, Nowhere}
 use Rattle.capabilities.specs.Refusals.{reason, first}
 use Rattle.table.specs.Rows.{is_open, held, splice}
 use Rattle.table.specs.Find.{missing}
@@ -13,14 +11,14 @@ use Rattle.table.specs.Operations.{bad_split, alike}
 use Rattle.table.specs.Numbers.{table_of, all_written}
 
 -- One entry put in place of the old one; where there is none, as it was.
-unfoldable pub put_at : {A : Type 0} → List A → Found → A → List A
-put_at l (At i) x = set l i x
-put_at l Nowhere x = l
+unfoldable pub put_at : {A : Type 0} → List A → Option ℕ → A → List A
+put_at l (Some i) x = set l i x
+put_at l None x = l
 
 -- The number of a row; 0 where there is none.
-unfoldable pub place_of : Found → ℕ
-place_of (At i) = i
-place_of Nowhere = 0
+unfoldable pub place_of : Option ℕ → ℕ
+place_of (Some i) = i
+place_of None = 0
 
 -- Of the first n entries those from the i-th on stand one higher; the i-th stands in its old place besides.
 unfoldable pub raised : {A : Type 0} → List A → ℕ → ℕ → List A
@@ -55,10 +53,10 @@ pub record Leaves (l m : List ℕ) (code count : ℕ) (rule : Tabled) : Type 0 w
   pub sound : all_written l ≡ true → all_written m ≡ true
 
 -- The reasons against a split and a merge, of rows that were read.
-abbrev pub split_code : Found → Reservation → ℕ → ℕ → ℕ
+abbrev pub split_code : Option ℕ → Reservation → ℕ → ℕ → ℕ
 split_code f r len count =
     first (reason 6 (missing f) ∷ reason 7 (not (is_open r.state)) ∷ reason 8 (bad_split r len) ∷ reason 9 (leb 64 count) ∷ [])
 
-abbrev pub merge_code : Found → Found → Reservation → Reservation → ℕ → ℕ
+abbrev pub merge_code : Option ℕ → Option ℕ → Reservation → Reservation → ℕ → ℕ
 merge_code f g r s party =
     first (reason 6 (missing f) ∷ reason 7 (not (not (missing g) && (held s party && alike r.state s.state))) ∷ [])

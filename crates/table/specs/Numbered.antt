@@ -1,9 +1,10 @@
 -- 01 to 04 on a lent slice: what each answers, and every number that it leaves. A refused call leaves all as they were. A number that is
 -- put is what the rule's reservation is written as; every other stands as it was, or where the rule moves its row. Assumes nothing.
-use Rattle.std.specs.Prelude.{ℕ, List, length, eqb}
+use Rattle.std.specs.Prelude.{ℕ, List, length, eqb, Result, Ok, Err}
 use Rattle.capabilities.specs.Lists.{pick}
 use Rattle.table.specs.declared.Moved.{Moved}
-use Rattle.table.specs.declared.TakeAnswer.{TakeAnswer}
+use Rattle.capabilities.specs.Refusals.{number_of}
+use Rattle.capabilities.specs.declared.refusal.Refusal.{Refusal}
 use Rattle.table.specs.Table.{Tabled}
 use Rattle.table.specs.Rows.{live}
 use Rattle.table.specs.Find.{find_of, next_of, row_of}
@@ -11,6 +12,26 @@ use Rattle.table.specs.Operations.{take_of, taken_row, give_of, given_row, split
 use Rattle.table.specs.Numbers.{row_code, table_of}
 use Rattle.table.specs.Lent.{put_at, place_of, spread_at, gather_at, fitting}
 use Rattle.table.specs.Writes.{split_writes, merge_writes}
+
+-- What take answers: 0 or the refusal's number, and the length of what was taken.
+pub record TakeAnswer : Type 0 where
+  pub code : ℕ
+  pub length : ℕ
+
+abbrev pub answered : Result ℕ Refusal → TakeAnswer
+answered (Ok length) = record { code = 0; length = length }
+answered (Err r) = record { code = number_of r; length = 0 }
+
+-- What split and merge answer: 0 or the refusal's number, how many rows are in use then, and how many were written.
+pub record MoveAnswer : Type 0 where
+  pub code : ℕ
+  pub count : ℕ
+  pub writes : ℕ
+
+-- Of a refused one as many rows are in use as before, and none was written.
+abbrev pub moved : ℕ → Result Moved Refusal → MoveAnswer
+moved count (Ok m) = record { code = 0; count = m.count; writes = m.writes }
+moved count (Err r) = record { code = number_of r; count = count; writes = 0 }
 
 -- 01.
 abbrev pub take_answer : List ℕ → ℕ → ℕ → ℕ → TakeAnswer
@@ -33,7 +54,7 @@ given_in l count party base to =
 abbrev pub split_rule : List ℕ → ℕ → ℕ → ℕ → ℕ → Tabled
 split_rule l count party base len = fitting l count (split_of (table_of l count) party base len)
 
-abbrev pub split_answer : List ℕ → ℕ → ℕ → ℕ → ℕ → Moved
+abbrev pub split_answer : List ℕ → ℕ → ℕ → ℕ → ℕ → MoveAnswer
 split_answer l count party base len =
     let rule = split_rule l count party base len in
     record { code = rule.code; count = rule.table.count; writes = split_writes (table_of l count) party base rule.code }
@@ -50,7 +71,7 @@ split_in l count party base len =
 abbrev pub merge_rule : List ℕ → ℕ → ℕ → ℕ → Tabled
 merge_rule l count party base = fitting l count (merge_of (table_of l count) party base)
 
-abbrev pub merge_answer : List ℕ → ℕ → ℕ → ℕ → Moved
+abbrev pub merge_answer : List ℕ → ℕ → ℕ → ℕ → MoveAnswer
 merge_answer l count party base =
     let rule = merge_rule l count party base in
     record { code = rule.code; count = rule.table.count; writes = merge_writes (table_of l count) party base rule.code }

@@ -1,5 +1,5 @@
 -- Commands 01 to 04 on the table, with refusals 6 to 9. Assumes nothing.
-use Rattle.std.specs.Prelude.{ℕ, ◌+◌, ◌-◌, ◌%◌, Bool, not, ◌&&◌, ◌||◌, List, [], ◌∷◌, leb, eqb}
+use Rattle.std.specs.Prelude.{ℕ, ◌+◌, ◌-◌, ◌%◌, Bool, not, ◌&&◌, ◌||◌, List, [], ◌∷◌, leb, eqb, Option, Some, None}
 use Rattle.capabilities.specs.Lists.{pick}
 use Rattle.capabilities.specs.Refusals.{Reason, reason, first}
 use Rattle.table.specs.declared.Reservation.{Reservation}
@@ -8,8 +8,6 @@ use Rattle.table.specs.declared.ReservationState.TheVariants.{Open, Taken}
 use Rattle.table.specs.Table.{Table}
 use Rattle.table.specs.Table.{Tabled}
 use Rattle.table.specs.Table.{Taken as Took}
-use Rattle.table.specs.declared.Found.{Found}
-use Rattle.table.specs.declared.Found.TheVariants.{At, Nowhere}
 use Rattle.table.specs.Rows.{is_open, is_taken, held, no_taker, several_takers, reservation, spread, gather}
 use Rattle.table.specs.Find.{missing, find_of, next_of, row_of, with_row}
 
@@ -18,7 +16,7 @@ abbrev pub tabled : ℕ → Table → Table → Tabled
 tabled code before after = record { code = code; table = pick (eqb code 0) after before }
 
 -- 6: "no reservation held by the caller begins at base"; 7: take or give "names one not Open".
-unfoldable pub open_reasons : Found → Reservation → List Reason
+unfoldable pub open_reasons : Option ℕ → Reservation → List Reason
 open_reasons f r = reason 6 (missing f) ∷ reason 7 (not (is_open r.state)) ∷ []
 
 -- 01 take: 6, 7. "Open becomes Taken with holder 0 .. Answers the length."
@@ -46,7 +44,7 @@ abbrev pub full : Table → Bool
 full t = leb 64 t.count
 
 -- 02 split: 6, 7 if it is not Open, 8, 9. "Two Open ones; the lower has len cells."
-unfoldable pub split_reasons_at : Table → Found → ℕ → List Reason
+unfoldable pub split_reasons_at : Table → Option ℕ → ℕ → List Reason
 split_reasons_at t f len =
     let r = row_of t f in
     reason 6 (missing f)
@@ -62,9 +60,9 @@ lower_part r len = reservation r.base len Open r.holder no_taker
 abbrev pub upper_part : Reservation → ℕ → Reservation
 upper_part r len = reservation ((r.base + len) % 65536) (r.length - len) Open r.holder no_taker
 
-unfoldable pub split_at : Table → Found → ℕ → Table
-split_at t (At i) len = spread t i (lower_part (row_of t (At i)) len) (upper_part (row_of t (At i)) len)
-split_at t Nowhere len = t
+unfoldable pub split_at : Table → Option ℕ → ℕ → Table
+split_at t (Some i) len = spread t i (lower_part (row_of t (Some i)) len) (upper_part (row_of t (Some i)) len)
+split_at t None len = t
 
 unfoldable pub split_of : Table → ℕ → ℕ → ℕ → Tabled
 split_of t party base len = tabled (first (split_reasons t party base len)) t (split_at t (find_of t party base) len)
@@ -73,13 +71,13 @@ split_of t party base len = tabled (first (split_reasons t party base len)) t (s
 abbrev pub alike : ReservationState → ReservationState → Bool
 alike a b = (is_open a && is_open b) || (is_taken a && is_taken b)
 
-unfoldable pub mergeable : Table → Found → ℕ → Bool
+unfoldable pub mergeable : Table → Option ℕ → ℕ → Bool
 mergeable t f party =
     let g = next_of t f in
     not (missing g) && (held (row_of t g) party && alike (row_of t f).state (row_of t g).state)
 
 -- 03 merge: 6, 7. "Joins it with the next one above."
-unfoldable pub merge_reasons_at : Table → Found → ℕ → List Reason
+unfoldable pub merge_reasons_at : Table → Option ℕ → ℕ → List Reason
 merge_reasons_at t f party = reason 6 (missing f) ∷ reason 7 (not (mergeable t f party)) ∷ []
 
 unfoldable pub merge_reasons : Table → ℕ → ℕ → List Reason
@@ -93,9 +91,9 @@ joined_taker a b = pick (eqb a b) a several_takers
 abbrev pub joined : Reservation → Reservation → Reservation
 joined r s = reservation r.base ((r.length + s.length) % 65536) r.state r.holder (joined_taker r.taker s.taker)
 
-unfoldable pub merge_at : Table → Found → Table
-merge_at t (At i) = gather t i (joined (row_of t (At i)) (row_of t (next_of t (At i))))
-merge_at t Nowhere = t
+unfoldable pub merge_at : Table → Option ℕ → Table
+merge_at t (Some i) = gather t i (joined (row_of t (Some i)) (row_of t (next_of t (Some i))))
+merge_at t None = t
 
 unfoldable pub merge_of : Table → ℕ → ℕ → Tabled
 merge_of t party base = tabled (first (merge_reasons t party base)) t (merge_at t (find_of t party base))

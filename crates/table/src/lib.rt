@@ -5,16 +5,15 @@ pub mod find;
 pub mod number;
 pub mod operations;
 pub mod parts;
-pub mod row;
 pub mod rows;
 pub mod tiling;
 
 // A reservation is nobody's yet, lent out as a capability, or being taken back.
-#[derive(Clone, Copy)]
+#[derive(Clone, Copy, PartialEq, Eq, Debug)]
 pub enum ReservationState {
-    Open,
-    Taken,
-    Revoking,
+    Open = 0,
+    Taken = 1,
+    Revoking = 2,
 }
 
 // `length` virtual cells from `base` on, the party that holds them, and who took them: a party, 8 for several, 9 for nobody.
@@ -27,24 +26,17 @@ pub struct Reservation {
     pub taker: u8,
 }
 
-// The row of a reservation, if there is one.
-#[derive(Clone, Copy)]
-pub enum Found {
-    At(usize),
-    Nowhere,
-}
-
-// What take answers: 0 or the refusal's number, and the length of what was taken.
-#[derive(Clone, Copy)]
-pub struct TakeAnswer {
-    pub code: u8,
-    pub length: u16,
-}
-
-// What split and merge answer: 0 or the refusal's number, how many rows are in use then, and how many were written.
+// What a granted split or merge answers: how many rows are in use then, and how many were written.
 #[derive(Clone, Copy)]
 pub struct Moved {
-    pub code: u8,
     pub count: usize,
     pub writes: usize,
+}
+
+// The rows that a call is lent, and how many of them are in use, to look at. What writes rows takes `&mut [u64]` and the count, and makes
+// this of them to look: a second struct, of that borrow, would be there for its two fields alone.
+#[derive(Clone, Copy)]
+pub struct LentRows<'a> {
+    pub rows: &'a [u64],
+    pub count: usize,
 }

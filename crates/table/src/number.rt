@@ -7,52 +7,49 @@ ghost use Rattle.table.specs.Numbers.{state_from, row_from, row_code, written};
 
 use crate::{Reservation, ReservationState};
 
-fn state_of(number: u64) -> ReservationState
-    ensures { result ≡ state_from number }
-{
-    if number == 0 {
-        return ReservationState::Open;
-    }
-    if number == 1 {
-        return ReservationState::Taken;
-    }
-    ReservationState::Revoking
-}
+// Every number reads as a state; only 0, 1 and 2 are written.
+impl From<u64> for ReservationState {
+    ghost from_gives = { λ number state. state ≡ state_from number };
 
-fn state_number(state: ReservationState) -> u64
-    ensures { result ≡ state_number state }
-{
-    match state {
-        ReservationState::Open => 0,
-        ReservationState::Taken => 1,
-        ReservationState::Revoking => 2,
+    #[tactic(auto, unfolding(crate::specs::Numbers::state_from))]
+    fn from(number: u64) -> ReservationState {
+        match number {
+            0 => ReservationState::Open,
+            1 => ReservationState::Taken,
+            _ => ReservationState::Revoking,
+        }
     }
 }
 
 // The reservation that a number reads as.
-pub fn row_of(number: u64) -> Reservation
-    ensures { result ≡ row_from number }
-{
-    let state = state_of(number / 4294967296 % 256);
-    Reservation {
-        base: (number % 65536) as u16,
-        length: (number / 65536 % 65536) as u16,
-        state,
-        holder: (number / 1099511627776 % 256) as u8,
-        taker: (number / 281474976710656 % 256) as u8,
+impl From<u64> for Reservation {
+    ghost from_gives = { λ number row. row ≡ row_from number };
+
+    #[tactic(auto, unfolding(crate::specs::Numbers::row_from))]
+    fn from(number: u64) -> Reservation {
+        Reservation {
+            base: (number % 65536) as u16,
+            length: (number / 65536 % 65536) as u16,
+            state: ReservationState::from(number / 4294967296 % 256),
+            holder: (number / 1099511627776 % 256) as u8,
+            taker: (number / 281474976710656 % 256) as u8,
+        }
     }
 }
 
 // The number that a reservation is written as.
-pub fn number_of(row: Reservation) -> u64
-    ensures { result ≡ row_code row }
-{
-    let state = row.state;
-    let range = row.base as u64 + 65536 * (row.length as u64);
-    let held = range + 4294967296 * state_number(state) + 1099511627776 * (row.holder as u64);
-    held + 281474976710656 * (row.taker as u64)
+impl From<Reservation> for u64 {
+    ghost from_gives = { λ row number. number ≡ row_code row };
+
+    #[tactic(auto, unfolding(crate::specs::Numbers::row_code))]
+    fn from(row: Reservation) -> u64 {
+        let range = row.base as u64 + 65536 * (row.length as u64);
+        let held = range + 4294967296 * (row.state as u64) + 1099511627776 * (row.holder as u64);
+        held + 281474976710656 * (row.taker as u64)
+    }
 }
 
+#[tactic(auto, unfolding(crate::specs::Numbers::written))]
 pub fn is_written(number: u64) -> bool
     ensures { result ≡ written number }
 {
@@ -60,6 +57,7 @@ pub fn is_written(number: u64) -> bool
 }
 
 // The reservation begins at `base` and is held by the party: its bits 0 to 15 and 40 to 47, both at once.
+#[tactic(auto, using(crate::proofs::Numbers::begins_test), unfolding(crate::specs::Numbers::row_from))]
 pub fn begins_at(number: u64, party: u8, base: u16) -> bool
     ensures { result ≡ begins party base (row_from number) }
 {
@@ -76,6 +74,7 @@ pub fn any_begins(a: u64, b: u64, c: u64, d: u64, party: u8, base: u16) -> bool
         | begins_at(d, party, base)
 }
 
+#[tactic(auto, using(crate::proofs::Numbers::revoking_test), unfolding(crate::specs::Numbers::row_from))]
 pub fn revoking_at(number: u64) -> bool
     ensures { result ≡ is_revoking (row_from number).state }
 {

@@ -1,45 +1,41 @@
 // What the calls make of one row or two, and the reasons against them.
 ghost use Rattle.std.specs.Prelude.{◌≡◌, not, ◌&&◌, [], ◌∷◌, leb};
-ghost use Rattle.capabilities.specs.Refusals.{first, reason};
-ghost use Rattle.table.specs.Rows.{is_open, held};
-ghost use Rattle.table.specs.Find.{missing};
+ghost use Rattle.capabilities.specs.Refusals.{code, first};
 ghost use Rattle.table.specs.Operations.{open_reasons, taken_row, given_row, bad_split, lower_part, joined_taker, joined, alike};
 ghost use Rattle.table.specs.Lent.{split_code, merge_code};
 
-use crate::row::{alike, held, is_open, missing};
-use crate::{Found, Reservation, ReservationState};
-use capabilities::refusal::first;
+use crate::{Reservation, ReservationState};
+use capabilities::refusal::Refusal;
 
-pub fn open_code(found: Found, row: Reservation) -> u8
-    ensures { result ≡ first (open_reasons found row) }
+// 6 if there is no such reservation, 7 if it is not Open.
+#[tactic(auto, unfolding(crate::specs::Operations::open_reasons, capabilities::specs::Refusals::first))]
+pub fn check_open(found: Option<usize>, row: Reservation) -> Result<(), Refusal>
+    ensures { code result ≡ first (open_reasons found row) }
 {
-    let state = row.state;
-    first(6, missing(found), first(7, !is_open(state), 0))
+    if found.is_none() {
+        return Err(Refusal::NoReservation);
+    }
+    if row.state != ReservationState::Open {
+        return Err(Refusal::ReservationState);
+    }
+    Ok(())
 }
 
 pub fn taken_row(row: Reservation, party: u8) -> Reservation
     ensures { result ≡ taken_row row party }
 {
     Reservation {
-        base: row.base,
-        length: row.length,
         state: ReservationState::Taken,
         holder: 0,
         taker: party,
+        ..row
     }
 }
 
 pub fn given_row(row: Reservation, to: u8) -> Reservation
     ensures { result ≡ given_row row to }
 {
-    let state = row.state;
-    Reservation {
-        base: row.base,
-        length: row.length,
-        state,
-        holder: to,
-        taker: row.taker,
-    }
+    Reservation { holder: to, ..row }
 }
 
 pub fn bad_split(row: Reservation, len: u16) -> bool
@@ -52,11 +48,10 @@ pub fn lower_part(row: Reservation, len: u16) -> Reservation
     ensures { result ≡ lower_part row len }
 {
     Reservation {
-        base: row.base,
         length: len,
         state: ReservationState::Open,
-        holder: row.holder,
         taker: 9,
+        ..row
     }
 }
 
@@ -70,32 +65,57 @@ pub fn joined_taker(taker: u8, above: u8) -> u8
 pub fn joined(row: Reservation, above: Reservation) -> Reservation
     ensures { result ≡ joined row above }
 {
-    let state = row.state;
     let length = (row.length as u32 + above.length as u32) % 65536;
     Reservation {
-        base: row.base,
         length: length as u16,
-        state,
-        holder: row.holder,
         taker: joined_taker(row.taker, above.taker),
+        ..row
     }
 }
 
-// 6 if there is no such reservation, 7 if it is not Open, 8 if the length does not fit, 9 if there is no room.
-pub fn split_code(found: Found, row: Reservation, len: u16, count: usize) -> u8
-    ensures { result ≡ split_code found row len count }
+// 6 and 7 as for one that has to be Open, 8 if the length does not fit, 9 if there is no room.
+#[tactic(auto, unfolding(crate::specs::Operations::open_reasons, capabilities::specs::Refusals::first))]
+pub fn check_split(
+    found: Option<usize>,
+    row: Reservation,
+    len: u16,
+    count: usize,
+) -> Result<(), Refusal>
+    ensures { code result ≡ split_code found row len count }
 {
-    let state = row.state;
-    let room = first(8, bad_split(row, len), first(9, count >= 64, 0));
-    first(6, missing(found), first(7, !is_open(state), room))
+    check_open(found, row)?;
+    if bad_split(row, len) {
+        return Err(Refusal::SplitLength);
+    }
+    if count >= 64 {
+        return Err(Refusal::TableFull);
+    }
+    Ok(())
+}
+
+pub fn alike(a: ReservationState, b: ReservationState) -> bool
+    ensures { result ≡ alike a b }
+{
+    a == b && a != ReservationState::Revoking
 }
 
 // 6 if there is no such reservation, 7 if there is none to join it with.
-pub fn merge_code(found: Found, next: Found, row: Reservation, above: Reservation, party: u8) -> u8
-    ensures { result ≡ merge_code found next row above party }
+#[tactic(auto, unfolding(capabilities::specs::Refusals::first))]
+pub fn check_merge(
+    found: Option<usize>,
+    next: Option<usize>,
+    row: Reservation,
+    above: Reservation,
+    party: u8,
+) -> Result<(), Refusal>
+    ensures { code result ≡ merge_code found next row above party }
 {
-    let a = row.state;
-    let b = above.state;
-    let mergeable = !missing(next) & (held(above, party) & alike(a, b));
-    first(6, missing(found), first(7, !mergeable, 0))
+    if found.is_none() {
+        return Err(Refusal::NoReservation);
+    }
+    let mergeable = next.is_some() && above.holder == party && alike(row.state, above.state);
+    if !mergeable {
+        return Err(Refusal::ReservationState);
+    }
+    Ok(())
 }

@@ -2,12 +2,11 @@
 ghost use Rattle.std.specs.Prelude.{◌≡◌, ◌+◌, ◌-◌, ◌<◌, ◌≤◌, length, set};
 ghost use Rattle.table.specs.Operations.{upper_part};
 ghost use Rattle.table.specs.Lent.{raised, lowered, spread_at, gather_at};
-ghost use Rattle.table.specs.Numbered.{split_answer, split_in, merge_answer, merged_in};
+ghost use Rattle.table.specs.Numbered.{moved, split_answer, split_in, merge_answer, merged_in};
 
-use crate::find::{find, next, place_of, row_in, used};
-use crate::number::number_of;
-use crate::parts::{joined, lower_part, merge_code, split_code};
-use crate::{Moved, Reservation, ReservationState};
+use crate::parts::{check_merge, check_split, joined, lower_part};
+use crate::{LentRows, Moved, Reservation, ReservationState};
+use capabilities::refusal::Refusal;
 
 fn upper_part(row: Reservation, len: u16) -> Reservation
     requires { len ≤ row.length }
@@ -18,8 +17,8 @@ fn upper_part(row: Reservation, len: u16) -> Reservation
         base: base as u16,
         length: row.length - len,
         state: ReservationState::Open,
-        holder: row.holder,
         taker: 9,
+        ..row
     }
 }
 
@@ -38,11 +37,9 @@ fn move_up(rows: &mut [u64], from: usize, n: usize) -> usize
     ensures { (rows.new ≡ raised rows.old from n) × (result ≡ n - from) }
 {
     let mut writes: usize = 0;
-    let mut j = n;
-    while j > from {
-        let below = rows[j - 1];
-        writes = write_row(rows, j, below, writes);
-        j -= 1;
+    for j in (from..n).rev() {
+        let below = rows[j];
+        writes = write_row(rows, j + 1, below, writes);
     }
     writes
 }
@@ -53,11 +50,9 @@ fn move_down(rows: &mut [u64], from: usize, last: usize) -> usize
     ensures { (rows.new ≡ lowered rows.old from last) × (result ≡ last - from) }
 {
     let mut writes: usize = 0;
-    let mut j = from;
-    while j < last {
+    for j in from..last {
         let above = rows[j + 1];
         writes = write_row(rows, j, above, writes);
-        j += 1;
     }
     writes
 }
@@ -86,67 +81,51 @@ fn gather(rows: &mut [u64], n: usize, i: usize, joined: u64) -> usize
 }
 
 // One Open reservation becomes two, the lower of `len` cells.
-pub fn split(rows: &mut [u64], count: usize, party: u8, base: u16, len: u16) -> Moved
-    ensures value { result ≡ split_answer rows.old count party base len }
+pub fn split(
+    rows: &mut [u64],
+    count: usize,
+    party: u8,
+    base: u16,
+    len: u16,
+) -> Result<Moved, Refusal>
+    ensures value { moved count result ≡ split_answer rows.old count party base len }
     ensures rows_after { rows.new ≡ split_in rows.old count party base len }
 {
     if rows.len() != 64 {
-        return Moved {
-            code: 1,
-            count,
-            writes: 0,
-        };
+        return Err(Refusal::State);
     }
-    let found = find(&rows[..], count, party, base);
-    let row = row_in(&rows[..], count, found);
-    let code = split_code(found, row, len, count);
-    if code != 0 {
-        return Moved {
-            code,
-            count,
-            writes: 0,
-        };
-    }
-    let lower = number_of(lower_part(row, len));
-    let upper = number_of(upper_part(row, len));
-    let writes = spread(rows, count, place_of(found), lower, upper);
-    Moved {
-        code,
+    let table = LentRows { rows, count };
+    let found = table.find(party, base);
+    let row = table.row(found);
+    check_split(found, row, len, count)?;
+    let lower = u64::from(lower_part(row, len));
+    let upper = u64::from(upper_part(row, len));
+    let writes = spread(rows, count, found.unwrap_or(0), lower, upper);
+    Ok(Moved {
         count: count + 1,
         writes,
-    }
+    })
 }
 
 // The reservation and the next one above become one.
-pub fn merge(rows: &mut [u64], count: usize, party: u8, base: u16) -> Moved
-    ensures value { result ≡ merge_answer rows.old count party base }
+pub fn merge(rows: &mut [u64], count: usize, party: u8, base: u16) -> Result<Moved, Refusal>
+    ensures value { moved count result ≡ merge_answer rows.old count party base }
     ensures rows_after { rows.new ≡ merged_in rows.old count party base }
 {
     if rows.len() != 64 {
-        return Moved {
-            code: 1,
-            count,
-            writes: 0,
-        };
+        return Err(Refusal::State);
     }
-    let found = find(&rows[..], count, party, base);
-    let above = next(&rows[..], count, found);
-    let row = row_in(&rows[..], count, found);
-    let other = row_in(&rows[..], count, above);
-    let code = merge_code(found, above, row, other, party);
-    if code != 0 {
-        return Moved {
-            code,
-            count,
-            writes: 0,
-        };
-    }
-    let n = used(&rows[..], count);
-    let one = number_of(joined(row, other));
-    let writes = gather(rows, n, place_of(found), one);
-    Moved {
-        code,
+    let table = LentRows { rows, count };
+    let found = table.find(party, base);
+    let above = table.next(found);
+    let row = table.row(found);
+    let other = table.row(above);
+    check_merge(found, above, row, other, party)?;
+    let n = table.used();
+    let one = u64::from(joined(row, other));
+    let writes = gather(rows, n, found.unwrap_or(0), one);
+    Ok(Moved {
         count: n - 1,
         writes,
-    }
+    })
 }

@@ -1,20 +1,20 @@
 -- Words read from lists of cells and tag bytes, and the two lists changed beside each other. Assumes nothing.
-use Prim.Native.Nat.{ℕ, zero, suc, ◌+◌, ◌*◌, ◌<◌, ◌≤◌, min}
+use Prim.Native.Nat.{ℕ, zero, suc, ◌+◌, ◌<◌, ◌≤◌, min}
 use native.Mathlib.Numerals.{add-one}
 use native.Mathlib.Omega.{arith}
-use mathlib.Core.Bool.{Bool, true, false, not, ◌&&◌}
+use mathlib.Core.Bool.{Bool, true, false, not, ◌&&◌, ◌||◌}
 use mathlib.Core.List.{List, [], ◌∷◌, map}
 use mathlib.Core.Path.{◌≡◌, refl, ap, ◌∙◌}
-use mir.Val.{bool_byte}
 use lib.ListN.{length, get_or, set, take}
-use lib.Dec.{leb}
+use lib.Dec.{leb, eqb}
 use borrow.Author.Tests.{leb-true}
 use Rattle.capabilities.specs.declared.Range.{Range}
 use Rattle.capabilities.specs.Lists.{pick, each}
 use Rattle.capabilities.specs.Death.{dies}
 use Rattle.capabilities.proofs.Choice.{and_left, and_right}
+use Rattle.capabilities.proofs.Lists.{each_more}
 use Rattle.words.specs.declared.Slot.{Slot}
-use Rattle.words.specs.Words.{slot, empty, keep_tag, tag_of, byte_of, word_at}
+use Rattle.words.specs.Words.{slot, empty, keep_tag, tag_of, byte_of, word_at, mailbox_sound}
 use Rattle.words.specs.Lent.{slots_of, cells_of, tag_bytes, bit, map_beside, collected_mark, collected_cell, collected_marks, collected_mail}
 
 pub tag_byte : (b : Bool) → tag_of (byte_of b) ≡ b
@@ -42,12 +42,20 @@ slots_length [] tags = omega arith
 slots_length (c ∷ cells) [] = omega arith
 slots_length (c ∷ cells) (t ∷ tags) = omega (arith, slots_length cells tags)
 
-pub slots_at : (cells tags : List ℕ) (i : ℕ) → i < length (slots_of cells tags) → get_or (slots_of cells tags) i empty ≡ word_at cells tags i
+slots_at : (cells tags : List ℕ) (i : ℕ) → i < length (slots_of cells tags) → get_or (slots_of cells tags) i empty ≡ word_at cells tags i
 unfolding slots_of word_at
 slots_at [] tags i h = let z : ⊥ = omega arith in absurd z
 slots_at (c ∷ cells) [] i h = let z : ⊥ = omega arith in absurd z
 slots_at (c ∷ cells) (t ∷ tags) zero h = refl
 slots_at (c ∷ cells) (t ∷ tags) (suc i) h = slots_at cells tags i (omega arith)
+
+-- A loop over mailboxes, which tests one a turn.
+pub mailbox_turn : (cells tags : List ℕ) (i c t : ℕ) → i < length cells → i < length tags → c ≡ get_or cells i 0 → t ≡ get_or tags i 0
+    → each mailbox_sound 0 (take (i + 1) (slots_of cells tags)) ≡ (each mailbox_sound 0 (take i (slots_of cells tags)) && (tag_of t || eqb c 0))
+unfolding word_at
+mailbox_turn cells tags i c t h k e f =
+    let w : i < length (slots_of cells tags) = omega (arith, slots_length cells tags) in
+    rw (each_more mailbox_sound (slots_of cells tags) i empty w, slots_at cells tags i w, e, f)
 
 -- Cells and tag bytes, read and written again: the same where the bytes are 0 and 1.
 bit_back : (t : ℕ) → leb t 1 ≡ true → byte_of (tag_of t) ≡ t
@@ -80,19 +88,8 @@ unfolding each
 bytes_bits n [] = refl
 bytes_bits n (w ∷ l) = rw (byte_bit w.tag) (bytes_bits (suc n) l)
 
--- A product with a flag is no more than the number.
-pub times_most : (d : Bool) (n : ℕ) → n * bool_byte (not d) ≤ n
-times_most true n = omega arith
-times_most false n = omega arith
-
 -- A loop that changes one number a turn: the next one is still the old one, and after a turn one more is changed.
 module _ (f : ℕ → ℕ → ℕ) where
-  pub beside_length : (xs ys : List ℕ) → length (map_beside f xs ys) ≡ length ys
-  unfolding map_beside
-  beside_length [] ys = refl
-  beside_length (x ∷ xs) [] = refl
-  beside_length (x ∷ xs) (y ∷ ys) = ap suc (beside_length xs ys)
-
   pub beside_none : (xs ys : List ℕ) → ys ≡ map_beside f (take 0 xs) ys
   unfolding map_beside
   beside_none xs ys = refl
@@ -104,7 +101,7 @@ module _ (f : ℕ → ℕ → ℕ) where
   beside_next (x ∷ xs) [] (suc i) = refl
   beside_next (x ∷ xs) (y ∷ ys) (suc i) = beside_next xs ys i
 
-  pub beside_more : (xs ys : List ℕ) (i : ℕ) → i < length xs → i < length ys
+  beside_more : (xs ys : List ℕ) (i : ℕ) → i < length xs → i < length ys
       → set (map_beside f (take i xs) ys) i (f (get_or xs i 0) (get_or ys i 0)) ≡ map_beside f (take (suc i) xs) ys
   unfolding map_beside
   beside_more [] ys i h k = let z : ⊥ = omega arith in absurd z

@@ -1,9 +1,8 @@
 -- Document 01, 'Why a call is turned down', 4, 5 and 15 to 19: what refuses a call by the words that it reads, in the order of
 -- the numbers. Assumes nothing.
-use Rattle.std.specs.Prelude.{ℕ, ◌+◌, Bool, not, ◌&&◌, ◌||◌, List, [], ◌∷◌, leb, ltb, eqb}
+use Rattle.std.specs.Prelude.{ℕ, ◌+◌, Bool, not, ◌&&◌, ◌||◌, List, [], ◌∷◌, leb, ltb, eqb, Option}
 use Rattle.capabilities.specs.Capability.{base_of, length_of, permits}
 use Rattle.capabilities.specs.Refusals.{Reason, reason}
-use Rattle.pages.specs.declared.Place.{Place}
 use Rattle.words.specs.declared.Slot.{Slot}
 use Rattle.words.specs.Words.{named, nowhere}
 
@@ -32,16 +31,16 @@ bad_narrow s off len = (eqb len 0 || ltb (length_of s.cell) (off + len)) || ltb 
 
 -- 15 to 18, of the cell at base + off of the word in a, which shows a place; whether 16 applies is told. 15: "The register that must hold
 -- a capability (a, or s of narrow and grant) is untagged." 18: "The addressed page is not Mapped, or lies at V or beyond."
-abbrev pub cell_reasons : Bool → Slot → ℕ → Place → List Reason
+abbrev pub cell_reasons : Bool → Slot → ℕ → Option ℕ → List Reason
 cell_reasons denied a off place =
     reason 15 (not a.tag) ∷ reason 16 denied ∷ reason 17 (past_end a off) ∷ reason 18 (nowhere place) ∷ []
 
 -- 0B load: the register a, and the place.
-abbrev pub load_reasons : ℕ → ℕ → ℕ → Slot → ℕ → Place → List Reason
+abbrev pub load_reasons : ℕ → ℕ → ℕ → Slot → ℕ → Option ℕ → List Reason
 load_reasons p a d from off place = reason 4 ((unnamed p || unnamed a) || unnamed d) ∷ cell_reasons (may_not_load from) from off place
 
 -- 0C store: the registers a and s, and the place.
-abbrev pub store_reasons : ℕ → ℕ → ℕ → Slot → Slot → ℕ → Place → List Reason
+abbrev pub store_reasons : ℕ → ℕ → ℕ → Slot → Slot → ℕ → Option ℕ → List Reason
 store_reasons p a s to from off place = reason 4 ((unnamed p || unnamed a) || unnamed s) ∷ cell_reasons (may_not_store to from) to off place
 
 -- 0D narrow: the register s.

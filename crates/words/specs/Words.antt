@@ -1,10 +1,8 @@
 -- Document 01, 'Things and their sizes': "There are 8 parties, 0 to 7 .. Each party has 8 registers (a cell and its
 -- tag) and one mailbox for one capability". Assumes nothing.
-use Rattle.std.specs.Prelude.{ℕ, ◌+◌, ◌*◌, Bool, true, false, not, ◌&&◌, ◌||◌, List, get_or, ltb, eqb}
+use Rattle.std.specs.Prelude.{ℕ, ◌+◌, ◌*◌, Bool, true, false, not, ◌&&◌, ◌||◌, List, get_or, ltb, eqb, Option, Some, None}
 use Rattle.capabilities.specs.Capability.{permits}
 use Rattle.capabilities.specs.Lists.{pick}
-use Rattle.pages.specs.declared.Place.{Place}
-use Rattle.pages.specs.declared.Place.TheVariants.{At, Nowhere}
 use Rattle.reservations.specs.Core.{Core}
 use Rattle.reservations.specs.Revocation.{dying}
 use Rattle.words.specs.declared.Slot.{Slot}
@@ -47,14 +45,14 @@ unfoldable pub word_at : List ℕ → List ℕ → ℕ → Slot
 word_at cells tags at = slot (get_or cells at 0) (tag_of (get_or tags at 0))
 
 -- A virtual cell shows a place of lent memory or none.
-abbrev pub nowhere : Place → Bool
-nowhere (At at) = false
-nowhere Nowhere = true
+abbrev pub nowhere : Option ℕ → Bool
+nowhere (Some at) = false
+nowhere None = true
 
 -- The number of a place that is there.
-abbrev pub place_number : Place → ℕ
-place_number (At at) = at
-place_number Nowhere = 0
+abbrev pub place_number : Option ℕ → ℕ
+place_number (Some at) = at
+place_number None = 0
 
 -- 0B, of the word at the cell that a addresses: "its tag is dropped without permission 4"; and by document 02, 2026-05, "while a revocation
 -- runs, a load of a capability with base in the range puts it in the register, and answers, with tag 0".

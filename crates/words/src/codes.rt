@@ -1,35 +1,56 @@
-// The refusals of a call by the words that it reads: the lowest number that applies, or 0.
+// Whether a call is turned down by the words that it reads. Reasons are judged in the order of their numbers.
 ghost use Rattle.std.specs.Prelude.{◌||◌, ◌≡◌};
 ghost use Rattle.capabilities.specs.Lists.{pick};
-ghost use Rattle.capabilities.specs.Refusals.{first};
-ghost use Rattle.words.specs.WordReasons.{unnamed, not_manager, may_not_store, bad_narrow};
+ghost use Rattle.capabilities.specs.Refusals.{code, first};
+ghost use Rattle.words.specs.WordReasons.{unnamed, not_manager, may_not_store, bad_narrow, cell_reasons};
 ghost use Rattle.words.specs.WordReasons.{load_reasons, store_reasons, narrow_reasons, grant_reasons, receive_reasons};
 
 use crate::Slot;
-use crate::memory::nowhere;
-use capabilities::capability::{base_of, length_of, may_load, may_store, may_store_capability};
-use capabilities::refusal::first;
-use pages::Place;
+use capabilities::capability::{Permission, base_of, length_of, permits};
+use capabilities::refusal::Refusal;
 
-// Whether one of three numbers is no party's or register's.
-fn unnamed(p: u8, q: u8, r: u8) -> bool
-    ensures { result ≡ ((unnamed p || unnamed q) || unnamed r) }
+// A party's or register's number.
+fn unnamed(number: u8) -> bool
+    ensures { result ≡ unnamed number }
 {
-    (!(p < 8) | !(q < 8)) | !(r < 8)
+    number >= 8
 }
 
-// Refusals 4 and 5 of a manager's command, or else what the later ones come to.
-pub fn manager_code(party: u8, rest: u8) -> u8
-    ensures { result ≡ pick (unnamed party) 4 (pick (not_manager party) 5 rest) }
+// Of three such numbers.
+fn named_check(p: u8, q: u8, r: u8) -> Result<(), Refusal>
+    ensures { code result ≡ pick ((unnamed p || unnamed q) || unnamed r) 4 0 }
 {
-    first(4, !(party < 8), first(5, !(party == 0), rest))
+    if unnamed(p) | unnamed(q) | unnamed(r) {
+        return Err(Refusal::Unnamed);
+    }
+    Ok(())
+}
+
+// Whether the register that must hold a capability holds one.
+fn held_check(tag: bool) -> Result<(), Refusal>
+    ensures { code result ≡ pick tag 0 15 }
+{
+    if tag { Ok(()) } else { Err(Refusal::Untagged) }
+}
+
+// What a manager's command asks of the caller.
+pub fn manager_check(party: u8) -> Result<(), Refusal>
+    ensures { code result ≡ pick (unnamed party) 4 (pick (not_manager party) 5 0) }
+{
+    if unnamed(party) {
+        return Err(Refusal::Unnamed);
+    }
+    if party != 0 {
+        return Err(Refusal::Manager);
+    }
+    Ok(())
 }
 
 fn may_not_store(to: Slot, word: Slot) -> bool
     ensures { result ≡ may_not_store to word }
 {
-    let store = may_store(to.cell);
-    let capability = may_store_capability(to.cell);
+    let store = permits(to.cell, Permission::Store);
+    let capability = permits(to.cell, Permission::StoreCapability);
     !store | (word.tag & !capability)
 }
 
@@ -43,41 +64,89 @@ fn bad_narrow(word: Slot, off: u16, len: u16) -> bool
     ((len == 0) | ((length as u32) < end)) | (65535 < start)
 }
 
-pub fn load_code(party: u8, a: u8, d: u8, from: Slot, off: u16, place: Place) -> u8
-    ensures { result ≡ first (load_reasons party a d from off place) }
+// Of the cell at base + off of a word, which shows a place.
+#[tactic(auto, unfolding(capabilities::specs::Refusals::first))]
+fn cell_check(denied: bool, word: Slot, off: u16, place: Option<usize>) -> Result<(), Refusal>
+    ensures { code result ≡ first (cell_reasons denied word off place) }
 {
+    held_check(word.tag)?;
+    if denied {
+        return Err(Refusal::Permission);
+    }
+    if length_of(word.cell) <= off {
+        return Err(Refusal::Bounds);
+    }
+    if place.is_none() {
+        return Err(Refusal::NotMapped);
+    }
+    Ok(())
+}
+
+#[tactic(auto, unfolding(capabilities::specs::Refusals::first))]
+pub fn load_check(
+    party: u8,
+    a: u8,
+    d: u8,
+    from: Slot,
+    off: u16,
+    place: Option<usize>,
+) -> Result<(), Refusal>
+    ensures { code result ≡ first (load_reasons party a d from off place) }
+{
+    named_check(party, a, d)?;
+    cell_check(!permits(from.cell, Permission::Load), from, off, place)
+}
+
+#[tactic(auto, unfolding(capabilities::specs::Refusals::first))]
+pub fn store_check(
+    party: u8,
+    a: u8,
+    s: u8,
+    to: Slot,
+    from: Slot,
+    off: u16,
+    place: Option<usize>,
+) -> Result<(), Refusal>
+    ensures { code result ≡ first (store_reasons party a s to from off place) }
+{
+    named_check(party, a, s)?;
+    cell_check(may_not_store(to, from), to, off, place)
+}
+
+#[tactic(auto, unfolding(capabilities::specs::Refusals::first))]
+pub fn narrow_check(party: u8, s: u8, d: u8, from: Slot, off: u16, len: u16) -> Result<(), Refusal>
+    ensures { code result ≡ first (narrow_reasons party s d from off len) }
+{
+    named_check(party, s, d)?;
+    held_check(from.tag)?;
     let past = length_of(from.cell) <= off;
-    let bounds = first(17, past, first(18, nowhere(place), 0));
-    let held = first(15, !from.tag, first(16, !may_load(from.cell), bounds));
-    first(4, unnamed(party, a, d), held)
+    if past | bad_narrow(from, off, len) {
+        return Err(Refusal::Bounds);
+    }
+    Ok(())
 }
 
-pub fn store_code(party: u8, a: u8, s: u8, to: Slot, from: Slot, off: u16, place: Place) -> u8
-    ensures { result ≡ first (store_reasons party a s to from off place) }
+#[tactic(auto, unfolding(capabilities::specs::Refusals::first))]
+pub fn grant_check(party: u8, s: u8, to: u8, given: Slot, mail: Slot) -> Result<(), Refusal>
+    ensures { code result ≡ first (grant_reasons party s to given mail) }
 {
-    let past = length_of(to.cell) <= off;
-    let bounds = first(17, past, first(18, nowhere(place), 0));
-    let held = first(15, !to.tag, first(16, may_not_store(to, from), bounds));
-    first(4, unnamed(party, a, s), held)
+    named_check(party, s, to)?;
+    held_check(given.tag)?;
+    if mail.tag {
+        return Err(Refusal::Mailbox);
+    }
+    Ok(())
 }
 
-pub fn narrow_code(party: u8, s: u8, d: u8, from: Slot, off: u16, len: u16) -> u8
-    ensures { result ≡ first (narrow_reasons party s d from off len) }
+#[tactic(auto, unfolding(capabilities::specs::Refusals::first))]
+pub fn receive_check(party: u8, d: u8, mail: Slot) -> Result<(), Refusal>
+    ensures { code result ≡ first (receive_reasons party d mail) }
 {
-    let past = length_of(from.cell) <= off;
-    let bounds = first(17, past | bad_narrow(from, off, len), 0);
-    first(4, unnamed(party, s, d), first(15, !from.tag, bounds))
-}
-
-pub fn grant_code(party: u8, s: u8, to: u8, from: Slot, mail: Slot) -> u8
-    ensures { result ≡ first (grant_reasons party s to from mail) }
-{
-    let held = first(15, !from.tag, first(19, mail.tag, 0));
-    first(4, unnamed(party, s, to), held)
-}
-
-pub fn receive_code(party: u8, d: u8, mail: Slot) -> u8
-    ensures { result ≡ first (receive_reasons party d mail) }
-{
-    first(4, !(party < 8) | !(d < 8), first(19, !mail.tag, 0))
+    if unnamed(party) | unnamed(d) {
+        return Err(Refusal::Unnamed);
+    }
+    if !mail.tag {
+        return Err(Refusal::Mailbox);
+    }
+    Ok(())
 }

@@ -4,7 +4,6 @@ ghost use Rattle.capabilities.specs.Lists.{pick};
 ghost use Rattle.words.specs.Words.{empty, keep_tag};
 ghost use Rattle.words.specs.Lent.{collected_mark, collected_cell, collected_marks, collected_mail};
 
-use crate::registers::shorter;
 use crate::{Slot, empty, keep_tag};
 use capabilities::Range;
 use capabilities::death::dies;
@@ -14,7 +13,7 @@ fn collected_mark(range: Range, cell: u64, mark: u8) -> u8
     ensures { result ≡ collected_mark range cell mark }
 {
     let gone = dies(range, cell);
-    mark * ((!gone) as u8)
+    mark * u8::from(!gone)
 }
 
 // A mailbox's cell, 0 if it is a capability that dies.
@@ -23,19 +22,17 @@ fn collected_cell(range: Range, flag: u8, cell: u64) -> u64
 {
     let here = dies(range, cell);
     let gone = !(flag == 0) & here;
-    cell * ((!gone) as u64)
+    cell * u64::from(!gone)
 }
 
 // The registers' tags: 0 where the register's base lies in the range.
 pub fn collect_words(range: Range, words: &[u64], marks: &mut [u8])
     ensures { marks.new ≡ collected_marks range words.now marks.old }
 {
-    let count = shorter(words.len(), marks.len());
-    let mut i: usize = 0;
-    while i < count {
+    // By index: after a zip over `iter_mut` a proof knows no element.
+    for i in 0..words.len().min(marks.len()) {
         let mark = marks[i];
         marks[i] = collected_mark(range, words[i], mark);
-        i += 1;
     }
 }
 
@@ -44,13 +41,9 @@ pub fn collect_mail(range: Range, mail: &mut [u64], flags: &mut [u8])
     ensures mail_after { mail.new ≡ collected_mail range mail.old flags.old }
     ensures flags_after { flags.new ≡ collected_marks range mail.old flags.old }
 {
-    let count = shorter(mail.len(), flags.len());
-    let mut i: usize = 0;
-    while i < count {
-        let cell = mail[i];
-        let flag = flags[i];
+    for i in 0..mail.len().min(flags.len()) {
+        let (cell, flag) = (mail[i], flags[i]);
         mail[i] = collected_cell(range, flag, cell);
         flags[i] = collected_mark(range, cell, flag);
-        i += 1;
     }
 }

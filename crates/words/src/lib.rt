@@ -5,7 +5,7 @@ ghost use Rattle.std.specs.Prelude.{not, ◌&&◌, ◌≡◌};
 ghost use Rattle.capabilities.specs.Capability.{permits};
 ghost use Rattle.words.specs.Words.{empty, keep_tag};
 
-use capabilities::capability::may_load_capability;
+use capabilities::capability::{Permission, permits};
 
 pub mod codes;
 pub mod collecting;
@@ -13,27 +13,25 @@ pub mod memory;
 pub mod registers;
 
 // A word: a cell and its tag. Tagged, it is a capability.
-#[derive(Clone, Copy)]
+#[derive(Clone, Copy, PartialEq, Eq, Debug, Default)]
 pub struct Slot {
     pub cell: u64,
     pub tag: bool,
 }
 
+// The default, under the name and with the clause that callers cite.
 pub fn empty() -> Slot
     ensures { result ≡ empty }
 {
-    Slot {
-        cell: 0,
-        tag: false,
-    }
+    Slot::default()
 }
 
 pub fn keep_tag(word: Slot, keep: bool) -> Slot
     ensures { result ≡ keep_tag word keep }
 {
     Slot {
-        cell: word.cell,
         tag: word.tag & keep,
+        ..word
     }
 }
 
@@ -41,7 +39,7 @@ pub fn keep_tag(word: Slot, keep: bool) -> Slot
 pub fn loaded(from: Slot, word: Slot, dies: bool) -> Slot
     ensures { result ≡ keep_tag word (permits from.cell 4 && not dies) }
 {
-    keep_tag(word, may_load_capability(from.cell) & !dies)
+    keep_tag(word, permits(from.cell, Permission::LoadCapability) & !dies)
 }
 
 // 0C: what a store writes of a word, by whether it dies with the revocation that runs.

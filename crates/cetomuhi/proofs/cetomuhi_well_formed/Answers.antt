@@ -10,4 +10,4 @@ pub returns : goal.returns
 unfolding formed_lent
 returns c =
     let a = c.args in
-    c.formed.ensures ∙ ap (λ (n : Numbers). formed_of (arrays n a.words.now a.marks.now a.mail.now a.flags.now a.rows.now a.pages.now a.frames.now a.principals.now a.counts.now)) c.numbers_from-nums.ensures.value
+    c.formed.ensures ∙ ap (λ (n : Numbers). formed_of (arrays n a.words.now a.marks.now a.mail.now a.flags.now a.rows.now a.pages.now a.frames.now a.principals.now a.counts.now)) c.numbers_from.ensures.value

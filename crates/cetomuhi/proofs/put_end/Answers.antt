@@ -1,29 +1,19 @@
--- `cetomuhi::put_end` meets its contract. The reasons are nested in their order.
-use Prim.Native.Nat.{ℕ}
-use mathlib.Core.Bool.{not}
+-- `cetomuhi::put_end` meets its contract. The refusals are judged in their order.
 use mathlib.Core.List.{◌++◌}
-use mathlib.Core.Path.{refl, ap, ◌∙◌}
+use mathlib.Core.Path.{ap, ◌∙◌}
 use lib.ListN.{drop}
-use Rattle.capabilities.specs.Lists.{pick}
+use Rattle.std.specs.Option.{unwrap_or}
+use Rattle.capabilities.specs.Refusals.{number_of}
+use Rattle.capabilities.specs.declared.refusal.Refusal.TheVariants.{Command}
 use Rattle.words.specs.Words.{empty}
-use Rattle.arrays.specs.declared.Answer.{Answer}
+use Rattle.arrays.specs.Lent.{held}
 use Rattle.arrays.specs.Steps.{answer}
 use Rattle.entries.specs.Runs.{answer_numbers}
-use Rattle.cetomuhi.specs.Exports.{end_code}
+use Rattle.cetomuhi.proofs.One.{end_is}
 use Rattle.cetomuhi.proofs.put_end.Goals as goal
 
-pub put_answer-requires : goal.put_answer-requires
-put_answer-requires c = c.requires
-
 pub returns : goal.returns
-unfolding end_code
 returns c =
-    let put = c.put_answer in
-    let coded = c.coded in
-    let first2 = c.first-code in
-    let first = c.first in
-    let a = c.args in record {
-      value = refl;
-      answers_after = put.ensures ∙ ap (λ (x : Answer). answer_numbers x 0 ++ drop 4 a.answers.now)
-          (coded.ensures ∙ ap (λ (k : ℕ). answer k empty) (first2.ensures ∙ ap (λ (k : ℕ). pick (not a.good) 1 k) first.ensures));
-    }
+    let m = c.args.machine.now in
+    let code = ap number_of (c.unwrap_or-refusal.ensures ∙ ap (λ o. unwrap_or o Command) c.err.ensures.value) ∙ end_is (held m) m.cells.now m.tags.now c.fit.result c.fit.ensures in
+    ap (λ l. l ++ drop 4 c.args.answers.now) (c.copy_from_slice.ensures.after ∙ c.numbers.ensures ∙ ap (λ r. answer_numbers r 0) (c.refused.ensures ∙ ap (λ k. answer k empty) code))

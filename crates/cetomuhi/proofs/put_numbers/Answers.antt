@@ -1,18 +1,10 @@
 -- `cetomuhi::put_numbers` meets its contract. Six numbers are put over six, or none.
-use Prim.Native.Nat.{◌≤◌}
-use native.Mathlib.Omega.{arith}
-use lib.ListN.{length, length-set}
-use Rattle.cetomuhi.proofs.Writing.{put_six, over_other}
+use mathlib.Core.Path.{◌∙◌}
+use Rattle.cetomuhi.proofs.Writing.{over_six, over_other}
 use Rattle.cetomuhi.proofs.put_numbers.Goals as goal
 
-pub bounds-numbers-4 : goal.bounds-numbers-4
-bounds-numbers-4 c = let h : 5 ≤ length c.args.numbers.now = omega (arith, c.if-numbers-eq6.true) in simp length-set h
+pub returns-then-lent-eq6 : goal.returns-then-lent-eq6
+returns-then-lent-eq6 c = c.copy_from_slice.ensures.after ∙ over_six c.args.nums c.args.lent.now c.if-lent-eq6.true
 
-pub bounds-numbers-5 : goal.bounds-numbers-5
-bounds-numbers-5 c = let h : 6 ≤ length c.args.numbers.now = omega (arith, c.if-numbers-eq6.true) in simp length-set h
-
-pub returns-then-numbers-eq6 : goal.returns-then-numbers-eq6
-returns-then-numbers-eq6 c = put_six c.args.nums c.args.numbers.now c.if-numbers-eq6.true
-
-pub returns-else-numbers-eq6 : goal.returns-else-numbers-eq6
-returns-else-numbers-eq6 c = over_other c.args.nums c.args.numbers.now c.if-numbers-eq6.false
+pub returns-else-lent-eq6 : goal.returns-else-lent-eq6
+returns-else-lent-eq6 c = over_other c.args.nums c.args.lent.now c.if-lent-eq6.false

@@ -1,7 +1,9 @@
 -- `cost::claimants` meets its contract. After p turns the first p principals are asked.
 use native.Mathlib.Omega.{arith}
-use Prim.Native.Nat.{ℕ}
-use mathlib.Core.Path.{◌≡◌, refl, ap, ◌∙◌}
+use Prim.Native.Nat.{ℕ, ◌≤◌}
+use mathlib.Core.Path.{refl, sym, ap, subst, ◌∙◌}
+use lib.Dec.{ltb}
+use Rattle.capabilities.proofs.Choice.{byte_pick, at_most}
 use Rattle.claims.specs.Claims.{one, sum}
 use Rattle.claims.specs.Lent.{count_in}
 use Rattle.claims.proofs.Sums.{sum_turn}
@@ -9,30 +11,14 @@ use Rattle.cost.proofs.claimants.Goals as goal
 
 pub loop-p-init : goal.loop-p-init
 unfolding sum
-loop-p-init c = (omega arith, omega arith, refl)
-
-pub overflow_add-n : goal.overflow_add-n
-overflow_add-n c = omega (arith, c.claimant-n.ensures.1)
-
-pub overflow_add-p : goal.overflow_add-p
-overflow_add-p c = omega arith
-
-pub loop-p-smaller : goal.loop-p-smaller
-loop-p-smaller c = omega arith
+loop-p-init c = (omega arith, refl)
 
 pub loop-p-preserved : goal.loop-p-preserved
 loop-p-preserved c =
     let a = c.args in
-    let loop = c.loop-p in (
-      omega arith,
-      omega (arith, c.claimant-n.ensures.1),
-      sum_turn (λ q. one (count_in a.counts.now q a.page)) loop.p loop.n _ loop.invariant.2
-          (c.claimant-n.ensures.0 ∙ ap one c.count_in.ensures),
-    )
-
-pub returns : goal.returns
-returns c =
-    let a = c.args in
     let loop = c.loop-p in
-    let e : loop.p ≡ 32 = omega arith in
-    loop.invariant.2 ∙ ap (λ (k : ℕ). sum k (λ q. one (count_in a.counts.now q a.page))) e
+    let b = ltb 0 c.count_in.result in
+    let few = subst (λ (k : ℕ). k ≤ 1) (sym (byte_pick b)) (at_most b) in (
+      omega (arith, few),
+      sum_turn (λ q. one (count_in a.counts.now q a.page)) loop.p loop.n _ loop.invariant.1 (byte_pick b ∙ ap one c.count_in.ensures),
+    )

@@ -1,29 +1,15 @@
 -- `entries::call_in` meets its contract. Refusals 1 and 2 are tested, and then the arrays are well formed and the memory fits.
-use mathlib.Core.Path.{sym, ◌∙◌}
-use borrow.Author.Tests.{not-true, not-false}
-use Rattle.arrays.specs.Reading.{arrays}
-use Rattle.formed.proofs.Tested.{tested}
-use Rattle.step.proofs.Commanding.{call_fits, call_unformed, call_formed, call_unfit, fitted}
-use mathlib.Core.Path.{ap}
-use mathlib.Core.Bool.{not}
+use Rattle.arrays.specs.Lent.{held}
+use Rattle.entries.proofs.Fitting.{fit_call, unfit_call}
 use Rattle.entries.proofs.call_in.Goals as goal
 
-pub returns-then-not-formed : goal.returns-then-not-formed
-returns-then-not-formed c =
-    let a = c.args in
-    let m = arrays a.nums a.words.now a.marks.now a.mail.now a.flags.now a.rows.now a.pages.now a.frames.now a.principals.now a.counts.now in
-    rw c.coded-answer.ensures (call_unformed m a.cells.now a.tags.now a.call (sym c.formed.ensures ∙ not-true _ (ap not c.if-not-formed.true)))
+pub returns-in-Ok-clause-called : goal.returns-in-Ok-clause-called
+returns-in-Ok-clause-called c =
+    let m = c.args.machine.now in
+    fit_call (held m) m.cells.now m.tags.now c.in-Ok.ensures.0 c.in-Ok.ensures.1 c.args.call _ c.step.ensures.ruled
 
-pub returns-then-not-cells-size : goal.returns-then-not-cells-size
-returns-then-not-cells-size c =
-    let a = c.args in
-    let m = arrays a.nums a.words.now a.marks.now a.mail.now a.flags.now a.rows.now a.pages.now a.frames.now a.principals.now a.counts.now in
-    let e = sym c.formed.ensures ∙ not-false _ (ap not c.if-not-formed.false) in
-    rw c.coded-answer-then-not-cells-size.ensures (call_formed m a.cells.now a.tags.now a.call e _ (call_unfit m (tested m e) a.cells.now a.tags.now (not-true _ (ap not c.if-not-cells-size.true)) a.call))
-
-pub returns : goal.returns
-returns c =
-    let a = c.args in
-    let m = arrays a.nums a.words.now a.marks.now a.mail.now a.flags.now a.rows.now a.pages.now a.frames.now a.principals.now a.counts.now in
-    let e = sym c.formed.ensures ∙ not-false _ (ap not c.if-not-formed.false) in
-    call_formed m a.cells.now a.tags.now a.call e _ (call_fits m a.cells.now a.tags.now (not-false _ (ap not c.if-not-cells-size.false)) a.call _ (c.step.ensures (tested m e) (fitted m a.cells.now a.tags.now (not-false _ (ap not c.if-not-cells-size.false)))))
+pub returns-in-Err-clause-called : goal.returns-in-Err-clause-called
+returns-in-Err-clause-called c =
+    let m = c.args.machine.now in
+    rw c.refused.ensures
+    (unfit_call (held m) m.cells.now m.tags.now _ c.in-Err.ensures.0 c.in-Err.ensures.1 c.args.call)

@@ -4,7 +4,7 @@ use Rattle.lines.proofs.Laying.{Spelt}
 use Rattle.lines.proofs.put.Given as goal
 
 abbrev pub invariant-loop-rest : goal.invariant-loop-rest
-invariant-loop-rest l = (l.rest ≤ l.n) × Spelt l.n l.rest l.first l.end l.initial.out l.out
+invariant-loop-rest l = record { below : l.rest ≤ l.n; spelt : Spelt l.n l.rest l.first l.end l.initial.out l.out }
 
 abbrev pub decreases-loop-rest : goal.decreases-loop-rest
 decreases-loop-rest l = l.rest

@@ -1,14 +1,8 @@
 -- `lines::put_tag` meets its contract. Three stores.
-use native.Mathlib.Omega.{arith}
-use lib.ListN.{length-set}
+use mathlib.Core.Path.{◌∙◌}
+use Rattle.capabilities.proofs.Choice.{byte_pick}
 use Rattle.lines.proofs.Laying.{laid_tag}
 use Rattle.lines.proofs.put_tag.Goals as goal
 
-pub bounds-out-at-2 : goal.bounds-out-at-2
-bounds-out-at-2 c = simp length-set (omega arith)
-
-pub bounds-out-at-3 : goal.bounds-out-at-3
-bounds-out-at-3 c = simp length-set (omega arith)
-
 pub returns : goal.returns
-returns c = laid_tag c.args.tag c.byte.result c.args.at c.args.out.now c.byte.ensures.value c.requires
+returns c = laid_tag c.args.tag _ c.args.at c.args.out.now (c.from.ensures ∙ byte_pick c.args.tag) c.requires

@@ -6,14 +6,14 @@ use Rattle.operands.proofs.read_numbers.Goals as goal
 pub returns-then-numbers-ne7 : goal.returns-then-numbers-ne7
 returns-then-numbers-ne7 c = let a = c.args in other_count a.input.now a.at a.numbers.now c.if-numbers-ne7.true
 
-pub returns-in-Read : goal.returns-in-Read
-returns-in-Read c =
+pub returns-in-Some : goal.returns-in-Some
+returns-in-Some c =
     let a = c.args in
     call_numbered a.input.now a.at a.numbers.now c.if-numbers-ne7.false
-    (sym c.read_at.ensures.is ∙ c.in-Read.is)
-    (c.copy.ensures ∙ c.numbers_of-all.ensures)
+    (sym c.read_at.ensures.is ∙ c.in-Some.is)
+    (c.copy_from_slice.ensures.after ∙ c.numbers_of.ensures)
 
-pub returns-in-Refused : goal.returns-in-Refused
-returns-in-Refused c =
+pub returns-in-None : goal.returns-in-None
+returns-in-None c =
     let a = c.args in
-    none_numbered a.input.now a.at a.numbers.now c.if-numbers-ne7.false (sym c.read_at.ensures.is ∙ c.in-Refused.is)
+    none_numbered a.input.now a.at a.numbers.now c.if-numbers-ne7.false (sym c.read_at.ensures.is ∙ c.in-None.is)

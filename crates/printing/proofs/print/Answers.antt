@@ -6,7 +6,7 @@ use Rattle.session_rules.proofs.Sessions.{print_fits}
 use Rattle.printing.proofs.print.Goals as goal
 
 pub returns : goal.returns
-returns c =
+returns g c =
     let if2 = c.if-out-looked_at.false in
     let looked = c.looked_at.ensures.value in
     let if1 = c.if-out-lt6 in

@@ -5,12 +5,12 @@ use Rattle.session_rules.proofs.Sessions.{print_fits, print_not}
 use Rattle.printing.proofs.print_counted.Goals as goal
 
 pub returns-then-out-len : goal.returns-then-out-len
-returns-then-out-len c =
+returns-then-out-len g c =
     let a = c.args in
     print_not (lines_of a.input.now) a.out.now c.lines-len.result c.lines-len.ensures.laid.ends c.if-out-len.true
 
 pub returns : goal.returns
-returns c =
+returns g c =
     let a = c.args in
     print_fits (lines_of a.input.now) a.out.now c.lines.result _ c.lines.ensures.laid
     (let e = c.lines.ensures.laid.ends in let e₂ = c.lines-len.ensures.laid.ends in omega (arith, e, e₂))

@@ -1,19 +1,17 @@
 -- `step::command` meets its contract. The bytes read as a call, which the step does, or as none.
 use mathlib.Core.Path.{sym, ◌∙◌}
-use Rattle.arrays.specs.Reading.{arrays}
+use Rattle.arrays.specs.Lent.{held}
 use Rattle.step.proofs.Commanding.{fitting, command_reads, command_none}
 use Rattle.step.proofs.command.Goals as goal
 
-pub returns-in-Read : goal.returns-in-Read
-returns-in-Read c formed fits =
-    let a = c.args in
-    let read = sym c.read_at.ensures.is ∙ c.in-Read.is in
-    let m = arrays a.nums a.words.now a.marks.now a.mail.now a.flags.now a.rows.now a.pages.now a.frames.now a.principals.now a.counts.now in
-    command_reads m a.cells.now a.tags.now (fitting m a.cells.now a.tags.now fits.0 fits.1) a.input.now a.at _ _ read _ (c.step-done.ensures formed fits)
+pub returns-in-Some-clause-judged : goal.returns-in-Some-clause-judged
+returns-in-Some-clause-judged c formed fits =
+    let m = c.args.machine.now in
+    let read = sym c.read_at.ensures.is ∙ c.in-Some.is in
+    command_reads (held m) m.cells.now m.tags.now (fitting (held m) m.cells.now m.tags.now fits.0 fits.1) c.args.input.now c.args.at _ _ read _ (c.step.ensures.ruled formed fits)
 
-pub returns-in-Refused : goal.returns-in-Refused
-returns-in-Refused c formed fits =
-    let a = c.args in
-    let read = sym c.read_at.ensures.is ∙ c.in-Refused.is in
-    let m = arrays a.nums a.words.now a.marks.now a.mail.now a.flags.now a.rows.now a.pages.now a.frames.now a.principals.now a.counts.now in
-    rw c.coded-answer.ensures (command_none m a.cells.now a.tags.now (fitting m a.cells.now a.tags.now fits.0 fits.1) a.input.now a.at formed read)
+pub returns-in-None-clause-judged : goal.returns-in-None-clause-judged
+returns-in-None-clause-judged c formed fits =
+    let m = c.args.machine.now in
+    let read = sym c.read_at.ensures.is ∙ c.in-None.is in
+    rw c.refused.ensures (command_none (held m) m.cells.now m.tags.now (fitting (held m) m.cells.now m.tags.now fits.0 fits.1) c.args.input.now c.args.at formed read)

@@ -1,153 +1,91 @@
 -- `step::step` meets its contract. Each kind of call is done by one function, whose promise is the step's for that kind.
 use mathlib.Core.Path.{refl}
-use Rattle.arrays.specs.Reading.{arrays, state_of}
+use Rattle.arrays.specs.Reading.{state_of}
+use Rattle.arrays.specs.Lent.{held}
 use Rattle.step.specs.Entries.{ruled_on}
 use Rattle.calls_in_place.proofs.Tabling.{take_plain}
 use Rattle.step.proofs.step.Goals as goal
 
-pub returns-in-Take : goal.returns-in-Take
+pub returns-in-Take-clause-ruled : goal.returns-in-Take-clause-ruled
 unfolding ruled_on
-returns-in-Take c formed fits =
-    let a = c.args in
-    let m = arrays a.nums a.words.now a.marks.now a.mail.now a.flags.now a.rows.now a.pages.now a.frames.now a.principals.now a.counts.now in
-    rw c.in-Take.is (take_plain (state_of m) _ _ _ a.cells.now a.tags.now _ (c.take.ensures m formed a.cells.now a.tags.now))
+returns-in-Take-clause-ruled c formed fits = let m = c.args.machine.now in rw (c.in-Take.is, c.from.ensures) (take_plain (state_of (held m)) _ _ _ m.cells.now m.tags.now _ (c.take.ensures (held m) refl formed m.cells.now m.tags.now))
 
-pub returns-in-Split : goal.returns-in-Split
+pub returns-in-Split-clause-ruled : goal.returns-in-Split-clause-ruled
 unfolding ruled_on
-returns-in-Split c formed fits =
-    let a = c.args in
-    let m = arrays a.nums a.words.now a.marks.now a.mail.now a.flags.now a.rows.now a.pages.now a.frames.now a.principals.now a.counts.now in
-    rw c.in-Split.is (c.split.ensures m formed a.cells.now a.tags.now)
+returns-in-Split-clause-ruled c formed fits = let m = c.args.machine.now in rw (c.in-Split.is, c.from-in-Split.ensures) (c.split.ensures (held m) refl formed m.cells.now m.tags.now)
 
-pub returns-in-Merge : goal.returns-in-Merge
+pub returns-in-Merge-clause-ruled : goal.returns-in-Merge-clause-ruled
 unfolding ruled_on
-returns-in-Merge c formed fits =
-    let a = c.args in
-    let m = arrays a.nums a.words.now a.marks.now a.mail.now a.flags.now a.rows.now a.pages.now a.frames.now a.principals.now a.counts.now in
-    rw c.in-Merge.is (c.merge.ensures m formed a.cells.now a.tags.now)
+returns-in-Merge-clause-ruled c formed fits = let m = c.args.machine.now in rw (c.in-Merge.is, c.from-in-Merge.ensures) (c.merge.ensures (held m) refl formed m.cells.now m.tags.now)
 
-pub returns-in-Give : goal.returns-in-Give
+pub returns-in-Give-clause-ruled : goal.returns-in-Give-clause-ruled
 unfolding ruled_on
-returns-in-Give c formed fits =
-    let a = c.args in
-    let m = arrays a.nums a.words.now a.marks.now a.mail.now a.flags.now a.rows.now a.pages.now a.frames.now a.principals.now a.counts.now in
-    rw (c.on.ensures, c.in-Give.is) (c.give.ensures m refl formed a.cells.now a.tags.now)
+returns-in-Give-clause-ruled c formed fits = let m = c.args.machine.now in rw (c.in-Give.is, c.from-in-Give.ensures) (c.give.ensures (held m) refl formed m.cells.now m.tags.now)
 
-pub returns-in-Revoke : goal.returns-in-Revoke
+pub returns-in-Revoke-clause-ruled : goal.returns-in-Revoke-clause-ruled
 unfolding ruled_on
-returns-in-Revoke c formed fits =
-    let a = c.args in
-    let m = arrays a.nums a.words.now a.marks.now a.mail.now a.flags.now a.rows.now a.pages.now a.frames.now a.principals.now a.counts.now in
-    rw c.in-Revoke.is (c.revoke.ensures m formed a.cells.now a.tags.now)
+returns-in-Revoke-clause-ruled c formed fits = let m = c.args.machine.now in rw (c.in-Revoke.is, c.from-in-Revoke.ensures) (c.revoke.ensures (held m) formed m.cells.now m.tags.now)
 
-pub returns-in-Sweep : goal.returns-in-Sweep
+pub returns-in-Sweep-clause-ruled : goal.returns-in-Sweep-clause-ruled
 unfolding ruled_on
-returns-in-Sweep c formed fits =
-    let a = c.args in
-    let m = arrays a.nums a.words.now a.marks.now a.mail.now a.flags.now a.rows.now a.pages.now a.frames.now a.principals.now a.counts.now in
-    rw c.in-Sweep.is (c.sweep.ensures m refl fits.0 fits.1 formed)
+returns-in-Sweep-clause-ruled c formed fits = let m = c.args.machine.now in rw (c.in-Sweep.is, c.from-in-Sweep.ensures) (c.sweep.ensures (held m) refl fits.0 fits.1 formed)
 
-pub returns-in-Collect : goal.returns-in-Collect
+pub returns-in-Collect-clause-ruled : goal.returns-in-Collect-clause-ruled
 unfolding ruled_on
-returns-in-Collect c formed fits =
-    let a = c.args in
-    let m = arrays a.nums a.words.now a.marks.now a.mail.now a.flags.now a.rows.now a.pages.now a.frames.now a.principals.now a.counts.now in
-    rw c.in-Collect.is (c.collect.ensures a.frames.now a.principals.now a.counts.now formed a.cells.now a.tags.now)
+returns-in-Collect-clause-ruled c formed fits = let m = c.args.machine.now in rw (c.in-Collect.is, c.from-in-Collect.ensures) (c.collect.ensures m.frames.now m.principals.now m.counts.now formed m.cells.now m.tags.now)
 
-pub returns-in-Map : goal.returns-in-Map
+pub returns-in-Map-clause-ruled : goal.returns-in-Map-clause-ruled
 unfolding ruled_on
-returns-in-Map c formed fits =
-    let a = c.args in
-    let m = arrays a.nums a.words.now a.marks.now a.mail.now a.flags.now a.rows.now a.pages.now a.frames.now a.principals.now a.counts.now in
-    rw (c.on-in-Map.ensures, c.in-Map.is) (c.map.ensures m refl refl formed a.cells.now a.tags.now)
+returns-in-Map-clause-ruled c formed fits = let m = c.args.machine.now in rw (c.in-Map.is, c.from-in-Map.ensures) (c.map.ensures (held m) refl refl formed m.cells.now m.tags.now)
 
-pub returns-in-Unmap : goal.returns-in-Unmap
+pub returns-in-Unmap-clause-ruled : goal.returns-in-Unmap-clause-ruled
 unfolding ruled_on
-returns-in-Unmap c formed fits =
-    let a = c.args in
-    let m = arrays a.nums a.words.now a.marks.now a.mail.now a.flags.now a.rows.now a.pages.now a.frames.now a.principals.now a.counts.now in
-    rw (c.on-in-Unmap.ensures, c.in-Unmap.is) (c.unmap.ensures m refl refl refl formed a.cells.now a.tags.now)
+returns-in-Unmap-clause-ruled c formed fits = let m = c.args.machine.now in rw (c.in-Unmap.is, c.from-in-Unmap.ensures) (c.unmap.ensures (held m) refl refl refl formed m.cells.now m.tags.now)
 
-pub returns-in-Zero : goal.returns-in-Zero
+pub returns-in-Zero-clause-ruled : goal.returns-in-Zero-clause-ruled
 unfolding ruled_on
-returns-in-Zero c formed fits =
-    let a = c.args in
-    let m = arrays a.nums a.words.now a.marks.now a.mail.now a.flags.now a.rows.now a.pages.now a.frames.now a.principals.now a.counts.now in
-    rw (c.on-in-Zero.ensures, c.in-Zero.is) (c.zero.ensures m refl fits.0 fits.1 formed)
+returns-in-Zero-clause-ruled c formed fits = let m = c.args.machine.now in rw (c.in-Zero.is, c.from-in-Zero.ensures) (c.zero.ensures (held m) refl fits.0 fits.1 formed)
 
-pub returns-in-Load : goal.returns-in-Load
+pub returns-in-Load-clause-ruled : goal.returns-in-Load-clause-ruled
 unfolding ruled_on
-returns-in-Load c formed fits =
-    let a = c.args in
-    let m = arrays a.nums a.words.now a.marks.now a.mail.now a.flags.now a.rows.now a.pages.now a.frames.now a.principals.now a.counts.now in
-    rw (c.on-in-Load.ensures, c.in-Load.is) (c.load-answer.ensures m refl refl formed)
+returns-in-Load-clause-ruled c formed fits = let m = c.args.machine.now in rw (c.in-Load.is, c.from-in-Load.ensures) (c.load.ensures (held m) refl refl formed)
 
-pub returns-in-Store : goal.returns-in-Store
+pub returns-in-Store-clause-ruled : goal.returns-in-Store-clause-ruled
 unfolding ruled_on
-returns-in-Store c formed fits =
-    let a = c.args in
-    let m = arrays a.nums a.words.now a.marks.now a.mail.now a.flags.now a.rows.now a.pages.now a.frames.now a.principals.now a.counts.now in
-    rw (c.on-in-Store.ensures, c.in-Store.is) (c.store-answer.ensures m refl refl refl refl formed)
+returns-in-Store-clause-ruled c formed fits = let m = c.args.machine.now in rw (c.in-Store.is, c.from-in-Store.ensures) (c.store.ensures (held m) refl refl refl refl formed)
 
-pub returns-in-Narrow : goal.returns-in-Narrow
+pub returns-in-Narrow-clause-ruled : goal.returns-in-Narrow-clause-ruled
 unfolding ruled_on
-returns-in-Narrow c formed fits =
-    let a = c.args in
-    let m = arrays a.nums a.words.now a.marks.now a.mail.now a.flags.now a.rows.now a.pages.now a.frames.now a.principals.now a.counts.now in
-    rw (c.on-in-Narrow.ensures, c.in-Narrow.is) (c.narrow.ensures m formed a.cells.now a.tags.now)
+returns-in-Narrow-clause-ruled c formed fits = let m = c.args.machine.now in rw (c.in-Narrow.is, c.from-in-Narrow.ensures) (c.narrow.ensures (held m) formed m.cells.now m.tags.now)
 
-pub returns-in-Number : goal.returns-in-Number
+pub returns-in-Number-clause-ruled : goal.returns-in-Number-clause-ruled
 unfolding ruled_on
-returns-in-Number c formed fits =
-    let a = c.args in
-    let m = arrays a.nums a.words.now a.marks.now a.mail.now a.flags.now a.rows.now a.pages.now a.frames.now a.principals.now a.counts.now in
-    rw (c.on-in-Number.ensures, c.in-Number.is) (c.number.ensures m formed a.cells.now a.tags.now)
+returns-in-Number-clause-ruled c formed fits = let m = c.args.machine.now in rw (c.in-Number.is, c.from-in-Number.ensures) (c.number.ensures (held m) formed m.cells.now m.tags.now)
 
-pub returns-in-Grant : goal.returns-in-Grant
+pub returns-in-Grant-clause-ruled : goal.returns-in-Grant-clause-ruled
 unfolding ruled_on
-returns-in-Grant c formed fits =
-    let a = c.args in
-    let m = arrays a.nums a.words.now a.marks.now a.mail.now a.flags.now a.rows.now a.pages.now a.frames.now a.principals.now a.counts.now in
-    rw (c.on-in-Grant.ensures, c.in-Grant.is) (c.grant.ensures m formed a.cells.now a.tags.now)
+returns-in-Grant-clause-ruled c formed fits = let m = c.args.machine.now in rw (c.in-Grant.is, c.from-in-Grant.ensures) (c.grant.ensures (held m) formed m.cells.now m.tags.now)
 
-pub returns-in-Receive : goal.returns-in-Receive
+pub returns-in-Receive-clause-ruled : goal.returns-in-Receive-clause-ruled
 unfolding ruled_on
-returns-in-Receive c formed fits =
-    let a = c.args in
-    let m = arrays a.nums a.words.now a.marks.now a.mail.now a.flags.now a.rows.now a.pages.now a.frames.now a.principals.now a.counts.now in
-    rw (c.on-in-Receive.ensures, c.in-Receive.is) (c.receive.ensures m formed a.cells.now a.tags.now)
+returns-in-Receive-clause-ruled c formed fits = let m = c.args.machine.now in rw (c.in-Receive.is, c.from-in-Receive.ensures) (c.receive.ensures (held m) formed m.cells.now m.tags.now)
 
-pub returns-in-TakeMasked : goal.returns-in-TakeMasked
+pub returns-in-TakeMasked-clause-ruled : goal.returns-in-TakeMasked-clause-ruled
 unfolding ruled_on
-returns-in-TakeMasked c formed fits =
-    let a = c.args in
-    let m = arrays a.nums a.words.now a.marks.now a.mail.now a.flags.now a.rows.now a.pages.now a.frames.now a.principals.now a.counts.now in
-    rw c.in-TakeMasked.is (c.take-in-TakeMasked.ensures m formed a.cells.now a.tags.now)
+returns-in-TakeMasked-clause-ruled c formed fits = let m = c.args.machine.now in rw (c.in-TakeMasked.is, c.from-in-TakeMasked.ensures) (c.take-in-TakeMasked.ensures (held m) refl formed m.cells.now m.tags.now)
 
-pub returns-in-Create : goal.returns-in-Create
+pub returns-in-Create-clause-ruled : goal.returns-in-Create-clause-ruled
 unfolding ruled_on
-returns-in-Create c formed fits =
-    let a = c.args in
-    let m = arrays a.nums a.words.now a.marks.now a.mail.now a.flags.now a.rows.now a.pages.now a.frames.now a.principals.now a.counts.now in
-    rw (c.on-in-Create.ensures, c.in-Create.is) (c.create-answer.ensures a.nums.v a.counts.now m refl formed a.cells.now a.tags.now)
+returns-in-Create-clause-ruled c formed fits = let m = c.args.machine.now in rw (c.in-Create.is, c.from-in-Create.ensures) (c.create.ensures m.nums.v m.counts.now (held m) refl formed m.cells.now m.tags.now)
 
-pub returns-in-Claim : goal.returns-in-Claim
+pub returns-in-Claim-clause-ruled : goal.returns-in-Claim-clause-ruled
 unfolding ruled_on
-returns-in-Claim c formed fits =
-    let a = c.args in
-    let m = arrays a.nums a.words.now a.marks.now a.mail.now a.flags.now a.rows.now a.pages.now a.frames.now a.principals.now a.counts.now in
-    rw (c.on-in-Claim.ensures, c.in-Claim.is) (c.claim-answer.ensures m refl formed a.cells.now a.tags.now)
+returns-in-Claim-clause-ruled c formed fits = let m = c.args.machine.now in rw (c.in-Claim.is, c.from-in-Claim.ensures) (c.claim.ensures (held m) refl formed m.cells.now m.tags.now)
 
-pub returns-in-Release : goal.returns-in-Release
+pub returns-in-Release-clause-ruled : goal.returns-in-Release-clause-ruled
 unfolding ruled_on
-returns-in-Release c formed fits =
-    let a = c.args in
-    let m = arrays a.nums a.words.now a.marks.now a.mail.now a.flags.now a.rows.now a.pages.now a.frames.now a.principals.now a.counts.now in
-    rw (c.on-in-Release.ensures, c.in-Release.is) (c.release-answer.ensures m refl formed a.cells.now a.tags.now)
+returns-in-Release-clause-ruled c formed fits = let m = c.args.machine.now in rw (c.in-Release.is, c.from-in-Release.ensures) (c.release.ensures (held m) refl formed m.cells.now m.tags.now)
 
-pub returns-in-Destroy : goal.returns-in-Destroy
+pub returns-in-Destroy-clause-ruled : goal.returns-in-Destroy-clause-ruled
 unfolding ruled_on
-returns-in-Destroy c formed fits =
-    let a = c.args in
-    let m = arrays a.nums a.words.now a.marks.now a.mail.now a.flags.now a.rows.now a.pages.now a.frames.now a.principals.now a.counts.now in
-    rw (c.on-in-Destroy.ensures, c.in-Destroy.is) (c.destroy.ensures a.nums.v m refl formed a.cells.now a.tags.now)
+returns-in-Destroy-clause-ruled c formed fits = let m = c.args.machine.now in rw (c.in-Destroy.is, c.from-in-Destroy.ensures) (c.destroy.ensures m.nums.v (held m) refl formed m.cells.now m.tags.now)

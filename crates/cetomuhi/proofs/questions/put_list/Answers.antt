@@ -1,9 +1,20 @@
--- `cetomuhi::questions::put_list` meets its contract: by the code.
+-- `cetomuhi::questions::put_list` meets its contract: by whether it is granted.
+use Rattle.std.specs.Option.{unwrap_or}
+use mathlib.Core.Path.{refl}
+use Rattle.capabilities.specs.Refusals.{number_of}
+use Rattle.capabilities.proofs.Refusals.{number_some}
+use Rattle.maps.specs.Questions.{answer}
 use Rattle.cetomuhi.proofs.Putting.{list_granted, list_refused}
 use Rattle.cetomuhi.proofs.questions.put_list.Goals as goal
 
-pub returns-then-answer-eq0 : goal.returns-then-answer-eq0
-returns-then-answer-eq0 c = list_granted c.args.rows.now c.args.question c.args.count.now c.args.bases.now c.ask_numbers-answer.result c.ask_numbers-answer.new.bases c.ask_numbers-answer.ensures c.if-answer-eq0.true
+pub returns-in-Ok : goal.returns-in-Ok
+returns-in-Ok c =
+    let a = c.args in
+    let f = c.in-Ok.found in
+    list_granted a.rows.now a.question a.count.now a.bases.now (answer 0 f.count (unwrap_or f.nearest 0)) c.ask_numbers.new.bases c.in-Ok.ensures refl
 
-pub returns-else-answer-eq0 : goal.returns-else-answer-eq0
-returns-else-answer-eq0 c = list_refused c.args.rows.now c.args.question c.args.count.now c.args.bases.now c.ask_numbers-answer.result c.ask_numbers-answer.new.bases c.ask_numbers-answer.ensures c.if-answer-eq0.false
+pub returns-in-Err : goal.returns-in-Err
+returns-in-Err c =
+    let a = c.args in
+    let r = c.in-Err.refusal in
+    rw c.number.ensures (list_refused a.rows.now a.question a.count.now a.bases.now (answer (number_of r) 0 0) c.ask_numbers.new.bases c.in-Err.ensures (number_some r))

@@ -1,14 +1,11 @@
--- `claims::destroying::clear_counts` meets its contract. After q turns the first q principals' counts are done: `cleared_turn`.
-use Prim.Native.Nat.{◌-◌, ◌*◌, ◌≤◌}
+-- `claims::destroying::clear_counts`: after q turns the first q principals' counts are done.
+use Prim.Native.Nat.{◌*◌}
 use mathlib.Core.List.{◌++◌}
 use mathlib.Core.Path.{◌≡◌}
-use lib.ListN.{length, take, drop}
+use lib.ListN.{take, drop}
 use Rattle.capabilities.specs.Lists.{map_each}
 use Rattle.claims.proofs.Looping.{cleared_by}
 use Rattle.claims.proofs.destroying.clear_counts.Given as goal
 
 abbrev pub invariant-loop-q : goal.invariant-loop-q
-invariant-loop-q l = (l.q ≤ 32) × (length l.counts ≡ 8192) × (l.counts ≡ map_each (cleared_by l.marks) 0 (take (256 * l.q) l.initial.counts) ++ drop (256 * l.q) l.initial.counts)
-
-abbrev pub decreases-loop-q : goal.decreases-loop-q
-decreases-loop-q l = 32 - l.q
+invariant-loop-q l = l.counts ≡ map_each (cleared_by l.marks) 0 (take (256 * l.q) l.initial.counts) ++ drop (256 * l.q) l.initial.counts

@@ -1,14 +1,10 @@
--- `claims::destroying::clear_numbers` meets its contract. After q turns the first q numbers are done: `map_each_turn`.
-use Prim.Native.Nat.{◌-◌, ◌≤◌}
-use mathlib.Core.Bool.{false}
+-- `claims::destroying::clear_numbers`: after q turns the first q numbers are done.
 use mathlib.Core.List.{◌++◌}
 use mathlib.Core.Path.{◌≡◌}
-use lib.ListN.{length, get_or, take, drop}
-use Rattle.capabilities.specs.Lists.{pick, map_each}
+use lib.ListN.{take, drop}
+use Rattle.capabilities.specs.Lists.{map_each}
+use Rattle.claims.proofs.Looping.{emptied_at}
 use Rattle.claims.proofs.destroying.clear_numbers.Given as goal
 
 abbrev pub invariant-loop-q : goal.invariant-loop-q
-invariant-loop-q l = (l.q ≤ 32) × (length l.principals ≡ 32) × (l.principals ≡ map_each (λ k n. pick (get_or l.marks k false) 0 n) 0 (take l.q l.initial.principals) ++ drop l.q l.initial.principals)
-
-abbrev pub decreases-loop-q : goal.decreases-loop-q
-decreases-loop-q l = 32 - l.q
+invariant-loop-q l = l.principals ≡ map_each (emptied_at l.marks) 0 (take l.q l.initial.principals) ++ drop l.q l.initial.principals

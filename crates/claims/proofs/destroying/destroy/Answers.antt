@@ -1,28 +1,18 @@
--- `claims::destroying::destroy` meets its contract. Refused, all is as given.
-use mathlib.Core.Path.{refl, sym, ◌∙◌}
-use borrow.Author.Tests.{not-true, not-false}
-use Rattle.capabilities.proofs.Choice.{pick_yes, pick_no, kept}
-use Rattle.claims.specs.Numbers.{sized_in}
-use mathlib.Core.Path.{ap}
-use mathlib.Core.Bool.{not}
+-- `claims::destroying::destroy`: of as many numbers and counts as the machine's, the refusal is `may_destroy`'s.
+use Prim.Native.Nat.{ℕ}
+use mathlib.Core.List.{List}
+use mathlib.Core.Path.{sym, ap, ◌∙◌}
+use Rattle.capabilities.specs.Refusals.{first, code}
+use Rattle.claims.specs.Operations.{destroy_reasons}
+use Rattle.claims.specs.Numbers.{claims_in}
+use Rattle.claims.proofs.Reading.{sized_choice}
 use Rattle.claims.proofs.destroying.destroy.Goals as goal
 
-pub returns-then-not-principals-counts : goal.returns-then-not-principals-counts
-returns-then-not-principals-counts c = let a = c.args in record { value = sym (pick_no (sized_in a.principals.now a.counts.now) _ 1 (not-true (sized_in a.principals.now a.counts.now) (ap not c.if-not-principals-counts.true))); principals_after = refl; counts_after = refl }
-
-pub returns-then-code-ne0 : goal.returns-then-code-ne0
-returns-then-code-ne0 c =
+pub returns-clause-value : goal.returns-clause-value
+returns-clause-value c =
     let a = c.args in
-    let sized = not-false (sized_in a.principals.now a.counts.now) (ap not c.if-not-principals-counts.false) in record { value = c.destroy_code-code.ensures a.counts.now ∙ sym (pick_yes (sized_in a.principals.now a.counts.now) _ 1 sized); principals_after = sym (kept _ _ _ c.if-code-ne0.true); counts_after = sym (kept _ _ _ c.if-code-ne0.true) }
-
-pub drop_all-requires : goal.drop_all-requires
-drop_all-requires c = let a = c.args in not-false (sized_in a.principals.now a.counts.now) (ap not c.if-not-principals-counts.false)
-
-pub returns : goal.returns
-returns c =
-    let a = c.args in
-    let sized = not-false (sized_in a.principals.now a.counts.now) (ap not c.if-not-principals-counts.false) in record {
-      value = sym c.if-code-ne0.false ∙ c.destroy_code-code.ensures a.counts.now ∙ sym (pick_yes (sized_in a.principals.now a.counts.now) _ 1 sized);
-      principals_after = c.drop_all.ensures.principals_after;
-      counts_after = c.drop_all.ensures.counts_after;
-    }
+    let numbers = c.in-Some.ensures.cases in
+    let counts = c.in-Some-as_mut_array.ensures.cases in
+    ap code (sym c.in_ok-may_destroy.was) ∙ c.may_destroy.ensures a.counts.now
+    ∙ ap (λ (l : List ℕ). first (destroy_reasons (claims_in l a.counts.now) a.party a.principal)) numbers.same
+    ∙ sym (sized_choice a.principals.now a.counts.now _ numbers.long counts.long)

@@ -1,12 +1,9 @@
--- `claims::lent::above` meets its contract. After i turns the first i counts are counted: `above_more`.
+-- `claims::lent::above`: after so many turns so many counts are counted.
 use mathlib.Core.Path.{◌≡◌}
-use Prim.Native.Nat.{◌≤◌, ◌-◌}
+use Prim.Native.Nat.{◌≤◌}
 use lib.ListN.{take}
 use Rattle.claims.specs.Claims.{above}
 use Rattle.claims.proofs.lent.above.Given as goal
 
-abbrev pub invariant-loop-i : goal.invariant-loop-i
-invariant-loop-i l = (l.i ≤ l.end) × (l.n ≤ l.i) × (l.n ≡ above (take l.i l.counts))
-
-abbrev pub decreases-loop-i : goal.decreases-loop-i
-decreases-loop-i l = l.end - l.i
+abbrev pub invariant-loop-count : goal.invariant-loop-count
+invariant-loop-count l = (l.n ≤ l.count-index) × (l.n ≡ above (take l.count-index l.counts))

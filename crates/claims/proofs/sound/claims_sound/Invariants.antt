@@ -1,5 +1,4 @@
--- `claims::sound::claims_sound` meets its contract. After p turns the first p principals are tested and their limits summed.
-use Prim.Native.Nat.{◌-◌, ◌≤◌}
+-- `claims::sound::claims_sound`: after p turns the first p principals are tested and their limits summed.
 use mathlib.Core.Bool.{◌&&◌}
 use mathlib.Core.Path.{◌≡◌}
 use lib.ListN.{take}
@@ -13,7 +12,4 @@ use Rattle.claims.proofs.sound.claims_sound.Given as goal
 
 abbrev pub invariant-loop-p : goal.invariant-loop-p
 invariant-loop-p l =
-    (l.p ≤ 32) × (l.sound ≡ (root_sound (principal_in l.principals 0) && each (tested l.v l.principals l.counts) 0 (take l.p l.principals))) × (l.total ≡ sum l.p (limit_of (claims_in l.principals l.counts)))
-
-abbrev pub decreases-loop-p : goal.decreases-loop-p
-decreases-loop-p l = 32 - l.p
+    (l.sound ≡ (root_sound (principal_in l.principals 0) && each (tested l.v l.principals l.counts) 0 (take l.p l.principals))) × (l.total ≡ sum l.p (limit_of (claims_in l.principals l.counts)))

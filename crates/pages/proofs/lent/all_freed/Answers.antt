@@ -1,39 +1,14 @@
--- `pages::lent::all_freed` meets its contract. The pages before the range and beyond it are not in it: `test_none`, `test_all`.
-use native.Mathlib.Omega.{arith}
-use mathlib.Core.Path.{◌∙◌}
-use Rattle.pages.specs.Freed.{freed_in, all_freed}
-use Rattle.pages.proofs.OnNumbers.{test_none, test_more, test_all}
-use Rattle.pages.proofs.lent.all_freed.Invariants.{freed}
+-- `pages::lent::all_freed`: the range's pages are a part of all.
+use Rattle.std.proofs.Common.{◌∙◌, ap, eqb}
+use Rattle.pages.specs.Numbers.{page_code}
+use Rattle.pages.proofs.Parts.{test_more, test_whole, freed_there}
 use Rattle.pages.proofs.lent.all_freed.Goals as goal
 
-pub loop-p-init : goal.loop-p-init
-loop-p-init c = (omega arith, omega arith, test_none freed c.first_page-p.result c.args.pages.now)
-
-pub offset_bounds-pages-p : goal.offset_bounds-pages-p
-offset_bounds-pages-p c = omega (arith, c.end_page-upto.ensures)
-
-pub bounds-pages-p : goal.bounds-pages-p
-bounds-pages-p c = omega (arith, c.end_page-upto.ensures)
-
-pub overflow_add-p : goal.overflow_add-p
-overflow_add-p c = omega (arith, c.end_page-upto.ensures)
-
-pub loop-p-smaller : goal.loop-p-smaller
-loop-p-smaller c = omega arith
-
-pub loop-p-preserved : goal.loop-p-preserved
-loop-p-preserved c =
-    let a = c.args in
-    let loop = c.loop-p in
-    let e = c.end_page-upto.ensures in
-    let from = c.first_page-p.result in
-    (omega arith, omega arith, test_more freed from a.pages.now loop.p loop.all c.is_freed-all.result loop.invariant.0 (omega arith) loop.invariant.2 c.is_freed-all.ensures)
+pub loop-number-preserved : goal.loop-number-preserved
+unfolding page_code
+loop-number-preserved c = test_more (λ k n. eqb n 1) _ _ _ c.loop-number.invariant _ 0 c.loop-number-test.true (ap (eqb _) c.number.ensures)
 
 pub returns : goal.returns
-unfolding all_freed freed_in
 returns c =
-    let a = c.args in
-    let loop = c.loop-p in
-    let from = c.first_page-p in
-    let e = c.end_page-upto.ensures in
-    λ v f frames. loop.invariant.2 ∙ test_all freed from.result a.pages.now a.range loop.p from.ensures (omega arith) (omega arith)
+    λ v f frames. test_whole (λ k n. eqb n 1) _ _ _ c.loop-number.invariant c.loop-number-test.false
+    ∙ freed_there c.args.range c.args.pages.now _ _ c.places-start.ensures.start c.places-start.ensures.end v f frames

@@ -1,21 +1,6 @@
--- `pages::lent::all_freed` meets its contract. The pages before the range and beyond it are not in it: `test_none`, `test_all`.
-use mathlib.Core.Path.{◌≡◌}
-use Prim.Native.Nat.{◌≤◌, ◌-◌}
-use mathlib.Core.Bool.{Bool}
-use mathlib.Core.List.{map}
-use lib.ListN.{take}
+use Rattle.std.proofs.Common.{◌≡◌, take, eqb}
 use Rattle.capabilities.specs.Lists.{each}
-use Rattle.pages.specs.Freed.{is_freed}
-use Rattle.pages.specs.Numbers.{page_in}
-use Rattle.pages.specs.Pages.{PageEntry}
-use Rattle.pages.proofs.OnNumbers.{tested_from}
 use Rattle.pages.proofs.lent.all_freed.Given as goal
 
-abbrev pub freed : PageEntry → Bool
-freed e = is_freed e.state
-
-abbrev pub invariant-loop-p : goal.invariant-loop-p
-invariant-loop-p l = (l.initial.p ≤ l.p) × (l.p - l.initial.p ≤ l.upto - l.initial.p) × (l.all ≡ each (tested_from freed l.initial.p l.pages) 0 (take l.p (map page_in l.pages)))
-
-abbrev pub decreases-loop-p : goal.decreases-loop-p
-decreases-loop-p l = l.upto - l.p
+abbrev pub invariant-loop-number : goal.invariant-loop-number
+invariant-loop-number l = l.all ≡ each (λ k n. eqb n 1) 0 (take l.number-index l.number-items)

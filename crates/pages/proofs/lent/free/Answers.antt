@@ -1,65 +1,27 @@
--- `pages::lent::free` meets its contract. After each turn the numbers from the range's first page up to p are made so: `walk_more`.
-use native.Mathlib.Omega.{arith}
-use mathlib.Core.Path.{ap, ◌∙◌}
-use lib.ListN.{length}
-use Rattle.pages.proofs.RangeNumbers.{freed_code, walk_start, walk_length, walk_more, walk_end, freed_made, freed_reads}
+-- `pages::lent::free`: the range's pages are a part of all.
+use Rattle.std.proofs.Common.{◌∙◌, ◌≡◌, ap, refl, ◌-◌, map, take, drop, arith, drop_of_length-le, append-nil, get_or}
+use lib.Seq.{take_all}
+use borrow.Rule.Slice.PartMut.{put_mid}
+use Rattle.std.proofs.lemmas.List.Edits.{map_over_more}
+use Rattle.std.proofs.lemmas.List.{get_or_default}
+use Rattle.pages.proofs.Parts.{freed_code, free_there}
+use Rattle.pages.proofs.RangeNumbers.{freed_reads}
 use Rattle.pages.proofs.lent.free.Goals as goal
 
-pub loop-p-init : goal.loop-p-init
-loop-p-init c = (omega arith, omega arith, walk_start freed_code c.first_page-p.result c.args.pages.now)
+pub loop-number-init : goal.loop-number-init
+loop-number-init c = refl
 
-pub offset_bounds-pages-p : goal.offset_bounds-pages-p
-offset_bounds-pages-p c =
-    let a = c.args in
-    let from = c.first_page-p.result in
-    let loop = c.loop-p in
-    omega (arith, c.end_page-upto.ensures, ap length loop.invariant.2 ∙ walk_length freed_code from a.pages.now loop.p)
-
-pub bounds-pages-p : goal.bounds-pages-p
-bounds-pages-p c =
-    let a = c.args in
-    let from = c.first_page-p.result in
-    let loop = c.loop-p in
-    omega (arith, c.end_page-upto.ensures, ap length loop.invariant.2 ∙ walk_length freed_code from a.pages.now loop.p)
-
-pub offset_bounds-pages-p-in-loop-p : goal.offset_bounds-pages-p-in-loop-p
-offset_bounds-pages-p-in-loop-p c =
-    let a = c.args in
-    let from = c.first_page-p.result in
-    let loop = c.loop-p in
-    omega (arith, c.end_page-upto.ensures, ap length loop.invariant.2 ∙ walk_length freed_code from a.pages.now loop.p)
-
-pub bounds-pages-p-in-loop-p : goal.bounds-pages-p-in-loop-p
-bounds-pages-p-in-loop-p c =
-    let a = c.args in
-    let from = c.first_page-p.result in
-    let loop = c.loop-p in
-    omega (arith, c.end_page-upto.ensures, ap length loop.invariant.2 ∙ walk_length freed_code from a.pages.now loop.p)
-
-pub overflow_add-p : goal.overflow_add-p
-overflow_add-p c = omega arith
-
-pub loop-p-smaller : goal.loop-p-smaller
-loop-p-smaller c = omega arith
-
-pub loop-p-preserved : goal.loop-p-preserved
-loop-p-preserved c =
-    let a = c.args in
-    let from = c.first_page-p.result in
-    let loop = c.loop-p in
-    let e = c.end_page-upto.ensures in
-    (omega arith, omega arith, walk_more freed_code from a.pages.now loop.pages loop.p c.freed.result loop.invariant.0 (omega arith) loop.invariant.2 c.freed.ensures)
-
-pub shape_of-pages : goal.shape_of-pages
-shape_of-pages c =
-    let a = c.args in
-    let loop = c.loop-p in
-    ap length loop.invariant.2 ∙ walk_length freed_code c.first_page-p.result a.pages.now loop.p
+pub loop-number-preserved : goal.loop-number-preserved
+loop-number-preserved c =
+    let loop = c.loop-number in
+    rw c.freed.ensures (map_over_more freed_code _ loop.number-items loop.number-index (get_or loop.number-items loop.number-index 0) c.loop-number-test.true loop.invariant (get_or_default loop.number-items loop.number-index 0 _ (omega (arith, loop.auto.number-items))))
 
 pub returns : goal.returns
 returns c =
     let a = c.args in
-    let loop = c.loop-p in
-    let from = c.first_page-p in
-    let e = c.end_page-upto.ensures in
-    let d = loop.invariant.2 ∙ walk_end freed_code from.result a.pages.now a.range from.ensures loop.p (omega arith) (omega arith) ∙ freed_made a.range a.pages.now in record { pages_after = d; by_index = λ v f frames. rw d (freed_reads a.range a.pages.now v f frames) }
+    let p = c.places-start in
+    let loop = c.loop-number in
+    let part = take (p.result.1 - p.result.0) (drop p.result.0 a.pages.now) in
+    let made : loop.number-items ≡ map freed_code part = loop.invariant ∙ rw (take_all loop.number-index part c.loop-number-test.false, drop_of_length-le part {i = loop.number-index} c.loop-number-test.false, append-nil) refl in
+    let d = ap (put_mid p.result.0 (p.result.1 - p.result.0) a.pages.now) made ∙ free_there a.range a.pages.now _ _ p.ensures.start p.ensures.end in
+    record { pages_after = d; by_index = λ v f frames. rw d (freed_reads a.range a.pages.now v f frames) }

@@ -1,11 +1,6 @@
--- `pages::lent::free` meets its contract. After each turn the numbers from the range's first page up to p are made so: `walk_more`.
-use mathlib.Core.Path.{◌≡◌}
-use Prim.Native.Nat.{◌≤◌, ◌-◌}
-use Rattle.pages.proofs.RangeNumbers.{freed_code, walked}
+use Rattle.std.proofs.Common.{◌≡◌, ◌++◌, take, drop, map}
+use Rattle.pages.proofs.Parts.{freed_code}
 use Rattle.pages.proofs.lent.free.Given as goal
 
-abbrev pub invariant-loop-p : goal.invariant-loop-p
-invariant-loop-p l = (l.initial.p ≤ l.p) × (l.p - l.initial.p ≤ l.upto - l.initial.p) × (l.pages ≡ walked freed_code l.initial.p l.initial.pages l.p)
-
-abbrev pub decreases-loop-p : goal.decreases-loop-p
-decreases-loop-p l = l.upto - l.p
+abbrev pub invariant-loop-number : goal.invariant-loop-number
+invariant-loop-number l = l.number-items ≡ map freed_code (take l.number-index l.initial.number-items) ++ drop l.number-index l.initial.number-items

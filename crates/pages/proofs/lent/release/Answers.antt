@@ -1,49 +1,19 @@
--- `pages::lent::release` meets its contract. After each turn the numbers from the range's first page up to p are 0: `walk_more`.
-use native.Mathlib.Omega.{arith}
-use mathlib.Core.Path.{refl, ap, ◌∙◌}
-use lib.ListN.{length}
-use Rattle.pages.proofs.RangeNumbers.{walk_start, walk_length, walk_more, walk_end, released_made, released_reads}
-use Rattle.pages.proofs.lent.release.Invariants.{zeroed}
+-- `pages::lent::release`: the range's pages are a part of all.
+use Rattle.std.proofs.Common.{◌∙◌, ◌≡◌, ap, refl, map, ℕ, ◌-◌, take, drop, length}
+use borrow.Rule.Slice.PartMut.{put_mid}
+use Rattle.std.proofs.lemmas.Simd.{splat_is_map}
+use Rattle.pages.specs.declared.PageState.TheVariants.{Unmapped}
+use Rattle.pages.specs.Numbers.{page_code}
+use Rattle.pages.proofs.Parts.{release_there}
+use Rattle.pages.proofs.RangeNumbers.{released_reads}
 use Rattle.pages.proofs.lent.release.Goals as goal
-
-pub loop-p-init : goal.loop-p-init
-loop-p-init c = (omega arith, omega arith, walk_start zeroed c.first_page-p.result c.args.pages.now)
-
-pub offset_bounds-pages-p : goal.offset_bounds-pages-p
-offset_bounds-pages-p c =
-    let a = c.args in
-    let loop = c.loop-p in
-    omega (arith, c.end_page-upto.ensures, ap length loop.invariant.2 ∙ walk_length zeroed c.first_page-p.result a.pages.now loop.p)
-
-pub bounds-pages-p : goal.bounds-pages-p
-bounds-pages-p c =
-    let a = c.args in
-    let loop = c.loop-p in
-    omega (arith, c.end_page-upto.ensures, ap length loop.invariant.2 ∙ walk_length zeroed c.first_page-p.result a.pages.now loop.p)
-
-pub overflow_add-p : goal.overflow_add-p
-overflow_add-p c = omega arith
-
-pub loop-p-smaller : goal.loop-p-smaller
-loop-p-smaller c = omega arith
-
-pub loop-p-preserved : goal.loop-p-preserved
-loop-p-preserved c =
-    let a = c.args in
-    let loop = c.loop-p in
-    let e = c.end_page-upto.ensures in
-    (omega arith, omega arith, walk_more zeroed c.first_page-p.result a.pages.now loop.pages loop.p 0 loop.invariant.0 (omega arith) loop.invariant.2 refl)
-
-pub shape_of-pages : goal.shape_of-pages
-shape_of-pages c =
-    let a = c.args in
-    let loop = c.loop-p in
-    ap length loop.invariant.2 ∙ walk_length zeroed c.first_page-p.result a.pages.now loop.p
 
 pub returns : goal.returns
 returns c =
     let a = c.args in
-    let loop = c.loop-p in
-    let from = c.first_page-p in
-    let e = c.end_page-upto.ensures in
-    let d = loop.invariant.2 ∙ walk_end zeroed from.result a.pages.now a.range from.ensures loop.p (omega arith) (omega arith) ∙ released_made a.range a.pages.now in record { pages_after = d; by_index = λ v f frames. rw d (released_reads a.range a.pages.now v f frames) }
+    let p = c.places-start in
+    let part = take (p.result.1 - p.result.0) (drop p.result.0 a.pages.now) in
+    let made : c.fill.new.self ≡ map (λ x. page_code Unmapped) part =
+    c.fill.ensures.after (λ y h. cc) ∙ splat_is_map part (length part) c.number.result refl ∙ ap (λ (n : ℕ). map (λ x. n) part) c.number.ensures in
+    let d = ap (put_mid p.result.0 (p.result.1 - p.result.0) a.pages.now) made ∙ release_there a.range a.pages.now _ _ p.ensures.start p.ensures.end in
+    record { pages_after = d; by_index = λ v f frames. rw d (released_reads a.range a.pages.now v f frames) }

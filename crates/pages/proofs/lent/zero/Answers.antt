@@ -1,26 +1,15 @@
--- `pages::lent::zero` meets its contract. Refused, all is as given; granted, the frame and its part of cells and tags are put.
-use native.Mathlib.Omega.{arith}
-use mathlib.Core.Path.{sym, ◌∙◌}
-use Rattle.capabilities.proofs.Choice.{kept}
-use mathlib.Core.List.{[]}
-use lib.ListN.{length}
-use Rattle.pages.specs.Numbers.{frame_code, layer_of}
-use Rattle.pages.proofs.Memory.{zero_served}
+-- `pages::lent::zero`: the frame's cells and tags come back 0 between what stood around them.
+use Rattle.std.proofs.Common.{arith}
+use Rattle.pages.specs.Numbers.{layer_of}
+use Rattle.pages.proofs.Memory.{put_cleared, served}
 use Rattle.pages.proofs.lent.zero.Goals as goal
 
-pub returns-then-code-ne0 : goal.returns-then-code-ne0
-returns-then-code-ne0 c = record { by_index = c.zero_code-code.ensures; frames_after = sym (kept _ _ _ c.if-code-ne0.true); cells_after = sym (kept _ _ _ c.if-code-ne0.true); tags_after = sym (kept _ _ _ c.if-code-ne0.true) }
+pub returns-clause-cells_after : goal.returns-clause-cells_after
+returns-clause-cells_after c =
+    let of = served (layer_of 0 c.args.f c.args.frames.now c.args.frames.now) _ _ c.if-not-cells-size.false in
+    put_cleared c.args.frame c.args.cells.now _ (omega arith) (c.fill.ensures.after (λ y h. cc))
 
-pub clear_cells_of-requires : goal.clear_cells_of-requires
-clear_cells_of-requires c =
-    let a = c.args in
-    omega (arith, zero_served (layer_of 0 a.f [] a.frames.now) a.frame (length a.cells.now) (length a.tags.now) (sym (c.zero_code-code.ensures 0 []) ∙ c.if-code-ne0.false))
-
-pub clear_tags_of-requires : goal.clear_tags_of-requires
-clear_tags_of-requires c =
-    let a = c.args in
-    omega (arith, zero_served (layer_of 0 a.f [] a.frames.now) a.frame (length a.cells.now) (length a.tags.now) (sym (c.zero_code-code.ensures 0 []) ∙ c.if-code-ne0.false))
-
-pub returns : goal.returns
-unfolding frame_code
-returns c = record { by_index = λ v pages. sym c.if-code-ne0.false ∙ c.zero_code-code.ensures v pages; frames_after = c.put_frame.ensures; cells_after = c.clear_cells_of.ensures; tags_after = c.clear_tags_of.ensures }
+pub returns-clause-tags_after : goal.returns-clause-tags_after
+returns-clause-tags_after c =
+    let of = served (layer_of 0 c.args.f c.args.frames.now c.args.frames.now) _ _ c.if-not-cells-size.false in
+    put_cleared c.args.frame c.args.tags.now _ (omega arith) (c.fill-2.ensures.after (λ y h. cc))

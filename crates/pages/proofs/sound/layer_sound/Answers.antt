@@ -2,6 +2,7 @@
 use native.Mathlib.Omega.{arith}
 use mathlib.Core.Path.{refl, sym, ap}
 use lib.Seq.{length-take-le}
+use Rattle.pages.specs.Sound.{is_unused}
 use Rattle.pages.proofs.Testing.{fit, unfit, layer_tested}
 use mathlib.Core.Bool.{not}
 use Rattle.pages.proofs.sound.layer_sound.Goals as goal
@@ -21,18 +22,6 @@ counts-low-requires c =
     let is = fit a.v a.f a.pages.now a.frames.now _ c.in_range.ensures (ap not c.if-not-in_range-sized.false) in
     record { f_bound = omega arith; pages_len_bound = omega (arith, length-take-le a.v a.pages.now is.v_most); tally_value = refl }
 
-pub slice_bounds-pages_unused-count : goal.slice_bounds-pages_unused-count
-slice_bounds-pages_unused-count c =
-    let a = c.args in
-    let is = fit a.v a.f a.pages.now a.frames.now _ c.in_range.ensures (ap not c.if-not-in_range-sized.false) in
-    is.v_most
-
-pub slice_bounds-pages_unused-start : goal.slice_bounds-pages_unused-start
-slice_bounds-pages_unused-start c =
-    let a = c.args in
-    let is = fit a.v a.f a.pages.now a.frames.now _ c.in_range.ensures (ap not c.if-not-in_range-sized.false) in
-    is.v_most
-
 pub slice_bounds-frames_counted-end : goal.slice_bounds-frames_counted-end
 slice_bounds-frames_counted-end c =
     let a = c.args in
@@ -45,20 +34,9 @@ frames_counted-counted-requires c =
     let is = fit a.v a.f a.pages.now a.frames.now _ c.in_range.ensures (ap not c.if-not-in_range-sized.false) in
     omega (arith, length-take-le a.f a.frames.now is.f_most)
 
-pub slice_bounds-frames_unused-count : goal.slice_bounds-frames_unused-count
-slice_bounds-frames_unused-count c =
-    let a = c.args in
-    let is = fit a.v a.f a.pages.now a.frames.now _ c.in_range.ensures (ap not c.if-not-in_range-sized.false) in
-    is.f_most
-
-pub slice_bounds-frames_unused-start : goal.slice_bounds-frames_unused-start
-slice_bounds-frames_unused-start c =
-    let a = c.args in
-    let is = fit a.v a.f a.pages.now a.frames.now _ c.in_range.ensures (ap not c.if-not-in_range-sized.false) in
-    is.f_most
-
 pub returns : goal.returns
+unfolding is_unused
 returns c =
     let a = c.args in
     let is = fit a.v a.f a.pages.now a.frames.now _ c.in_range.ensures (ap not c.if-not-in_range-sized.false) in
-    layer_tested a.v a.f a.pages.now a.frames.now is _ _ _ _ _ c.counts-low.ensures.value c.counts-low.ensures.tally c.pages_unused-low_rest.ensures c.frames_counted-counted.ensures c.frames_unused-counted_rest.ensures
+    layer_tested a.v a.f a.pages.now a.frames.now is _ _ _ _ _ c.counts-low.ensures.value c.counts-low.ensures.tally c.unused-low_rest.ensures c.frames_counted-counted.ensures c.unused-counted_rest.ensures

@@ -1,18 +1,13 @@
 -- `printing::session::one` meets its contract. Well-formed arrays pass the test, so that its refusal never comes.
-use mathlib.Core.Bool.{true≢false}
-use mathlib.Core.Path.{sym, ◌∙◌}
+use mathlib.Core.Bool.{not, true≢false}
+use mathlib.Core.Path.{sym, ap, ◌∙◌}
 use borrow.Author.Tests.{not-true}
-use Rattle.arrays.specs.Reading.{arrays}
+use Rattle.arrays.specs.Lent.{held}
+use Rattle.formed.specs.Test.{formed_of}
 use Rattle.formed.proofs.Tested.{passing}
-use mathlib.Core.Path.{ap}
-use mathlib.Core.Bool.{not}
 use Rattle.printing.proofs.session.one.Goals as goal
 
-pub returns-then-not-formed : goal.returns-then-not-formed
-returns-then-not-formed c =
-    let a = c.args in
-    let m = arrays a.nums a.words.now a.marks.now a.mail.now a.flags.now a.rows.now a.pages.now a.frames.now a.principals.now a.counts.now in
-    absurd (true≢false (sym (passing m c.requires.formed) ∙ sym c.formed.ensures ∙ not-true _ (ap not c.if-not-formed.true)))
-
-pub returns : goal.returns
-returns c = c.command.ensures c.requires.formed c.requires.cells_len
+pub returns-then-not-formed-clause-judged : goal.returns-then-not-formed-clause-judged
+returns-then-not-formed-clause-judged g c =
+    let seen = ap formed_of (sym c.view.ensures) in
+    absurd (true≢false (sym (passing (held c.args.machine.now) c.requires.0) ∙ seen ∙ sym c.formed.ensures ∙ not-true _ (ap not c.if-not-formed.true)))

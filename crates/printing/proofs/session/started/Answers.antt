@@ -1,47 +1,22 @@
 -- `printing::session::started` meets its contract. The arrays are those that a fresh state is written as.
 use Prim.Native.Nat.{◌*◌}
-use native.Mathlib.Omega.{arith}
 use mathlib.Core.Path.{sym, ap, ◌∙◌}
-use lib.ListN.{length, length-replicate}
-use Rattle.arrays.specs.declared.Numbers.{Numbers}
-use Rattle.printing.proofs.Arriving.{begun_formed, frames_most, lent_zeroed, begun_lines}
+use lib.ListN.{length}
+use Rattle.arrays.specs.Lent.{held}
+use Rattle.printing.proofs.Arriving.{lent_zeroed, lent_long, begun_formed, begun_frames, begun_state}
 use Rattle.printing.proofs.session.started.Goals as goal
 
-pub slice_bounds-cells-end : goal.slice_bounds-cells-end
-slice_bounds-cells-end c =
+pub commands-requires-clause-ready : goal.commands-requires-clause-ready
+commands-requires-clause-ready g c =
     let a = c.args in
-    let m = frames_most a.v a.f c.requires.f_value in
-    omega (arith, m)
+    let m = held c.open.new.machine in
+    let kept = c.open.ensures.memory in
+    let n = lent_long a.v a.f c.requires.f_value ∙ ap (λ k. 16 * k) (sym (begun_frames a.v a.f c.requires.f_value m c.open.ensures.opened)) in
+    (begun_formed a.v a.f c.requires.f_value m c.open.ensures.opened, (ap length kept.0 ∙ n, ap length kept.1 ∙ n))
 
-pub slice_bounds-commands-end-10 : goal.slice_bounds-commands-end-10
-slice_bounds-commands-end-10 c =
-    let a = c.args in
-    sym (ap length (lent_zeroed a.v a.f c.requires.f_value) ∙ length-replicate (16 * a.f) 0)
-
-pub slice_bounds-tags-end : goal.slice_bounds-tags-end
-slice_bounds-tags-end c =
-    let a = c.args in
-    let m = frames_most a.v a.f c.requires.f_value in
-    omega (arith, m)
-
-pub slice_bounds-commands-end-11 : goal.slice_bounds-commands-end-11
-slice_bounds-commands-end-11 c =
-    let a = c.args in
-    sym (ap length (lent_zeroed a.v a.f c.requires.f_value) ∙ length-replicate (16 * a.f) 0)
-
-pub commands-requires : goal.commands-requires
-commands-requires c =
-    let a = c.args in
-    let own = c.fresh_numbers-nums in
-    let n = ap length (lent_zeroed a.v a.f c.requires.f_value) ∙ length-replicate (16 * a.f) 0 ∙ ap (λ (x : Numbers). 16 * x.f) (sym own.ensures) in record {
-      formed = begun_formed a.v a.f c.requires.f_value own.result own.ensures;
-      cells_len = (n, n);
-      in_bounds = c.requires.in_bounds;
-      input_len_bound = c.requires.input_len_bound;
-      begin_bound = c.requires.begin_bound;
-    }
-
-pub returns : goal.returns
-returns c =
-    let a = c.args in
-    let own = c.fresh_numbers-nums in record { laid = begun_lines a.v a.f c.requires.f_value own.result own.ensures a.input.now a.begin a.out.now c.commands.result _ c.commands.ensures.laid; upper_bound = c.commands.ensures.upper_bound }
+pub returns-clause-laid : goal.returns-clause-laid
+returns-clause-laid g c =
+    let kept = c.open.ensures.memory in
+    let zero = lent_zeroed c.args.v c.args.f c.requires.f_value in
+    let fresh = begun_state c.args.v c.args.f c.requires.f_value (held c.open.new.machine) c.open.ensures.opened in
+    rw (fresh, kept.0 ∙ zero, kept.1 ∙ zero) at c.commands.ensures.laid

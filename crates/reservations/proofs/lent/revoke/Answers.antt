@@ -15,7 +15,7 @@ pub returns : goal.returns
 unfolding revoked_rows revoked_pages
 returns c =
     let a = c.args in
-    let row = c.row_in-row.ensures in
+    let row = c.row-row.ensures in
     let range = c.range_of-range.ensures ∙ ap range_of row in
     let rows = c.put_row.ensures ∙ ap (λ (x : Reservation). put_at a.rows.now a.found (row_code x)) (c.revoking_row.ensures ∙ ap (λ (x : Reservation). revoking_row x) row) in
     let pages = c.free.ensures.pages_after ∙ ap (λ (r : Range). freed_numbers r a.pages.now) range in record { value = range; rows_after = rows; pages_after = pages; reads_as = λ v f place frames claims. rw (rows, pages) (revoke_reads a.rows.now a.count a.pages.now a.found v f place frames claims) }

@@ -1,37 +1,38 @@
 -- `short_histories::commands::command` meets its contract: each arm is its kind's part of the list.
+use native.Mathlib.Omega.{arith}
 use mathlib.Core.Path.{◌∙◌}
 use Rattle.short_histories.proofs.Numbered.{take_at, split_at_lem, merge_at, give_at, revoke_at, sweep_at, collect_at, map_at, unmap_at, zero_at, past_at}
 use Rattle.short_histories.proofs.commands.command.Goals as goal
 
-pub returns-then-k-lt4 : goal.returns-then-k-lt4
-returns-then-k-lt4 c = c.take.ensures ∙ take_at c.args.k c.if-k-lt4.true
+pub returns-in-0-to-3 : goal.returns-in-0-to-3
+returns-in-0-to-3 c = c.take.ensures ∙ take_at c.args.k (omega (arith, c.in-0-to-3))
 
-pub returns-then-k-lt12 : goal.returns-then-k-lt12
-returns-then-k-lt12 c = c.split.ensures ∙ split_at_lem c.args.k c.if-k-lt4.false c.if-k-lt12.true
+pub returns-in-4-to-11 : goal.returns-in-4-to-11
+returns-in-4-to-11 c = c.split.ensures ∙ split_at_lem c.args.k (omega (arith, c.in-4-to-11)) (omega (arith, c.in-4-to-11))
 
-pub returns-then-k-lt16 : goal.returns-then-k-lt16
-returns-then-k-lt16 c = c.merge.ensures ∙ merge_at c.args.k c.if-k-lt12.false c.if-k-lt16.true
+pub returns-in-12-to-15 : goal.returns-in-12-to-15
+returns-in-12-to-15 c = c.merge.ensures ∙ merge_at c.args.k (omega (arith, c.in-12-to-15)) (omega (arith, c.in-12-to-15))
 
-pub returns-then-k-lt24 : goal.returns-then-k-lt24
-returns-then-k-lt24 c = c.give.ensures ∙ give_at c.args.k c.if-k-lt16.false c.if-k-lt24.true
+pub returns-in-16-to-23 : goal.returns-in-16-to-23
+returns-in-16-to-23 c = c.give.ensures ∙ give_at c.args.k (omega (arith, c.in-16-to-23)) (omega (arith, c.in-16-to-23))
 
-pub returns-then-k-lt28 : goal.returns-then-k-lt28
-returns-then-k-lt28 c = c.revoke.ensures ∙ revoke_at c.args.k c.if-k-lt24.false c.if-k-lt28.true
+pub returns-in-24-to-27 : goal.returns-in-24-to-27
+returns-in-24-to-27 c = c.revoke.ensures ∙ revoke_at c.args.k (omega (arith, c.in-24-to-27)) (omega (arith, c.in-24-to-27))
 
-pub returns-then-k-lt32 : goal.returns-then-k-lt32
-returns-then-k-lt32 c = c.sweep.ensures ∙ sweep_at c.args.k c.if-k-lt28.false c.if-k-lt32.true
+pub returns-in-28-to-31 : goal.returns-in-28-to-31
+returns-in-28-to-31 c = c.sweep.ensures ∙ sweep_at c.args.k (omega (arith, c.in-28-to-31)) (omega (arith, c.in-28-to-31))
 
-pub returns-then-k-lt34 : goal.returns-then-k-lt34
-returns-then-k-lt34 c = collect_at c.args.k c.if-k-lt32.false c.if-k-lt34.true
+pub returns-in-32-to-33 : goal.returns-in-32-to-33
+returns-in-32-to-33 c = collect_at c.args.k (omega (arith, c.in-32-to-33)) (omega (arith, c.in-32-to-33))
 
-pub returns-then-k-lt36 : goal.returns-then-k-lt36
-returns-then-k-lt36 c = c.map.ensures ∙ map_at c.args.k c.if-k-lt34.false c.if-k-lt36.true
+pub returns-in-34-to-35 : goal.returns-in-34-to-35
+returns-in-34-to-35 c = c.map.ensures ∙ map_at c.args.k (omega (arith, c.in-34-to-35)) (omega (arith, c.in-34-to-35))
 
-pub returns-then-k-lt38 : goal.returns-then-k-lt38
-returns-then-k-lt38 c = c.unmap.ensures ∙ unmap_at c.args.k c.if-k-lt36.false c.if-k-lt38.true
+pub returns-in-36-to-37 : goal.returns-in-36-to-37
+returns-in-36-to-37 c = c.unmap.ensures ∙ unmap_at c.args.k (omega (arith, c.in-36-to-37)) (omega (arith, c.in-36-to-37))
 
-pub returns-then-k-lt-COUNT : goal.returns-then-k-lt-COUNT
-returns-then-k-lt-COUNT c = c.zero.ensures ∙ zero_at c.args.k c.if-k-lt38.false c.if-k-lt-COUNT.true
+pub returns-in-38-to-39 : goal.returns-in-38-to-39
+returns-in-38-to-39 c = c.zero.ensures ∙ zero_at c.args.k (omega (arith, c.in-38-to-39)) (omega (arith, c.in-38-to-39))
 
-pub returns : goal.returns
-returns c = past_at c.args.k c.if-k-lt-COUNT.false
+pub returns-in_default : goal.returns-in_default
+returns-in_default c = past_at c.args.k (omega (arith, c.in_default))

@@ -1,7 +1,5 @@
 -- `short_histories::walk::extend` calls itself with one command less to come, so it ends. After k turns the lines that go on from the
 -- first k listed commands stand there.
-use lib.ListN.{take}
-use Prim.Native.Nat.{◌-◌}
 use Rattle.short_histories.specs.Listed.{listed}
 use Rattle.short_histories.proofs.Extending.{part_of}
 use Rattle.short_histories.proofs.Putting.{Parts}
@@ -11,8 +9,4 @@ abbrev pub decreases-extend : goal.decreases-extend
 decreases-extend l = l.more
 
 abbrev pub invariant-loop-k : goal.invariant-loop-k
-invariant-loop-k l =
-    Parts (part_of l.more (take l.history.len l.history.bytes) l.machine.state.arrays l.machine.cells l.machine.tags) listed l.at l.initial.out l.k l.end l.out
-
-abbrev pub decreases-loop-k : goal.decreases-loop-k
-decreases-loop-k l = 40 - l.k
+invariant-loop-k l = Parts (part_of l.more l.history l.machine.state.arrays l.machine.cells l.machine.tags) listed l.at l.initial.out l.k l.end l.out

@@ -1,34 +1,59 @@
--- `short_histories::walk::longer` meets its contract: there is room, so the call is written behind the bytes before it.
+-- `short_histories::walk::longer` meets its contract: there is room, so the call is written behind the history that was copied.
 use Prim.Native.Nat.{◌+◌}
 use native.Mathlib.Omega.{arith}
-use mathlib.Core.Path.{◌≡◌, ap}
+use borrow.Author.Rules.{rules}
+use borrow.Rule.Slice.PartMut.{post_of, same_len_mid}
+use mathlib.Core.List.{◌++◌}
+use mathlib.Core.Path.{◌≡◌, ◌∙◌, ap}
 use lib.ListN.{length}
-use Rattle.short_histories.proofs.Putting.{length_under}
-use Rattle.short_histories.proofs.Writing.{wrote_length, wrote_longer, not_short}
+use Rattle.calls.specs.Commands.{bytes_of}
+use Rattle.short_histories.proofs.Writing.{copied_first, wrote_length, wrote_longer, not_short}
 use Rattle.short_histories.proofs.walk.longer.Goals as goal
-
-pub slice_bounds-bytes-end : goal.slice_bounds-bytes-end
-slice_bounds-bytes-end c =
-    let a = c.args in
-    let g = c.well_formed.0 in
-    let e : length a.history.bytes ≡ 18 = search (length_under, g) in
-    omega (arith, e)
 
 pub overflow_add-result : goal.overflow_add-result
 overflow_add-result c =
     let a = c.args in
-    let g = c.well_formed.0 in
-    let n = wrote_length a.history.bytes a.history.len a.call c.write_call.new.out c.write_call.result (search (length_under, g)) c.requires c.write_call.ensures c.in-Wrote.len c.in-Wrote.is in
+    let copy = c.copy_from_slice in
+    let write = c.write_call in
+    let long : length a.bytes.now ≡ 18 = search rules in
+    let n = wrote_length (copy.new.self ++ post_of 0 (length a.history.now) a.bytes.now) (length a.history.now) a.call write.new.out write.result
+    (same_len_mid 0 (length a.history.now) a.bytes.now copy.new.self copy.ensures.len ∙ long) c.requires write.ensures c.in-Some.len c.in-Some.is in
     omega (arith, n, c.requires)
 
-pub returns-in-Wrote : goal.returns-in-Wrote
-returns-in-Wrote c =
+pub returns-in-Some-clause-bytes_value : goal.returns-in-Some-clause-bytes_value
+returns-in-Some-clause-bytes_value c =
     let a = c.args in
-    let g = c.well_formed.0 in
-    record { bytes_value = wrote_longer a.history.bytes a.history.len a.call c.write_call.new.out c.write_call.result (search (length_under, g)) c.requires c.write_call.ensures c.in-Wrote.len c.in-Wrote.is; len_value = ap (λ n. a.history.len + n) (wrote_length a.history.bytes a.history.len a.call c.write_call.new.out c.write_call.result (search (length_under, g)) c.requires c.write_call.ensures c.in-Wrote.len c.in-Wrote.is) }
+    let copy = c.copy_from_slice in
+    let write = c.write_call in
+    let long : length a.bytes.now ≡ 18 = search rules in
+    wrote_longer (copy.new.self ++ post_of 0 (length a.history.now) a.bytes.now) (length a.history.now) a.call write.new.out write.result
+    (same_len_mid 0 (length a.history.now) a.bytes.now copy.new.self copy.ensures.len ∙ long) c.requires write.ensures c.in-Some.len c.in-Some.is
+    ∙ ap (λ l. l ++ bytes_of a.call) (copied_first a.history.now copy.new.self (post_of 0 (length a.history.now) a.bytes.now) copy.ensures.after)
 
-pub returns-in-TooShort : goal.returns-in-TooShort
-returns-in-TooShort c =
+pub returns-in-Some-clause-len_value : goal.returns-in-Some-clause-len_value
+returns-in-Some-clause-len_value c =
     let a = c.args in
-    let g = c.well_formed.0 in
-    let none : ⊥ = not_short a.history.bytes a.history.len a.call c.write_call.new.out c.write_call.result (search (length_under, g)) c.requires c.write_call.ensures c.in-TooShort.is in record { bytes_value = absurd none; len_value = absurd none }
+    let copy = c.copy_from_slice in
+    let write = c.write_call in
+    let long : length a.bytes.now ≡ 18 = search rules in
+    ap (λ n. length a.history.now + n)
+    (wrote_length (copy.new.self ++ post_of 0 (length a.history.now) a.bytes.now) (length a.history.now) a.call write.new.out write.result
+    (same_len_mid 0 (length a.history.now) a.bytes.now copy.new.self copy.ensures.len ∙ long) c.requires write.ensures c.in-Some.len c.in-Some.is)
+
+pub returns-in-None-clause-bytes_value : goal.returns-in-None-clause-bytes_value
+returns-in-None-clause-bytes_value c =
+    let a = c.args in
+    let copy = c.copy_from_slice in
+    let write = c.write_call in
+    let long : length a.bytes.now ≡ 18 = search rules in
+    absurd (not_short (copy.new.self ++ post_of 0 (length a.history.now) a.bytes.now) (length a.history.now) a.call write.new.out write.result
+    (same_len_mid 0 (length a.history.now) a.bytes.now copy.new.self copy.ensures.len ∙ long) c.requires write.ensures c.in-None.is)
+
+pub returns-in-None-clause-len_value : goal.returns-in-None-clause-len_value
+returns-in-None-clause-len_value c =
+    let a = c.args in
+    let copy = c.copy_from_slice in
+    let write = c.write_call in
+    let long : length a.bytes.now ≡ 18 = search rules in
+    absurd (not_short (copy.new.self ++ post_of 0 (length a.history.now) a.bytes.now) (length a.history.now) a.call write.new.out write.result
+    (same_len_mid 0 (length a.history.now) a.bytes.now copy.new.self copy.ensures.len ∙ long) c.requires write.ensures c.in-None.is)

@@ -2,7 +2,7 @@
 use Rattle.sweep.proofs.ByFrames.{swept_nothing, swept_end, frame_shown, frame_hidden}
 use native.Mathlib.Omega.{arith}
 use mathlib.Core.Path.{◌≡◌, refl, sym, ap, ◌∙◌}
-use Prim.Native.Nat.{◌≤◌}
+use Prim.Native.Nat.{◌+◌, ◌*◌, ◌/◌, min}
 use mathlib.Core.List.{map}
 use lib.ListN.{length}
 use Rattle.pages.specs.Numbers.{frame_in}
@@ -12,31 +12,38 @@ use Rattle.sweep.proofs.Sweeps.{swept_twice}
 use Rattle.sweep.proofs.frames.sweep_frames.Goals as goal
 
 pub returns-then-range-eq0 : goal.returns-then-range-eq0
-returns-then-range-eq0 c = sym (swept_nothing (map frame_in c.args.frames.now) c.args.range c.args.from c.args.upto c.args.cells.now c.args.tags.now c.if-range-eq0.true)
+returns-then-range-eq0 c = let a = c.args in sym (swept_nothing (map frame_in a.frames.now) a.range a.from a.upto a.cells.now a.tags.now c.if-range-eq0.true)
 
 pub loop-i-init : goal.loop-i-init
-loop-i-init c = (omega arith, omega arith, refl, swept_none (map frame_in c.args.frames.now) c.args.range c.args.from c.args.cells.now c.args.tags.now)
-
-pub next_stop-stop-requires : goal.next_stop-stop-requires
-next_stop-stop-requires c = c.loop-i-test.true
-
-pub sweep_cells-requires : goal.sweep_cells-requires
-sweep_cells-requires c = let u : c.args.upto ≤ length c.args.tags.now = c.requires.1 (omega (arith, c.loop-i.invariant.0, c.loop-i-test.true)) in (omega (arith, c.if-range-eq0.false), c.requires.0 ∙ sym c.loop-i.invariant.2, omega (arith, c.next_stop-stop.ensures, c.loop-i-test.true), omega (arith, c.next_stop-stop.ensures, c.loop-i.invariant.2, u))
-
-pub loop-i-smaller-then-shown_in : goal.loop-i-smaller-then-shown_in
-loop-i-smaller-then-shown_in c = omega (arith, c.next_stop-stop.ensures, c.loop-i-test.true)
+loop-i-init c = let a = c.args in (omega arith, omega arith, refl, swept_none (map frame_in a.frames.now) a.range a.from a.cells.now a.tags.now)
 
 pub loop-i-preserved-then-shown_in : goal.loop-i-preserved-then-shown_in
-loop-i-preserved-then-shown_in c = let e : _ ≡ swept_tags (map frame_in c.args.frames.now) c.args.range c.args.from c.next_stop-stop.result c.args.cells.now c.args.tags.now = c.sweep_cells.ensures (map frame_in c.args.frames.now) (frame_shown (map frame_in c.args.frames.now) c.args.range c.loop-i.i c.args.upto c.next_stop-stop.result c.next_stop-stop.ensures (sym c.shown_in.ensures ∙ c.if-shown_in.true)) ∙ ap (swept_tags (map frame_in c.args.frames.now) c.args.range c.loop-i.i c.next_stop-stop.result c.args.cells.now) c.loop-i.invariant.3 ∙ swept_twice (map frame_in c.args.frames.now) c.args.range c.args.cells.now c.args.tags.now c.args.from c.loop-i.i c.next_stop-stop.result c.loop-i.invariant.0 (omega (arith, c.next_stop-stop.ensures)) in (omega (arith, c.next_stop-stop.ensures), omega (arith, c.next_stop-stop.ensures), ap length e ∙ length_swept (map frame_in c.args.frames.now) c.args.range c.args.from c.args.cells.now c.args.tags.now c.next_stop-stop.result, e)
-
-pub loop-i-smaller : goal.loop-i-smaller
-loop-i-smaller c = omega (arith, c.next_stop-stop.ensures, c.loop-i-test.true)
+loop-i-preserved-then-shown_in c =
+    let a = c.args in
+    let l = map frame_in a.frames.now in
+    let i = c.loop-i.i in
+    let stop = c.min-stop.result in
+    let s : stop ≡ min (16 * (i / 16) + 16) a.upto = omega (arith, c.min-stop.ensures) in
+    let e : c.sweep_cells.new.tags ≡ swept_tags l a.range a.from stop a.cells.now a.tags.now =
+    c.sweep_cells.ensures l (frame_shown l a.range i a.upto stop s (sym c.shown_in.ensures ∙ c.if-shown_in.true))
+    ∙ ap (swept_tags l a.range i stop a.cells.now) c.loop-i.invariant.3
+    ∙ swept_twice l a.range a.cells.now a.tags.now a.from i stop c.loop-i.invariant.0 (omega (arith, s)) in
+    (omega (arith, s), omega (arith, s), ap length e ∙ length_swept l a.range a.from a.cells.now a.tags.now stop, e)
 
 pub loop-i-preserved : goal.loop-i-preserved
-loop-i-preserved c = let e : _ ≡ swept_tags (map frame_in c.args.frames.now) c.args.range c.args.from c.next_stop-stop.result c.args.cells.now c.args.tags.now = frame_hidden (map frame_in c.args.frames.now) c.args.range c.loop-i.i c.args.upto c.next_stop-stop.result c.next_stop-stop.ensures c.args.cells.now c.loop-i.tags (sym c.shown_in.ensures ∙ c.if-shown_in.false) ∙ ap (swept_tags (map frame_in c.args.frames.now) c.args.range c.loop-i.i c.next_stop-stop.result c.args.cells.now) c.loop-i.invariant.3 ∙ swept_twice (map frame_in c.args.frames.now) c.args.range c.args.cells.now c.args.tags.now c.args.from c.loop-i.i c.next_stop-stop.result c.loop-i.invariant.0 (omega (arith, c.next_stop-stop.ensures)) in (omega (arith, c.next_stop-stop.ensures), omega (arith, c.next_stop-stop.ensures), ap length e ∙ length_swept (map frame_in c.args.frames.now) c.args.range c.args.from c.args.cells.now c.args.tags.now c.next_stop-stop.result, e)
-
-pub shape_of-tags : goal.shape_of-tags
-shape_of-tags c = c.loop-i.invariant.2
+loop-i-preserved c =
+    let a = c.args in
+    let l = map frame_in a.frames.now in
+    let i = c.loop-i.i in
+    let stop = c.min-stop.result in
+    let s : stop ≡ min (16 * (i / 16) + 16) a.upto = omega (arith, c.min-stop.ensures) in
+    let e : c.loop-i.tags ≡ swept_tags l a.range a.from stop a.cells.now a.tags.now =
+    frame_hidden l a.range i a.upto stop s a.cells.now c.loop-i.tags (sym c.shown_in.ensures ∙ c.if-shown_in.false)
+    ∙ ap (swept_tags l a.range i stop a.cells.now) c.loop-i.invariant.3
+    ∙ swept_twice l a.range a.cells.now a.tags.now a.from i stop c.loop-i.invariant.0 (omega (arith, s)) in
+    (omega (arith, s), omega (arith, s), ap length e ∙ length_swept l a.range a.from a.cells.now a.tags.now stop, e)
 
 pub returns : goal.returns
-returns c = c.loop-i.invariant.3 ∙ swept_end (map frame_in c.args.frames.now) c.args.range c.args.from c.args.upto c.args.cells.now c.args.tags.now c.loop-i.i c.loop-i.invariant.0 (omega arith) c.loop-i.invariant.1
+returns c =
+    let a = c.args in
+    c.loop-i.invariant.3 ∙ swept_end (map frame_in a.frames.now) a.range a.from a.upto a.cells.now a.tags.now c.loop-i.i c.loop-i.invariant.0 (omega arith) c.loop-i.invariant.1

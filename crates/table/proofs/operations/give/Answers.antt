@@ -1,38 +1,27 @@
 -- `table::operations::give` meets its contract.
-use mathlib.Core.Path.{sym, ap, ◌∙◌}
-use Rattle.capabilities.specs.Refusals.{first}
-use Rattle.table.specs.Find.{find_of, row_of}
-use Rattle.table.specs.Numbers.{table_of, row_code}
-use Rattle.table.specs.Lent.{put_at}
+use mathlib.Core.Path.{sym}
+use Rattle.std.proofs.lemmas.Result.{err_from_is_err_and}
 use Rattle.table.specs.Numbered.{given_in}
-use Rattle.table.specs.Operations.{open_reasons, give_reasons, give_of, given_row}
-use Rattle.table.proofs.Answers.{granted, refused}
+use Rattle.table.specs.Operations.{give_reasons, give_of}
+use Rattle.table.proofs.Answers.{refusal_keeps}
 use Rattle.table.proofs.operations.give.Goals as goal
 
-pub returns-then-code-ne0 : goal.returns-then-code-ne0
+pub returns-in_err-check_open : goal.returns-in_err-check_open
 unfolding given_in give_of give_reasons
-returns-then-code-ne0 c =
-    let a = c.args in
-    let l = a.rows.now in
-    let t = table_of l a.count in
-    let f = find_of t a.party a.base in
-    let here = c.find-found.ensures in
-    let row = c.row_in-row.ensures ∙ ap (row_of t) here in
-    let told = c.open_code-code.ensures ∙ ap (λ g. first (open_reasons g c.row_in-row.result)) here ∙ ap (λ r. first (open_reasons f r)) row in record { value = told; rows_after = sym (refused _ _ told (put_at l f (row_code (given_row (row_of t f) a.to))) l c.if-code-ne0.true) }
+returns-in_err-check_open c =
+    let p = err_from_is_err_and c.from_residual.result c.from_residual.ensures.1 in
+    let here = sym c.find-found.ensures in
+    let row = sym c.row-row.ensures in record {
+      value = rw (p.1, p.2, here, row) c.in_err-check_open.ensures;
+      rows_after = rw (here, row, sym c.in_err-check_open.ensures, refusal_keeps c.in_err-check_open.field-0.0);
+    }
 
 pub returns : goal.returns
 unfolding given_in give_of give_reasons
 returns c =
-    let a = c.args in
-    let l = a.rows.now in
-    let t = table_of l a.count in
-    let f = find_of t a.party a.base in
-    let here = c.find-found.ensures in
-    let row = c.row_in-row.ensures ∙ ap (row_of t) here in
-    let told = c.open_code-code.ensures ∙ ap (λ g. first (open_reasons g c.row_in-row.result)) here ∙ ap (λ r. first (open_reasons f r)) row in record {
-      value = told;
-      rows_after = c.put_row.ensures
-          ∙ ap (λ g. put_at l g (row_code c.given_row.result)) here
-          ∙ ap (λ r. put_at l f (row_code r)) (c.given_row.ensures ∙ ap (λ r. given_row r a.to) row)
-          ∙ sym (granted _ _ told (put_at l f (row_code (given_row (row_of t f) a.to))) l c.if-code-ne0.false);
+    let here = sym c.find-found.ensures in
+    let row = sym c.row-row.ensures in
+    let told = sym c.in_ok-check_open.ensures in record {
+      value = rw (here, row, told);
+      rows_after = rw (here, row, told, c.put_row.ensures, c.given_row.ensures);
     }

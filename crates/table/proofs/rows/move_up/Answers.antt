@@ -16,8 +16,8 @@ loop-j-preserved c =
     let m = c.loop-j in
     let j = m.j in
     let wrote = c.write_row-writes.ensures in (
-      raise_more a.rows.now _ _ j _ (j - 1) a.n 0 m.invariant.0 wrote.0 (omega arith) (omega arith) (omega arith) (omega arith),
-      (ap length wrote.0 ∙ length-set m.rows j _ ∙ m.invariant.1.0, omega (arith, wrote.1)),
+      raise_more a.rows.now _ _ j _ _ (j - 1) a.n 0 m.invariant.0 wrote.0 (omega arith) (omega arith) (omega arith) (omega arith) (omega arith),
+      (ap length wrote.0 ∙ length-set m.rows _ _ ∙ m.invariant.1.0, omega (arith, wrote.1)),
     )
 
 pub returns : goal.returns

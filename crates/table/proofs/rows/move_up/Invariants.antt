@@ -7,6 +7,3 @@ use Rattle.table.proofs.rows.move_up.Given as goal
 
 abbrev pub invariant-loop-j : goal.invariant-loop-j
 invariant-loop-j l = (l.rows ≡ raised l.initial.rows l.j l.n) × ((length l.rows ≡ length l.initial.rows) × ((l.from ≤ l.j) × ((l.j ≤ l.n) × (l.writes + l.j ≡ l.n))))
-
-abbrev pub decreases-loop-j : goal.decreases-loop-j
-decreases-loop-j l = l.j

@@ -1,13 +1,9 @@
--- `words::registers::bits` meets its contract: one byte more is tested in a turn (`each_more`).
+-- `words::registers::bits` meets its contract: the bytes before the index are tested.
 use mathlib.Core.Path.{◌≡◌}
-use Prim.Native.Nat.{◌≤◌, ◌-◌}
-use lib.ListN.{length, take}
+use lib.ListN.{take}
 use Rattle.capabilities.specs.Lists.{each}
 use Rattle.words.specs.Lent.{bit}
 use Rattle.words.proofs.registers.bits.Given as goal
 
-abbrev pub invariant-loop-i : goal.invariant-loop-i
-invariant-loop-i l = (l.i ≤ length l.tags) × (l.all ≡ each bit 0 (take l.i l.tags))
-
-abbrev pub decreases-loop-i : goal.decreases-loop-i
-decreases-loop-i l = length l.tags - l.i
+abbrev pub invariant-loop-tag : goal.invariant-loop-tag
+invariant-loop-tag l = l.all ≡ each bit 0 (take l.tag-index l.tags)

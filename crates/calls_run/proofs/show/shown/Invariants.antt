@@ -1,9 +1,0 @@
--- The index stays within the slice.
-use Rattle.std.proofs.Common.{length, ◌-◌, ◌≤◌}
-use Rattle.calls_run.proofs.show.shown.Given as goal
-
-abbrev pub invariant-loop-i : goal.invariant-loop-i
-invariant-loop-i g l = l.i ≤ length l.numbers
-
-abbrev pub decreases-loop-i : goal.decreases-loop-i
-decreases-loop-i g l = length l.numbers - l.i

@@ -1,7 +1,0 @@
--- `claims::lent::count_in` meets its contract.
-use mathlib.Core.Path.{sym}
-use lib.ListN.{get_or-eq_default}
-use Rattle.claims.proofs.lent.count_in.Goals as goal
-
-pub returns-else-at-counts : goal.returns-else-at-counts
-returns-else-at-counts c = sym (get_or-eq_default c.args.counts.now 0 c.if-at-counts.false)

@@ -1,7 +1,0 @@
--- `words::memory::cell_at` meets its contract. Past the end the default of `get_or`.
-use mathlib.Core.Path.{sym}
-use lib.ListN.{get_or-eq_default}
-use Rattle.words.proofs.memory.cell_at.Goals as goal
-
-pub returns-else-at-cells : goal.returns-else-at-cells
-returns-else-at-cells c = sym (get_or-eq_default c.args.cells.now 0 c.if-at-cells.false)
