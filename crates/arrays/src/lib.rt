@@ -10,7 +10,8 @@ ghost use Rattle.words.specs.Words.{empty};
 use capabilities::refusal::Refusal;
 use words::Slot;
 
-// The small numbers of the state, which go by value; with the range that is being revoked (0 and 0 if none is).
+// The small numbers of the state, which go by value; with the range that is being revoked: 0 and 0 if none is, and no
+// Option, as they lie for C (`arrays:Reading.arrays_of`).
 #[derive(Clone, Copy, Default)]
 pub struct Numbers {
     pub v: u16,
@@ -37,7 +38,7 @@ pub struct Arrays {
     pub counts: [u16; 8192],
 }
 
-// A call's answer; code 0 means granted.
+// A call's answer; code 0 means granted. Three numbers and not a Result: C reads them (`entries:Runs.answer_numbers`), and a line prints them.
 #[derive(Clone, Copy)]
 pub struct Answer {
     pub code: u8,

@@ -1,6 +1,8 @@
 // The calls in place, over lent arrays of numbers: each kind of call is done by one function here. Whoever calls one knows that the
 // arrays are well formed; on others it answers too, and promises nothing, so none of these is an entry.
-// Each is lent the parts that it reads or changes and no more, not a whole `Machine`: its promise (`specs/Parts`) then holds whatever the rest is.
+// Each is lent the parts that it reads or changes and no more, not a whole `Machine`: its promise
+// (`calls_in_place:Parts.OnWords` and its like) then holds whatever the rest is. Cells and tags, words and marks, mail and flags are two
+// slices each, as C lends them.
 #![tactic(auto)]
 
 ghost use Rattle.std.specs.Prelude.{◌≡◌};

@@ -18,7 +18,7 @@ const INPUT: usize = 4096;
 // What the lent buffers hold before, so that a byte that is kept shows.
 const KEPT: u8 = 0xEE;
 
-// 0, or refusal 3 where nothing was read or written.
+// 0, or refusal 3 where nothing was read or written. Codes and marks are numbers here, as tests/calls_vectors.py works them out.
 fn code<T: Drop>(done: Option<T>) -> u8 {
     if done.is_some() { 0 } else { 3 }
 }

@@ -33,7 +33,8 @@ impl fmt::Display for Failure {
 
 impl Error for Failure {}
 
-// Reads, in pieces as they come, until the buffer is full or the input ends; answers how many bytes it read.
+// Reads, in pieces as they come, until the buffer is full or the input ends; answers how many bytes it read. A loop by
+// hand, since `read_to_end` needs a heap.
 fn take(reader: &mut impl Read, buf: &mut [u8]) -> io::Result<usize>
     ensures { IfOk result (λ len. len ≤ length buf.new) }
 {

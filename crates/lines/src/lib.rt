@@ -98,7 +98,7 @@ fn put_long(code: u8, number: u64, tag: bool, at: usize, out: &mut [u8]) -> usiz
 }
 
 // Puts a line at a place of a lent buffer, if it fits, and answers where it ends; if it does not fit nothing is written. The
-// place is a u32, so that no end passes what a usize holds.
+// place is a u32, so that no end passes what a usize holds. The code is a number, as it is printed (`lines:Lines.line_of`).
 pub fn put_line(code: u8, number: u64, tag: bool, at: u32, out: &mut [u8]) -> usize
     ensures value { result ≡ at + length (line_of code number tag) }
     ensures out_after { out.new ≡ laid_in (line_of code number tag) at out.old }

@@ -1,4 +1,5 @@
 // The sweep over frames that lie in memory as numbers: a frame at a time, and a whole Mapped one with no branch a cell.
+// Cells and tags are two slices, as C lends them.
 ghost use Rattle.std.specs.Prelude.{◌≡◌, List, map, ℕ, ◌+◌, ◌*◌, ◌/◌, ◌<◌, ◌≤◌, min, length};
 ghost use Rattle.pages.specs.Numbers.{frame_in, layer_of};
 ghost use Rattle.sweep.specs.Sweep.{shown_at, swept_tags, passing, answered, sweep_of};

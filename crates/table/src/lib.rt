@@ -16,7 +16,8 @@ pub enum ReservationState {
     Revoking = 2,
 }
 
-// `length` virtual cells from `base` on, the party that holds them, and who took them: a party, 8 for several, 9 for nobody.
+// `length` virtual cells from `base` on, the party that holds them, and who took them: a party, 8 for several, 9 for nobody, as
+// document 02 numbers them and C reads them (`table:Numbers.row_code`).
 #[derive(Clone, Copy)]
 pub struct Reservation {
     pub base: u16,

@@ -22,7 +22,8 @@ fn upper_part(row: Reservation, len: u16) -> Reservation
     }
 }
 
-// The one store to a row in this file: every write goes through here, and adds 1 to the count that it is handed.
+// The one store to a row in this file: every write goes through here, and adds 1 to the count that it is handed
+// (document 02; tests/writes.py), so that no `copy_within` moves rows.
 fn write_row(rows: &mut [u64], at: usize, number: u64, writes: usize) -> usize
     requires { (at < length rows.old) × (writes ≤ length rows.old) }
     ensures { (rows.new ≡ set rows.old at number) × (result ≡ writes + 1) }
