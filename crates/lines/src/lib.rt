@@ -6,7 +6,7 @@ ghost use Rattle.words.specs.Words.{byte_of};
 ghost use Rattle.lines.specs.Lines.{decimal, line_of};
 ghost use Rattle.lines.specs.Laid.{Laid, laid_in};
 
-// How many digits a number has. Most have one or two: the logarithm alone made a refusal's line two thirds longer in time.
+// How many digits a number has. Most have one or two, for which no logarithm is taken.
 fn width(n: u64) -> usize
     ensures value { result ≡ length (decimal n) }
     ensures upper_bound { result ≤ 20 }
