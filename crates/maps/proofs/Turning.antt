@@ -3,7 +3,7 @@ use Rattle.std.proofs.Common.{◌≡◌, ℕ, suc, ◌+◌, ◌<◌, List, lengt
 use Rattle.std.proofs.lemmas.List.{get_or_default}
 use native.Mathlib.Omega.{arith}
 use lib.ListN.{drop, length-map, get_or-map, length-take}
-use lib.Seq.{drop-cons, get_or-take}
+use lib.Seq.{drop-cons, get_or-take, take-length}
 use Rattle.table.specs.declared.Reservation.{Reservation}
 use Rattle.table.specs.Rows.{blank}
 use Rattle.maps.specs.declared.Question.{Question}
@@ -29,10 +29,41 @@ module _ (q : Question) (ys : List Reservation) where
       turn (list_with q) (take upto ys) s s' total i (let low = there.0 in let high = there.1 in omega (arith, low, high, length-take upto ys)) e
       (step ∙ ap (list_with q s) (sym (get_or-take upto ys i blank there.0)))
 
--- The same where the records are read one by one, whatever they lie as.
+-- Whatever the records lie as: what is read at i is the record there.
+module _ {X : Type 0} (read : X → Reservation) (xs : List X) where
+  inside : (i : ℕ) → i < length xs → i < length (map read xs)
+  inside i within = subst (λ (n : ℕ). i < n) (sym (length-map xs read)) within
+
+  read_there : (i : ℕ) (x : X) → i < length xs → x ≡ get_or xs i x → read x ≡ get_or (map read xs) i blank
+  read_there i x within there = ap read there ∙ sym (get_or-map read xs i x) ∙ get_or_default (map read xs) i (read x) blank (inside i within)
+
+-- The same where the records are read one by one.
 pub turn_read : {X S : Type 0} (read : X → Reservation) (xs : List X) (f : S → Reservation → S) (s s' total : S) (i : ℕ) (x : X) → i < length xs → x ≡ get_or xs i x
     → fold f s (drop i (map read xs)) ≡ total → s' ≡ f s (read x) → fold f s' (drop (i + 1) (map read xs)) ≡ total
 turn_read read xs f s s' total i x within there e step =
-    let inside : i < length (map read xs) = subst (λ (n : ℕ). i < n) (sym (length-map xs read)) within in
-    turn f (map read xs) s s' total i inside e
-    (step ∙ ap (f s) (ap read there ∙ sym (get_or-map read xs i x) ∙ get_or_default (map read xs) i (read x) blank inside))
+    turn f (map read xs) s s' total i (inside read xs i within) e (step ∙ ap (f s) (read_there read xs i x within there))
+
+-- A turn of the code, which reads them so: seen_turn and list_turn of what is read.
+module _ {X : Type 0} (read : X → Reservation) (q : Question) (xs : List X) where
+  abbrev records : List Reservation
+  records = map read xs
+
+  pub seen_read : (s s' total : Seen) (i : ℕ) (x : X) → i < length xs → x ≡ get_or xs i x → seen_over q s (drop i records) ≡ total → s' ≡ seen_with q s (read x)
+      → seen_over q s' (drop (i + 1) records) ≡ total
+  seen_read s s' total i x within there e step =
+      seen_turn q records s s' total i (inside read xs i within) e (step ∙ ap (seen_with q s) (read_there read xs i x within there))
+
+  pub list_read : (upto : ℕ) (s s' total : Listing) (i : ℕ) (x : X) → (i < upto) × (i < length xs) → x ≡ get_or xs i x → list_over q s (drop i (take upto records)) ≡ total
+      → s' ≡ list_with q s (read x) → list_over q s' (drop (i + 1) (take upto records)) ≡ total
+  list_read upto s s' total i x within there e step =
+      list_turn q records upto s s' total i (within.0, inside read xs i within.1) e (step ∙ ap (list_with q s) (read_there read xs i x within.1 there))
+
+  -- All of them are named.
+  pub list_read_all : (s s' total : Listing) (i : ℕ) (x : X) → i < length xs → x ≡ get_or xs i x → list_over q s (drop i records) ≡ total → s' ≡ list_with q s (read x)
+      → list_over q s' (drop (i + 1) records) ≡ total
+  list_read_all s s' total i x within there e step =
+      subst (λ (l : List Reservation). list_over q s' (drop (i + 1) l) ≡ total) all
+      (list_read (length xs) s s' total i x (within, within) there (ap (λ (l : List Reservation). list_over q s (drop i l)) all ∙ e) step)
+    where
+      all : take (length xs) records ≡ records
+      all = ap (λ (n : ℕ). take n records) (sym (length-map xs read)) ∙ take-length records
