@@ -28,16 +28,13 @@ pub(crate) fn near_with(
     ensures { result ≡ near_with cell cells nearest row }
 {
     let base = row.base;
-    let wanted = (row.state == ReservationState::Open) & (cells <= row.length as u64);
-    if !wanted {
-        return nearest;
-    }
     let away = distance(base, row.length, cell);
+    let wanted = (row.state == ReservationState::Open) & (cells <= row.length as u64);
     let closer = match nearest {
         Some(near) => (away, base) < (near.distance, near.base),
         None => true,
     };
-    if closer {
+    if wanted & closer {
         return Some(Near {
             base,
             distance: away,
