@@ -10,8 +10,8 @@ ghost use Rattle.words.specs.Words.{empty};
 use capabilities::refusal::Refusal;
 use words::Slot;
 
-// The small numbers of the state, which go by value; with the range that is being revoked: 0 and 0 if none is, and no
-// Option, as they lie for C (`arrays:Reading.arrays_of`).
+// The small numbers of the state, which lie by value in the machine; with the range that is being revoked: 0 and 0 if
+// none is, and no Option, as they lie for C (`arrays:Reading.arrays_of`).
 #[derive(Clone, Copy, Default)]
 pub struct Numbers {
     pub v: u16,

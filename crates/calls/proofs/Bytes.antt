@@ -18,6 +18,15 @@ two_bytes a b = omega arith
 pub eight_bytes : (a b c d e f g h : ℕ) → from_be_bytes w64 (a ∷ b ∷ c ∷ d ∷ e ∷ f ∷ g ∷ h ∷ []) ≡ number 8 0 (a ∷ b ∷ c ∷ d ∷ e ∷ f ∷ g ∷ h ∷ [])
 eight_bytes a b c d e f g h = omega arith
 
+-- The eighth digit of a number of eight bytes has nothing above it.
+pub top_digit : (x : ℕ) → x < 2 ^ 64 → x / 256 / 256 / 256 / 256 / 256 / 256 / 256 % 256 ≡ x / 256 / 256 / 256 / 256 / 256 / 256 / 256
+top_digit x h =
+    let h₁ : x / 256 < 2 ^ 56 = omega arith in
+    let h₂ : x / 256 / 256 < 2 ^ 48 = omega arith in
+    let h₄ : x / 256 / 256 / 256 / 256 < 2 ^ 32 = omega arith in
+    let h₆ : x / 256 / 256 / 256 / 256 / 256 / 256 < 2 ^ 16 = omega arith in
+    omega arith
+
 -- ---- one number
 
 pub length_bytes : (w x : ℕ) → length (bytes w x) ≡ w

@@ -2,7 +2,7 @@
 use Prim.Native.Nat.{ℕ}
 use native.Mathlib.Omega.{arith}
 use mathlib.Core.Bool.{Bool, true, false, ◌||◌}
-use mathlib.Core.Path.{◌≡◌, refl, sym}
+use mathlib.Core.Path.{◌≡◌, refl, sym, ◌∙◌}
 use Rattle.capabilities.specs.Lists.{pick}
 use Rattle.capabilities.specs.Refusals.{number_of}
 use Rattle.capabilities.specs.declared.refusal.Refusal.{Refusal}
@@ -49,3 +49,17 @@ pub late : (u m : Bool) (j : ℕ) → (j ≡ 0 → ⊥) → (rest : ℕ) → Che
 late true m j some rest e = absurd (omega (arith, e))
 late false true j some rest e = absurd (some (sym e))
 late false false j some rest e = refl
+
+-- The same of any two numbers, and of any code.
+module _ (i j : ℕ) (k rest : ℕ) where
+  -- One of the two applies.
+  pub early_code : (u m : Bool) → k ≡ pick u i (pick m j 0) → (k ≡ 0 → ⊥) → k ≡ pick u i (pick m j rest)
+  early_code true m e n = e
+  early_code false true e n = e
+  early_code false false e n = absurd (n e)
+
+  -- Neither does.
+  pub late_code : (i ≡ 0 → ⊥) → (j ≡ 0 → ⊥) → (u m : Bool) → k ≡ pick u i (pick m j 0) → k ≡ 0 → rest ≡ pick u i (pick m j rest)
+  late_code some other true m e z = absurd (some (sym e ∙ z))
+  late_code some other false true e z = absurd (other (sym e ∙ z))
+  late_code some other false false e z = refl

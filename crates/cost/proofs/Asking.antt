@@ -26,7 +26,7 @@ module _ (a : Arrays) (n : ℕ) where
   unfolding cost_reasons first state_of core_of
   judged e p = sym (ap₂ (λ b d. pick (not b) 1 (pick d 12 0)) e p)
 
-  asked_refused : (code : ℕ) → (code ≡ 0 → ⊥) → code ≡ first (cost_reasons (formed_of a) (state_of a).core n) → uncosted code ≡ cost_on a n
+  pub asked_refused : (code : ℕ) → (code ≡ 0 → ⊥) → code ≡ first (cost_reasons (formed_of a) (state_of a).core n) → uncosted code ≡ cost_on a n
   unfolding cost_on
   asked_refused code h e = ap uncosted e ∙ sym (cost_refused (formed_of a) (state_of a).core n (λ z. h (e ∙ z)))
 

@@ -181,7 +181,7 @@ module _ {input : List ℕ} {a₀ : Arrays} {at₀ : ℕ} {cells₀ tags₀ buff
       told : ran_on (leaving r a' cells' tags') n ≡ command_on a input at cells tags
       told = command_formed a cells tags input at (passing a g.formed) (ran_on (leaving r a' cells' tags') n) e
 
-      formed_on : Formed a'
+      pub formed_on : Formed a'
       formed_on = ran_formed a g.formed input at cells tags r a' cells' tags' n e
 
       pub within_on : at + n ≤ length input

@@ -95,9 +95,11 @@ impl State {
             cells,
             tags,
         };
-        let answer = call_in(&mut machine, call);
+        // In parts: an answer kept whole had the state copied twice more, and cleared.
+        let Answer { code, number, tag } = call_in(&mut machine, call);
         arrays.nums = machine.nums;
         let state = State { arrays };
+        let answer = Answer { code, number, tag };
         Answered { answer, state }
     }
 

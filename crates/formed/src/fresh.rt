@@ -12,6 +12,7 @@ use arrays::{Machine, Numbers};
 use capabilities::refusal::Refusal;
 use capabilities::slices::put;
 use pages::layer::in_range;
+use pages::lent::clear_pages;
 
 // Whether the lists have the lengths of the machine.
 fn sized(machine: &Machine<'_>) -> bool
@@ -50,7 +51,7 @@ fn clear(machine: &mut Machine<'_>)
     machine.mail.fill(0);
     machine.flags.fill(0);
     machine.rows.fill(0);
-    machine.pages.fill(0);
+    clear_pages(machine.pages);
     machine.frames.fill(0);
     machine.principals.fill(0);
     machine.counts.fill(0);

@@ -248,6 +248,9 @@ module _ (code number : ℕ) (tag : Bool) (at : ℕ) (a : List ℕ) (h : code < 
 
 -- The line's three numbers, one after another.
 module _ (code number : ℕ) (tag : Bool) (at first second end : ℕ) (a b c d : List ℕ) where
+  pub spaced_size : Laid (decimal code) at a first b → Laid (decimal number) (first + 1) (set b first 32) second c → length c ≡ length a
+  spaced_size p q = q.size ∙ length-set b first 32 ∙ p.size
+
   pub laid_line :
       Laid (decimal code) at a first b → first < length b → Laid (decimal number) (first + 1) (set b first 32) second c
       → Laid (tagged tag) second c end d → Laid (line_of code number tag) at a end d

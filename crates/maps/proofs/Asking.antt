@@ -9,7 +9,7 @@ use mathlib.Core.List.{List, [], ◌++◌}
 use lib.ListN.{length, drop}
 use lib.Dec.{eqb, leb, ltb}
 use borrow.Author.Tests.{ltb-false, leb-true, le-ltb, lt-ltb, leb-false}
-use Rattle.std.specs.Prelude.{Option, Some, None, Result, Ok, Err, ⊤}
+use Rattle.std.specs.Prelude.{Option, Some, None, Result, Ok, Err, ⊤, is_some, unwrap_or}
 use Rattle.capabilities.specs.Lists.{pick, filter}
 use Rattle.capabilities.specs.Refusals.{number_of}
 use Rattle.capabilities.specs.declared.refusal.Refusal.{Refusal}
@@ -25,7 +25,7 @@ use Rattle.maps.specs.Cells.{span, beyond}
 use Rattle.maps.specs.Records.{tile_from, cells_of, bad_records}
 use Rattle.maps.specs.Questions.{bases_of, candidate, Answer, answer, answer_of, nearest_answer_of, found, bad_list, bad_question, Response, response, put, granted_answer, is_refused, ask_of}
 use Rattle.maps.specs.Walks.{nothing, nearest_with, seen_over, judge_with, Listing, listing, list_over, base_of, answer_with}
-use Rattle.maps.proofs.Surveying.{sound_from, ends_lem}
+use Rattle.maps.proofs.Surveying.{sound_from, ends_lem, goes_on_lem}
 use Rattle.maps.proofs.Listing.{all_listed, none_listed}
 use Rattle.maps.proofs.Nearing.{nearest_over, lists_find_none, told, told_alone, found_after}
 
@@ -68,10 +68,22 @@ not_sound false n = refl
 abbrev size : List Reservation → Bool
 size l = eqb (length l) 0 || ltb 64 (length l)
 
-bad_by_survey : (l : List Reservation) → (size l || not (sound_from 0 l)) ≡ bad_records l
+bad_by_survey : (q : Question) (l : List Reservation) → (size l || not (is_some (seen_over q nothing l).end)) ≡ bad_records l
 unfolding bad_records sound_from
-bad_by_survey l =
-    ap (λ (k : ℕ). size l || not (tile_from 0 l && leb k 4096)) (zero-add (cells_of l)) ∙ ap (λ (t : Bool). size l || t) (not_sound (tile_from 0 l) (cells_of l))
+bad_by_survey q l =
+    ap (λ (t : Bool). size l || not t) (goes_on_lem q nothing 0 l refl (omega arith))
+    ∙ ap (λ (k : ℕ). size l || not (tile_from 0 l && leb k 4096)) (zero-add (cells_of l)) ∙ ap (λ (t : Bool). size l || t) (not_sound (tile_from 0 l) (cells_of l))
+
+-- A survey that goes on to the end ends where the records do.
+ends_there : (q : Question) (l : List Reservation) → unwrap_or (seen_over q nothing l).end (cells_of l) ≡ cells_of l
+ends_there q l =
+    ap (λ (e : Option ℕ). unwrap_or e (cells_of l)) (ends_lem q 0 None l (omega arith))
+    ∙ ap (λ (k : ℕ). unwrap_or (pick (sound_from 0 l) (Some k) None) (cells_of l)) (zero-add (cells_of l))
+    ∙ go (sound_from 0 l)
+  where
+    go : (t : Bool) → unwrap_or (pick t (Some (cells_of l)) None) (cells_of l) ≡ cells_of l
+    go true = refl
+    go false = refl
 
 abbrev verdict : Bool → Result ⊤ Refusal
 verdict t = pick t (Err refusal.Question) (Ok tt)
@@ -80,10 +92,7 @@ verdict t = pick t (Err refusal.Question) (Ok tt)
 judged_refused : (l : List Reservation) (q : Question) (room : ℕ) → judged l q room ≡ verdict (is_refused l q room)
 unfolding is_refused
 judged_refused l q room =
-    ap (λ (e : Option ℕ). judge_with q e (length l) room) (ends_lem q 0 None l (omega arith))
-    ∙ ap (λ (k : ℕ). judge_with q (pick (sound_from 0 l) (Some k) None) (length l) room) (zero-add (cells_of l))
-    ∙ go (sound_from 0 l)
-    ∙ ap (λ (t : Bool). verdict (t || bad_question q (cells_of l) room)) (bad_by_survey l)
+    go (seen_over q nothing l).end (ends_there q l) ∙ ap (λ (t : Bool). verdict (t || bad_question q (cells_of l) room)) (bad_by_survey q l)
   where
     none : (s : Bool) → s ≡ (s || false)
     none true = refl
@@ -93,9 +102,9 @@ judged_refused l q room =
     all true b = refl
     all false b = refl
 
-    go : (t : Bool) → judge_with q (pick t (Some (cells_of l)) None) (length l) room ≡ verdict ((size l || not t) || bad_question q (cells_of l) room)
-    go true = ap (λ (s : Bool). verdict (s || bad_question q (cells_of l) room)) (none (size l))
-    go false = all (size l) (bad_question q (cells_of l) room)
+    go : (e : Option ℕ) → unwrap_or e (cells_of l) ≡ cells_of l → judge_with q e (length l) room ≡ verdict ((size l || not (is_some e)) || bad_question q (cells_of l) room)
+    go (Some k) there = ap (λ (n : ℕ). judge_with q (Some n) (length l) room) there ∙ ap (λ (s : Bool). verdict (s || bad_question q (cells_of l) room)) (none (size l))
+    go None there = all (size l) (bad_question q (cells_of l) room)
 
 -- ---- What is left
 -- A question for a list.

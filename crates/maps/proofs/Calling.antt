@@ -6,7 +6,8 @@ use mathlib.Core.List.{List, [], ◌∷◌}
 use seplogic.Ra.Ura.{Ura}
 use mir.Syntax.{Dict, named, w64}
 use mir.Val.{Val, vint}
-use base.Logic.{SProp, ent, sep, emp, via, mono_l, mono_r, emp∗, snd∗, ex_e}
+use base.Fraction.{left, right}
+use base.Logic.{SProp, ent, sep, emp, via, mono_l, mono_r, emp∗, comm∗, snd∗, ex_e}
 use base.Fml.{Lft, Share, Fml, ftrue, flft}
 use prog.Memory.{Memory}
 use prog.Routine.{Routine}
@@ -18,7 +19,7 @@ use denote.Plain.{uint_Makes}
 use denote.Builtin.{u32, usize}
 use denote.RattleType.{RattleType}
 use denote.Param.{param}
-use contract.BorrowLft.{◌⊑◌}
+use contract.BorrowLft.{◌⊑◌, ⊑_refl}
 use denote.Ref.{Bor}
 use denote.Slice.{shr_slice_vals, ShrSlice}
 use denote.Steps.{owned, nothing}
@@ -91,6 +92,19 @@ module _ {M : Type 1} {𝓤 : Ura M} (𝓛 : Logic 𝓤) (mem : Memory → SProp
 
     pub survey_said : (s : Seen) → ent 𝓤 (Surveyed s) (fact 𝓤 (s ≡ seen_over qn none_seen (map G.reads x.now)))
     survey_said s = ex_e 𝓤 _ (λ ws. snd∗ 𝓤 (sem 𝓛 (lasts (survey.ended R G d) (κ, (κ', tt)) (x, (qn, tt)) ws)) (fact 𝓤 (s ≡ seen_over qn none_seen (map G.reads x.now))))
+
+  -- of records that outlive the slice's own lifetime, its token alone: in two parts
+  module _ (R : RattleType) (G : Ghosts R.Denot) (d : Dict) (κ : Lft) (q : Share) (x : Bor (List R.Denot)) (lives : κ ⊑ R.lives) where
+    abbrev Lent : SProp 𝓤
+    Lent = sem 𝓛 ((ShrSlice (named 0) κ (param 0 R)).own_val x (shr_slice_vals x))
+
+    pub asks_survey_once : Is Q.the_row qn (question_val qn ∷ [])
+        → ent 𝓤 (sep 𝓤 (A.lft κ q) Lent) ((Survey 𝓛 mem run R G d).pre (to_survey R G d κ κ (left q) (right q) x (⊑_refl κ) lives))
+    asks_survey_once isq =
+        via 𝓤 (sep 𝓤 (mean 𝓛 (‵ (flft κ (left q)) ⊛ ‵ (flft κ (right q)) ⊛ ‵ ftrue)) Lent)
+        (mono_l 𝓤 Lent (via 𝓤 (sep 𝓤 (A.lft κ (left q)) (A.lft κ (right q))) (𝓛.lfts.lft_split κ q)
+        (mono_r 𝓤 (A.lft κ (left q)) (via 𝓤 (sep 𝓤 (emp 𝓤) (A.lft κ (right q))) (emp∗ 𝓤 (A.lft κ (right q))) (comm∗ 𝓤 (emp 𝓤) (A.lft κ (right q)))))))
+        (asks_survey R G d κ κ (left q) (right q) x (⊑_refl κ) lives isq)
 
   -- where the records end, how many they are, and a slice for the list of m
   module _ (end : Option ℕ) (n m : ℕ) (u : Val) where

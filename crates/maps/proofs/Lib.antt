@@ -1,3 +1,4 @@
+pub mod Ranges
 pub mod Turning
 pub mod Reading
 pub mod Surveying

@@ -3,11 +3,12 @@ use mathlib.Core.Path.{◌≡◌, refl, sym, ◌∙◌, ap}
 use Prim.Native.Nat.{ℕ, ◌+◌, ◌≤◌}
 use native.Mathlib.Omega.{arith}
 use native.Mathlib.Nat.{add_assoc}
-use mathlib.Core.Bool.{Bool, true, false, ◌&&◌}
+use mathlib.Core.Bool.{Bool, true, false, ◌&&◌, false≢true}
 use mathlib.Core.List.{List, [], ◌∷◌}
 use lib.Dec.{eqb, leb, ltb}
 use borrow.Author.Tests.{eqb-true, leb-true, leb-false, le-leb, lt-leb}
 use Rattle.std.specs.Prelude.{Option, Some, None, is_some}
+use Rattle.std.specs.Option.{unwrap_or}
 use Rattle.capabilities.specs.Lists.{pick}
 use Rattle.capabilities.proofs.Choice.{pick_yes, and_left, and_right}
 use Rattle.table.specs.declared.Reservation.{Reservation}
@@ -104,3 +105,20 @@ goes_on_lem q s e l on w =
     go : (t : Bool) → is_some (pick t (Some (e + cells_of l)) None) ≡ t
     go true = refl
     go false = refl
+
+-- Where it went on to the end, its end is that of the records.
+end_from : (q : Question) (e k : ℕ) (nearest : Option Near) (l : List Reservation) → (seen_over q (seen (Some e) nearest) l).end ≡ Some k → k ≡ e + cells_of l
+unfolding cells_of
+end_from q e k nearest [] h = let same : e ≡ k = ap (λ (end : Option ℕ). unwrap_or end 0) h in omega arith
+end_from q e k nearest (r ∷ l) h = go (end_from q (r.base + r.length) k near' l) (goes_on e r) refl h
+  where
+    near' : Option Near
+    near' = nearest_with q nearest r
+
+    go : ((seen_over q (seen (Some (r.base + r.length)) near') l).end ≡ Some k → k ≡ (r.base + r.length) + cells_of l)
+        → (t : Bool) → goes_on e r ≡ t → (seen_over q (seen (pick t (Some (r.base + r.length)) None) near') l).end ≡ Some k → k ≡ e + (r.length + cells_of l)
+    go rest true t i = rest i ∙ ap (λ (n : ℕ). n + cells_of l) (next_end e r t) ∙ add_assoc e r.length (cells_of l)
+    go rest false t i = absurd (false≢true (ap is_some (sym (stays_off q near' l) ∙ i)))
+
+pub ends_at : (q : Question) (s : Seen) (e k : ℕ) (l : List Reservation) → s.end ≡ Some e → (seen_over q s l).end ≡ Some k → k ≡ e + cells_of l
+ends_at q s e k l on h = end_from q e k s.nearest l (sym (ap (λ (end : Option ℕ). (seen_over q (seen end s.nearest) l).end) on) ∙ h)

@@ -3,38 +3,28 @@ ghost use Rattle.std.specs.Prelude.{◌≡◌};
 ghost use Rattle.maps.specs.Cells.{span};
 ghost use Rattle.table.specs.Rows.{range_of};
 ghost use Rattle.maps.specs.Questions.{is_listed, bad_list, bad_question};
-ghost use Rattle.maps.specs.Walks.{nothing, tile_with, near_with, seen_with, judge_with, listing, list_with, base_of, answer_with};
+ghost use Rattle.maps.specs.Walks.{goes_on, near_with, judge_with, listing, list_with, base_of, answer_with};
 
 use crate::cells::{beyond, distance, lies_within, shares};
 use crate::{Found, Near, Question, Seen};
 use capabilities::refusal::Refusal;
 use table::{Reservation, ReservationState};
 
-// Before the first record.
-pub(crate) fn nothing() -> Seen
-    ensures { result ≡ nothing }
+// Whether a record goes on where those before it end, has a cell, and ends at 4,096 at most.
+pub(crate) fn goes_on(from: u32, row: Reservation) -> bool
+    ensures { result ≡ goes_on from row }
 {
-    Seen {
-        end: Some(0),
-        nearest: None,
-    }
-}
-
-// One record more, of the tiling.
-fn tile_with(end: Option<u32>, row: Reservation) -> Option<u32>
-    ensures { result ≡ tile_with end row }
-{
-    let from = end?;
     let base = row.base as u32;
-    let end = base + row.length as u32;
-    if (base == from) & ((0 < row.length) & (end <= 4096)) {
-        return Some(end);
-    }
-    None
+    (base == from) & ((0 < row.length) & (base + row.length as u32 <= 4096))
 }
 
 // One record more, of the Open ones of at least `cells` cells: the nearer one is kept, of two at one distance the lower.
-fn near_with(cell: u64, cells: u64, nearest: Option<Near>, row: Reservation) -> Option<Near>
+pub(crate) fn near_with(
+    cell: u64,
+    cells: u64,
+    nearest: Option<Near>,
+    row: Reservation,
+) -> Option<Near>
     ensures { result ≡ near_with cell cells nearest row }
 {
     let base = row.base;
@@ -51,19 +41,6 @@ fn near_with(cell: u64, cells: u64, nearest: Option<Near>, row: Reservation) -> 
         });
     }
     nearest
-}
-
-// One record more.
-pub(crate) fn seen_with(question: Question, seen: Seen, row: Reservation) -> Seen
-    ensures { result ≡ seen_with question seen row }
-{
-    Seen {
-        end: tile_with(seen.end, row),
-        nearest: match question {
-            Question::Nearest { cell, cells } => near_with(cell, cells, seen.nearest, row),
-            _ => seen.nearest,
-        },
-    }
 }
 
 fn bad_list(end: u32, first: u64, cells: u64, room: usize) -> bool

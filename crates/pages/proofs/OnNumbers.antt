@@ -1,13 +1,13 @@
 -- The rules on the layer that lent numbers read as, in terms of the numbers. Assumes nothing.
 use Rattle.std.specs.Prelude.{None}
-use Prim.Native.Nat.{ℕ, ◌+◌, ◌*◌, ◌/◌, ◌%◌, ◌<◌, ◌≤◌}
+use Prim.Native.Nat.{ℕ, ◌+◌, ◌*◌, ◌-◌, ◌/◌, ◌%◌, ◌<◌, ◌≤◌, min}
 use native.Mathlib.Omega.{arith}
 use mathlib.Core.Bool.{Bool, true, false, not, ◌&&◌, ◌||◌, false≢true}
 use mathlib.Core.List.{List}
 use mathlib.Core.Path.{◌≡◌, refl, ap}
 use lib.ListN.{get_or}
 use lib.Dec.{eqb, leb, ltb}
-use borrow.Author.Tests.{eq-eqb, le-leb, lt-leb, lt-ltb, le-ltb, not-false}
+use borrow.Author.Tests.{eq-eqb, leb-true, leb-false, le-leb, lt-leb, lt-ltb, le-ltb, not-false}
 use Rattle.capabilities.proofs.Choice.{never}
 use Rattle.capabilities.specs.declared.Range.{Range}
 use Rattle.capabilities.specs.Lists.{pick}
@@ -85,3 +85,11 @@ module _ (r : Range) (k : ℕ) where
   pub beyond : (r.base + r.length + 15) / 16 ≤ k → page_inside r k ≡ false
   unfolding inside
   beyond p = rw (le-ltb (16 * k) (r.base + r.length) (omega arith)) (never (leb r.base (16 * k)))
+
+  -- A loop from the range's first page on, up to its end or to n: of what it has passed, the pages from the first one on are in the range.
+  pub passed : (from upto n : ℕ) → from ≡ (r.base + 15) / 16 → upto - from ≤ min ((r.base + r.length + 15) / 16) n - from → k < upto → page_inside r k ≡ leb from k
+  passed from upto n e h q = go (leb from k) refl
+    where
+      go : (b : Bool) → leb from k ≡ b → page_inside r k ≡ b
+      go true t = let u = leb-true from k t in within (omega arith) (omega arith)
+      go false t = let u = leb-false from k t in before (omega arith)

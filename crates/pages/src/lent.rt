@@ -1,5 +1,5 @@
 // Pages and frames as lent arrays of numbers, read and written in place: C lends them so, and there is no heap.
-ghost use Rattle.std.specs.Prelude.{ℕ, ◌+◌, ◌*◌, ◌/◌, ◌<◌, ◌≤◌, min, ◌≡◌, List, length, get_or, set, is_ok};
+ghost use Rattle.std.specs.Prelude.{ℕ, ◌+◌, ◌*◌, ◌/◌, ◌<◌, ◌≤◌, min, ◌≡◌, List, length, get_or, set, replicate, is_ok};
 ghost use Rattle.capabilities.specs.Lists.{pick};
 ghost use Rattle.capabilities.specs.Refusals.{code, first};
 ghost use Rattle.pages.specs.declared.PageState.TheVariants.{Freed, Mapped};
@@ -13,6 +13,13 @@ use crate::{Frame, FrameState, PageState, VirtualPage};
 use capabilities::Range;
 use capabilities::refusal::Refusal;
 use capabilities::slices::{at_or, put};
+
+// Every page is Unmapped.
+pub fn clear_pages(pages: &mut [u16])
+    ensures { pages.new ≡ replicate (length pages.old) 0 }
+{
+    pages.fill(0);
+}
 
 // Where a virtual cell lies in lent memory.
 #[tactic(auto, using(crate::proofs::OnNumbers::lookup_read))]

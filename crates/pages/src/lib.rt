@@ -1,6 +1,7 @@
 // The page layer: virtual pages, frames, and the cells of lent memory behind them.
 #![tactic(auto)]
 
+pub mod entry;
 pub mod layer;
 pub mod lent;
 pub mod numbers;

@@ -230,6 +230,11 @@ take_zeroed zero m h = refl
 take_zeroed (suc n) zero h = let z : ⊥ = omega arith in absurd z
 take_zeroed (suc n) (suc m) h = ap (λ (l : List ℕ). 0 ∷ l) (take_zeroed n m (omega arith))
 
+pub laid_zeroed :
+    (f : ℕ) (input : List ℕ) (s : State) (begin : ℕ) (out : List ℕ) (end : ℕ) (out₁ l : List ℕ) → l ≡ zeroed f
+    → Laid (lines_from (length input) s input 3 l l) begin out end out₁ → Laid (lines_from (length input) s input 3 (zeroed f) (zeroed f)) begin out end out₁
+laid_zeroed f input s begin out end out₁ l e = subst (λ (x : List ℕ). Laid (lines_from (length input) s input 3 x x) begin out end out₁) e
+
 -- The line of a start that is refused.
 pub refused_short : length (line_of 1 0 false) ≡ 6
 unfolding line_of decimal digits

@@ -29,7 +29,9 @@ struct Machine {
     tags: [u8; 16],
 }
 
-// A call on a copy of the state and its memory.
+// A call on a copy of the state and its memory. Made part of its caller, since a refused one is looked at no further: from a function apart
+// all its 19 KB come back, as zeros, which took a third more time.
+#[inline(always)]
 fn attempt(machine: Machine, call: Call) -> Option<Machine>
     ensures { option_map (λ m. leading m.state.arrays m.cells m.tags) result ≡ led_by (step_on machine.state.arrays call machine.cells machine.tags) }
 {

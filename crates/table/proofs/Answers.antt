@@ -2,12 +2,13 @@
 use Rattle.std.specs.Prelude.{Option}
 use Prim.Native.Nat.{ℕ, ◌<◌, ◌≤◌}
 use native.Mathlib.Omega.{arith}
-use mathlib.Core.Bool.{true, false, not}
-use mathlib.Core.Path.{◌≡◌, sym, ◌∙◌}
+use mathlib.Core.Bool.{Bool, true, false, not}
+use mathlib.Core.List.{List, [], ◌∷◌}
+use mathlib.Core.Path.{◌≡◌, sym, ap, ◌∙◌}
 use borrow.Author.Tests.{eq-eqb, ne_eqb, leb-false, not-true, not-false}
 use lib.Dec.{eqb, leb}
 use Rattle.capabilities.specs.Lists.{pick}
-use Rattle.capabilities.specs.Refusals.{first, number_of}
+use Rattle.capabilities.specs.Refusals.{Reason, reason, first, number_of}
 use Rattle.capabilities.specs.declared.refusal.Refusal.{Refusal}
 use Rattle.capabilities.specs.declared.refusal.Refusal.TheVariants.{State, Memory, Command, Unnamed, Manager, NoReservation, ReservationState, SplitLength, TableFull, PartPage, Revocation, OutOfRange, PageState, FrameState, Untagged, Permission, Bounds, NotMapped, Mailbox, Principal, Limit, Claimed, Question}
 use Rattle.capabilities.proofs.Choice.{pick_yes, kept, and_left}
@@ -94,3 +95,12 @@ merge_found t f party e = (first_clear 6 _ _ (λ z. omega arith) e).0
 pub merge_next : (t : Table) (f : Option ℕ) (party : ℕ) → mergeable t f party ≡ true → missing (next_of t f) ≡ false
 unfolding mergeable
 merge_next t f party m = not-true _ (and_left (not (missing (next_of t f))) _ m)
+
+-- A code as it is nested in the code is the first of a list of reasons, reason by reason.
+pub judged : (number : ℕ) (applies told : Bool) (later : ℕ) (rest : List Reason) (code : ℕ) → code ≡ pick applies number later → applies ≡ told → later ≡ first rest → code ≡ first (reason number told ∷ rest)
+unfolding first
+judged number applies told later rest code e p q = e ∙ ap (λ b. pick b number later) p ∙ ap (pick told number) q
+
+pub judged_last : (number : ℕ) (applies told : Bool) (code : ℕ) → code ≡ pick applies number 0 → applies ≡ told → code ≡ first (reason number told ∷ [])
+unfolding first
+judged_last number applies told code e p = e ∙ ap (λ b. pick b number 0) p

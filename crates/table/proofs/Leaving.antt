@@ -83,6 +83,19 @@ module _ (l : List ℕ) (count : ℕ) where
   abbrev t : Table
   t = table_of l count
 
+  -- The code judged from what was read is the rule's.
+  pub split_told : (code : ℕ) (g f : Option ℕ) (r : Reservation) (len : ℕ) → code ≡ split_code g r len count → g ≡ f → r ≡ row_of t f → code ≡ first (split_reasons_at t f len)
+  unfolding split_reasons_at
+  split_told code g f r len e p q = e ∙ ap (λ x. split_code x r len count) p ∙ ap (λ x. split_code f x len count) q
+
+  pub merge_told :
+      (code : ℕ) (g h f : Option ℕ) (r q : Reservation) (party : ℕ) → code ≡ merge_code g h r q party → g ≡ f → h ≡ next_of t f → r ≡ row_of t f → q ≡ row_of t (next_of t f)
+      → code ≡ first (merge_reasons_at t f party)
+  unfolding merge_reasons_at mergeable
+  merge_told code g h f r q party e p n a b =
+      e ∙ ap (λ x. merge_code x h r q party) p ∙ ap (λ x. merge_code f x r q party) n ∙ ap (λ x. merge_code f (next_of t f) x q party) a
+      ∙ ap (λ x. merge_code f (next_of t f) (row_of t f) x party) b
+
   -- A granted split: where its row stands, and what is left.
   pub split_place : (party base : ℕ) (f : Option ℕ) (len : ℕ) → find_of t party base ≡ f → Splits t f len → length l ≡ 64 → (place_of f < count) × (count < length l)
   unfolding place_of

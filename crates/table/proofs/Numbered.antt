@@ -3,8 +3,8 @@ use Rattle.std.specs.Prelude.{Option}
 use Prim.Native.Nat.{ℕ, ◌<◌}
 use mathlib.Core.Bool.{Bool, true, false}
 use mathlib.Core.List.{List}
-use mathlib.Core.Path.{◌≡◌, refl, sym, ap, subst}
-use borrow.Author.Tests.{eqb-true, eqb-false}
+use mathlib.Core.Path.{◌≡◌, refl, sym, ap, subst, ◌∙◌}
+use borrow.Author.Tests.{eq-eqb, ne_eqb, eqb-true, eqb-false}
 use lib.ListN.{length}
 use lib.Dec.{eqb}
 use Rattle.capabilities.specs.Lists.{pick}
@@ -53,6 +53,29 @@ module _ (l : List ℕ) (count told : ℕ) (after : Table) (many : ℕ) (new : L
 
   abbrev Returns : ℕ → ℕ → ℕ → List ℕ → Type 0
   Returns code n writes m = (moved_to code n writes ≡ answer_by (fitting l count rule)) × (m ≡ left_by (fitting l count rule))
+
+  fits : length l ≡ 64 → fitting l count rule ≡ rule
+  fits h = pick_yes (eqb (length l) 64) rule unfit (eq-eqb (length l) 64 h)
+
+  pub returns_unfit : (length l ≡ 64 → ⊥) → Returns 1 count 0 l
+  returns_unfit h =
+      let e = pick_no (eqb (length l) 64) rule unfit (ne_eqb (length l) 64 h) in
+      (sym (ap answer_by e), sym (ap left_by e))
+
+  pub returns_refused : length l ≡ 64 → (code : ℕ) → code ≡ told → (code ≡ 0 → ⊥) → Returns code count 0 l
+  returns_refused h code e z =
+      let same : rule.table.count ≡ count = ap (λ (t : Table). t.count) (refused code told e after (table_of l count) z) in (
+        ap (λ (k : ℕ). moved_to k count 0) e ∙ ap (λ (k : ℕ). moved_to told k 0) (sym same) ∙ ap (moved_to told rule.table.count) (sym (refused code told e many 0 z)) ∙ sym (ap answer_by (fits h)),
+        sym (refused code told e new l z) ∙ sym (ap left_by (fits h)),
+      )
+
+  pub returns_granted : length l ≡ 64 → (code n writes : ℕ) (m : List ℕ) → code ≡ told → code ≡ 0 → n ≡ after.count → writes ≡ many → m ≡ new → Returns code n writes m
+  returns_granted h code n writes m e z c w p =
+      let same : after.count ≡ rule.table.count = sym (ap (λ (t : Table). t.count) (granted code told e after (table_of l count) z)) in (
+        ap (λ (k : ℕ). moved_to k n writes) e ∙ ap (λ (k : ℕ). moved_to told k writes) (c ∙ same)
+            ∙ ap (moved_to told rule.table.count) (w ∙ sym (granted code told e many 0 z)) ∙ sym (ap answer_by (fits h)),
+        p ∙ sym (granted code told e new l z) ∙ sym (ap left_by (fits h)),
+      )
 
   -- What it leaves reads as the rule's table, if that is so where it is granted.
   module _ (g : told ≡ 0 → Leaves l new told after.count rule) where

@@ -1,10 +1,11 @@
 -- Words read from lists of cells and tag bytes, and the two lists changed beside each other. Assumes nothing.
-use Prim.Native.Nat.{ℕ, zero, suc, ◌+◌, ◌<◌, ◌≤◌, min}
+use Prim.Native.Nat.{ℕ, zero, suc, ◌+◌, ◌*◌, ◌<◌, ◌≤◌, min}
 use native.Mathlib.Numerals.{add-one}
 use native.Mathlib.Omega.{arith}
 use mathlib.Core.Bool.{Bool, true, false, not, ◌&&◌, ◌||◌}
 use mathlib.Core.List.{List, [], ◌∷◌, map}
 use mathlib.Core.Path.{◌≡◌, refl, ap, ◌∙◌}
+use mir.Val.{bool_byte}
 use lib.ListN.{length, get_or, set, take}
 use lib.Dec.{leb, eqb}
 use borrow.Author.Tests.{leb-true}
@@ -42,7 +43,7 @@ slots_length [] tags = omega arith
 slots_length (c ∷ cells) [] = omega arith
 slots_length (c ∷ cells) (t ∷ tags) = omega (arith, slots_length cells tags)
 
-slots_at : (cells tags : List ℕ) (i : ℕ) → i < length (slots_of cells tags) → get_or (slots_of cells tags) i empty ≡ word_at cells tags i
+pub slots_at : (cells tags : List ℕ) (i : ℕ) → i < length (slots_of cells tags) → get_or (slots_of cells tags) i empty ≡ word_at cells tags i
 unfolding slots_of word_at
 slots_at [] tags i h = let z : ⊥ = omega arith in absurd z
 slots_at (c ∷ cells) [] i h = let z : ⊥ = omega arith in absurd z
@@ -88,8 +89,19 @@ unfolding each
 bytes_bits n [] = refl
 bytes_bits n (w ∷ l) = rw (byte_bit w.tag) (bytes_bits (suc n) l)
 
+-- A product with a flag is no more than the number.
+pub times_most : (d : Bool) (n : ℕ) → n * bool_byte (not d) ≤ n
+times_most true n = omega arith
+times_most false n = omega arith
+
 -- A loop that changes one number a turn: the next one is still the old one, and after a turn one more is changed.
 module _ (f : ℕ → ℕ → ℕ) where
+  pub beside_length : (xs ys : List ℕ) → length (map_beside f xs ys) ≡ length ys
+  unfolding map_beside
+  beside_length [] ys = refl
+  beside_length (x ∷ xs) [] = refl
+  beside_length (x ∷ xs) (y ∷ ys) = ap suc (beside_length xs ys)
+
   pub beside_none : (xs ys : List ℕ) → ys ≡ map_beside f (take 0 xs) ys
   unfolding map_beside
   beside_none xs ys = refl
@@ -101,7 +113,7 @@ module _ (f : ℕ → ℕ → ℕ) where
   beside_next (x ∷ xs) [] (suc i) = refl
   beside_next (x ∷ xs) (y ∷ ys) (suc i) = beside_next xs ys i
 
-  beside_more : (xs ys : List ℕ) (i : ℕ) → i < length xs → i < length ys
+  pub beside_more : (xs ys : List ℕ) (i : ℕ) → i < length xs → i < length ys
       → set (map_beside f (take i xs) ys) i (f (get_or xs i 0) (get_or ys i 0)) ≡ map_beside f (take (suc i) xs) ys
   unfolding map_beside
   beside_more [] ys i h k = let z : ⊥ = omega arith in absurd z

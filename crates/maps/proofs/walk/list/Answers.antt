@@ -1,7 +1,7 @@
 -- `maps::walk::list` meets its contract. What is still to be listed comes to what all records leave.
 use Rattle.std.proofs.Common.{rules, map, ◌∙◌}
-use Rattle.maps.specs.Walks.{listing, list_with, list_over}
-use Rattle.maps.proofs.Turning.{turn_read}
+use Rattle.maps.specs.Walks.{listing, list_over}
+use Rattle.maps.proofs.Turning.{list_read_all}
 use Rattle.maps.proofs.walk.list.Goals as goal
 
 pub loop-row-preserved : goal.loop-row-preserved
@@ -11,6 +11,6 @@ loop-row-preserved g c =
     let q = c.args.question in
     let reads = g.R.Record.reads in (
       search rules ∙ loop.invariant.0,
-      turn_read reads c.args.records.now (list_with q) (listing loop.count loop.bases) (listing step.result step.new.bases) (list_over q (listing 0 c.args.bases.now) (map reads c.args.records.now))
+      list_read_all reads q c.args.records.now (listing loop.count loop.bases) (listing step.result step.new.bases) (list_over q (listing 0 c.args.bases.now) (map reads c.args.records.now))
           loop.row-index c.row-item.result c.loop-row-test.true c.row-item.is loop.invariant.1 (rw c.read.ensures at step.ensures),
     )
